@@ -1,0 +1,87 @@
+// Times our functions and the machine's beside them, in one run. Each is timed chained (a call waits for the answer of the
+// one before) and apart (calls that do not wait for each other); the best of five rounds counts. Both sides are called
+// through a pointer that the compiler cannot see through, so that neither is inlined.
+use std::hint::black_box;
+use std::time::Instant;
+
+extern "C" {
+    fn watered_root(x: f64) -> f64;
+    fn watered_hypot(a: f64, b: f64) -> f64;
+}
+
+extern "C" fn machine_root(x: f64) -> f64 {
+    x.sqrt()
+}
+
+extern "C" fn machine_hypot(a: f64, b: f64) -> f64 {
+    a.hypot(b)
+}
+
+extern "C" fn ours_root(x: f64) -> f64 {
+    unsafe { watered_root(x) }
+}
+
+extern "C" fn ours_hypot(a: f64, b: f64) -> f64 {
+    unsafe { watered_hypot(a, b) }
+}
+
+// Inputs spread over the squared distances and coordinates of a plan.
+fn inputs() -> Vec<f64> {
+    let mut state = 0x9E37_79B9_7F4A_7C15u64;
+    (0..4096)
+        .map(|_| {
+            state = state.wrapping_mul(6364136223846793005).wrapping_add(1442695040888963407);
+            (state >> 33) as f64 / 64.0
+        })
+        .collect()
+}
+
+fn best(calls: u64, mut round: impl FnMut() -> f64) -> f64 {
+    (0..5)
+        .map(|_| {
+            let start = Instant::now();
+            black_box(round());
+            start.elapsed().as_nanos() as f64 / calls as f64
+        })
+        .fold(f64::INFINITY, f64::min)
+}
+
+fn one(f: extern "C" fn(f64) -> f64, xs: &[f64], calls: u64) -> (f64, f64) {
+    let f = black_box(f);
+    let chained = best(calls, || {
+        let mut last = 0.0;
+        for i in 0..calls as usize {
+            // the answer before, made zero, joins the next input
+            last = f(xs[i % xs.len()] + last * 1e-300);
+        }
+        last
+    });
+    let apart = best(calls, || (0..calls as usize).map(|i| f(xs[i % xs.len()])).sum());
+    (chained, apart)
+}
+
+fn two(f: extern "C" fn(f64, f64) -> f64, xs: &[f64], calls: u64) -> (f64, f64) {
+    let f = black_box(f);
+    let chained = best(calls, || {
+        let mut last = 0.0;
+        for i in 0..calls as usize {
+            last = f(xs[i % xs.len()] + last * 1e-300, xs[(i + 7) % xs.len()]);
+        }
+        last
+    });
+    let apart = best(calls, || (0..calls as usize).map(|i| f(xs[i % xs.len()], xs[(i + 7) % xs.len()])).sum());
+    (chained, apart)
+}
+
+fn show(name: &str, ours: (f64, f64), machine: (f64, f64)) {
+    for (how, a, b) in [("chained", ours.0, machine.0), ("apart", ours.1, machine.1)] {
+        println!("{name:<8} {how:<8} ours {a:7.2} ns   machine {b:7.2} ns   ratio {:5.2}", a / b);
+    }
+}
+
+fn main() {
+    let calls = 1_000_000 * std::env::args().nth(1).and_then(|a| a.parse::<u64>().ok()).expect("how many million calls");
+    let xs = inputs();
+    show("root", one(ours_root, &xs, calls), one(machine_root, &xs, calls));
+    show("hypot", two(ours_hypot, &xs, calls), two(machine_hypot, &xs, calls));
+}
