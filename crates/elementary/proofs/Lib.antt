@@ -1,0 +1,3 @@
+-- The arguments for the promises of specs/.
+pub mod Whole
+pub mod Digits

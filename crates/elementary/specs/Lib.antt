@@ -1,0 +1,2 @@
+-- What the elementary functions are, and what is promised of them.
+pub mod Root
