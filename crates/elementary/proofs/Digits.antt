@@ -21,10 +21,11 @@ pub taken-none : (m : ℕ) → m < 2 ^ 54 → Taken m (m * 2 ^ 10 % 2 ^ 64) 0 0 
 taken-none m h =
     let e : m * 2 ^ 10 ≡ (0 * 0 + 0) * 2 ^ 64 + m * 2 ^ 10 % 2 ^ 64 = omega arith in
     record {
-    fits = omega arith;
-    short = omega arith;
-    least = omega arith;
-    whole = sym (mul-assoc m (2 ^ 10) (4 ^ 53)) ∙ ap (λ (z : ℕ). z * 4 ^ 53) e }
+      fits = omega arith;
+      short = omega arith;
+      least = omega arith;
+      whole = sym (mul-assoc m (2 ^ 10) (4 ^ 53)) ∙ ap (λ (z : ℕ). z * 4 ^ 53) e;
+    }
 
 -- the root so far has at most 53 digits
 pub taken-short : (m digits root rest left : ℕ) → Taken m digits root rest left → root < 2 ^ 53
@@ -51,10 +52,11 @@ module _ (m digits root rest left : ℕ) (t : Taken m digits root rest left) (p 
       let f = t .fits in
       let l = t .least in
       record {
-      fits = omega arith;
-      short = longer root (root * 2 + 1) left p (t .short) (omega arith);
-      least = omega arith;
-      whole = moved (m * 2 ^ 116) ((root * root + rest) * 2 ^ 64 + digits) _ left p (t .whole) (omega arith) }
+        fits = omega arith;
+        short = longer root (root * 2 + 1) left p (t .short) (omega arith);
+        least = omega arith;
+        whole = moved (m * 2 ^ 116) ((root * root + rest) * 2 ^ 64 + digits) _ left p (t .whole) (omega arith);
+      }
 
   -- the next digit is 0
   pub taken-zero : rest * 4 + digits / 2 ^ 62 < root * 4 + 1
@@ -63,10 +65,11 @@ module _ (m digits root rest left : ℕ) (t : Taken m digits root rest left) (p 
       let f = t .fits in
       let l = t .least in
       record {
-      fits = omega arith;
-      short = longer root (root * 2) left p (t .short) (omega arith);
-      least = omega arith;
-      whole = moved (m * 2 ^ 116) ((root * root + rest) * 2 ^ 64 + digits) _ left p (t .whole) (omega arith) }
+        fits = omega arith;
+        short = longer root (root * 2) left p (t .short) (omega arith);
+        least = omega arith;
+        whole = moved (m * 2 ^ 116) ((root * root + rest) * 2 ^ 64 + digits) _ left p (t .whole) (omega arith);
+      }
 
 -- the digits are all taken
 all : (m digits root rest : ℕ) → Taken m digits root rest 0 → m * 2 ^ 52 ≡ root * root + rest

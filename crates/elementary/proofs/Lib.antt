@@ -1,3 +1,4 @@
 -- The arguments for the promises of specs/.
 pub mod Whole
 pub mod Digits
+pub mod Certificate
