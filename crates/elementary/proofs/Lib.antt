@@ -2,3 +2,6 @@
 pub mod Whole
 pub mod Digits
 pub mod Certificate
+pub mod Scale
+pub mod Neighbours
+pub mod Scratch
