@@ -16,25 +16,42 @@ use lib.Ieee.Exact.{HasValue, round-exact}
 use lib.Ieee.Fits.{up-pos, down-pos, and-i, and-l, and-r, eq→eqb, round-fits, neg-fits}
 use lib.Ieee.Bits.{ofBits-toBits, is-true, is-false}
 use Rattle.binary64.proofs.Naturals.{same-test, pow-le-back}
-use Rattle.binary64.specs.Units.{one, limit, Finite, mag, negative, plus, minus, ofUnits, Digits53}
+use Rattle.binary64.specs.Units.{pow2, one, limit, Finite, mag, negative, plus, minus, ofUnits, Digits53}
 
--- ---- the two constants
+-- ---- powers of two
+
+pub pow2-is : (k : ℕ) → pow2 k ≡ 2 ^ k
+unfolding pow2
+pow2-is k = refl
+
+pub pow2-pos : (k : ℕ) → 0 < pow2 k
+unfolding pow2
+pow2-pos k = pow-pos k
+
+pub pow2-add : (i k : ℕ) → pow2 (i + k) ≡ pow2 i * pow2 k
+unfolding pow2
+pow2-add i k = pow-add 2 i k
+
+-- i, written out, comes off as a numeral: pow2 1074 ≡ 2 ^ 37 * pow2 1037
+pub pow2-split : (i k : ℕ) → pow2 (i + k) ≡ 2 ^ i * pow2 k
+unfolding pow2
+pow2-split i k = pow-add 2 i k
+
+pub pow2-mono : {i k : ℕ} → i ≤ k → pow2 i ≤ pow2 k
+unfolding pow2
+pow2-mono h = pow-mono h
 
 pub one-is : one ≡ 2 ^ 1074
-unfolding one
-one-is = refl
+one-is = pow2-is 1074
 
 pub one-pos : 0 < one
-unfolding one
-one-pos = pow-pos 1074
-
-pub limit-is : limit ≡ 2 ^ 1024 * one
-unfolding one limit
-limit-is = refl
+one-pos = pow2-pos 1074
 
 pub limit-pow : limit ≡ 2 ^ 2098
-unfolding limit
-limit-pow = refl
+limit-pow = pow2-is 2098
+
+pub limit-is : limit ≡ 2 ^ 1024 * one
+limit-is = pow2-split 1024 1074
 
 -- ---- what fits: few digits, and an exponent that is neither too low nor too high
 
@@ -164,7 +181,7 @@ below-limit j a h k =
 pub bits-mag : {x : Float} → Finite x → toBits binary64 x ≡ cond (negative x) (2 ^ 63) 0 + (size (mag x) - 53) * 2 ^ 52 + mag x / 2 ^ (size (mag x) - 53)
 bits-mag {x = nan} h = absurd (h .number)
 bits-mag {x = inf s} h = absurd (h .number)
-bits-mag {x = fin s m e} h = unfold toBits mag one in refl
+bits-mag {x = fin s m e} h = unfold toBits mag pow2 in refl
 
 pub same-float : {x y : Float} → Finite x → Finite y → negative x ≡ negative y → mag x ≡ mag y → x ≡ y
 same-float {x} {y} h k s n =

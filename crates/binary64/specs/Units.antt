@@ -7,13 +7,17 @@ use lib.Dec.{T}
 use lib.Ieee.{Float, nan, inf, fin, binary64, up, down, fits, round}
 use lib.Ieee.Scale as kit
 
--- The number 1 is so many units. It and `limit` stay shut, since `omega` reads no numeral of that size: to it each is one unknown.
-unfoldable pub one : ℕ
-one = 2 ^ 1074
+-- 2 ^ k, kept shut: `omega` reads no numeral past 2 ^ 128, and takes `pow2 1074` for one unknown.
+unfoldable pub pow2 : ℕ → ℕ
+pow2 k = 2 ^ k
 
--- The first number of units past every finite f64: 2 ^ 1024 is so many units.
-unfoldable pub limit : ℕ
-limit = 2 ^ 2098
+-- The number 1 is so many units.
+abbrev pub one : ℕ
+one = pow2 1074
+
+-- The first number of units past every finite f64: the number 2 ^ 1024 is so many units.
+abbrev pub limit : ℕ
+limit = pow2 2098
 
 -- x is a number that binary64 holds: neither a NaN nor an infinity. What a program holds always fits.
 pub record Finite (x : Float) : Type 0 where
