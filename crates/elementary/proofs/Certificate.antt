@@ -3,7 +3,7 @@ use mathlib.Core.Path.{_≡_, refl, sym, ap, _∙_, subst₂}
 use Prim.Native.Nat.{ℕ, zero, suc, _+_, _-_, _*_, _/_, _%_, _^_, _≤_, _<_}
 use native.Mathlib.Nat.{mul-le-mul, div-add-mod'}
 use native.Mathlib.Omega.{arith}
-use Rattle.elementary.specs.Root.{Near}
+use Rattle.elementary.specs.Steps.{Near}
 
 -- a square by the halves of its root
 square-halves : (q u l : ℕ) → q ≡ u * 2 ^ 27 + l → q * q ≡ u * u * 2 ^ 54 + u * l * 2 ^ 28 + l * l

@@ -6,7 +6,8 @@ use native.Mathlib.Numerals.{sub-one}
 use native.Mathlib.Omega.{arith}
 use lib.Arith.{le-zero}
 use lib.Pow.{pow-pos}
-use Rattle.elementary.specs.Root.{nearestRoot, Near}
+use Rattle.elementary.specs.Root.{nearestRoot}
+use Rattle.elementary.specs.Steps.{Near}
 use Rattle.elementary.proofs.Whole.{near, near-unique}
 
 -- With `left` pairs of digits of m * 2^52 to come, which stand at the head of the 64-bit word `digits`:

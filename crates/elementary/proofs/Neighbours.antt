@@ -6,31 +6,24 @@ use Prim.Native.Nat.{ℕ, zero, suc, _+_, _-_, _*_, _/_, _%_, _^_, _≤_, _<_, z
 use native.Mathlib.Nat.{le-trans, le-of-eq, le-of-lt, lt-of-lt-of-le, lt-of-le-of-lt, lt-irrefl, mul-assoc, mul-comm, mul-mul-mul-comm, mul-le-mul, mul-le-mul-left, mul-le-mul-right, mul-lt-mul-of-pos-right, mul-pos, lt-of-mul-lt-mul-right, suc-mul}
 use native.Mathlib.Numerals.{add-one}
 use native.Mathlib.Omega.{arith}
-use mathlib.Core.Bool.{Bool, true, false, not}
-use lib.Dec.{T, leb, leb→le, nleb→lt}
 use lib.Pow.{pow-add, pow-pos, pow-mono}
 use Rattle.binary64.specs.Units.{one, Digits53}
+use Rattle.binary64.proofs.Naturals.{lt-or-ge}
 use Rattle.binary64.proofs.Units.{digits53}
-use Rattle.elementary.specs.Root.{rootUnits, Near}
+use Rattle.elementary.specs.Root.{rootUnits}
+use Rattle.elementary.specs.Steps.{Near}
 use Rattle.elementary.proofs.Scale.{Scaled, scaled}
-
-either : (a b : ℕ) → (a ≤ b) ⊎ (b < a)
-either a b = go (leb a b) (leb→le a b) (nleb→lt a b)
-  where
-    go : (t : Bool) → (T t → a ≤ b) → (T (not t) → b < a) → (a ≤ b) ⊎ (b < a)
-    go true h k = inl (h tt)
-    go false h k = inr (k tt)
 
 -- A number of at most 53 digits that reaches 2 ^ 52 * 2 ^ j is a multiple of 2 ^ j.
 multiple : (u j : ℕ) → Digits53 u → 2 ^ 52 * 2 ^ j ≤ u → (c : ℕ) × (u ≡ c * 2 ^ j)
-multiple u j d h = go (either j (d .zeros))
+multiple u j d h = go (lt-or-ge (d .zeros) j)
   where
-    go : (j ≤ d .zeros) ⊎ (d .zeros < j) → (c : ℕ) × (u ≡ c * 2 ^ j)
-    go (inl l) =
+    go : (d .zeros < j) ⊎ (j ≤ d .zeros) → (c : ℕ) × (u ≡ c * 2 ^ j)
+    go (inr l) =
         let k = d .zeros - j in
         let e : d .zeros ≡ k + j = omega arith in
         (d .digits * 2 ^ k, d .is ∙ ap (λ (z : ℕ). d .digits * z) (ap (λ (z : ℕ). 2 ^ z) e ∙ pow-add 2 k j) ∙ sym (mul-assoc (d .digits) (2 ^ k) (2 ^ j)))
-    go (inr l) =
+    go (inl l) =
         absurd (lt-irrefl u
         (lt-of-lt-of-le (subst (λ (z : ℕ). z < 2 ^ 53 * 2 ^ d .zeros) (sym (d .is)) (mul-lt-mul-of-pos-right (d .few) (pow-pos (d .zeros))))
         (le-trans (le-of-eq (sym (pow-add 2 53 (d .zeros)))) (le-trans (pow-mono {j = 52 + j} (omega arith)) (le-trans (le-of-eq (pow-add 2 52 j)) h)))))
@@ -83,19 +76,19 @@ module _ (X q j u : ℕ) (n : Near X q) (long : 2 ^ 104 ≤ X) (least : 2 ^ 52 �
       let c : q < m .0 = lt-of-mul-lt-mul-right U (subst (λ (z : ℕ). q * U < z) (m .1) h) in
       middle-above X q U u (pow-pos j) n (subst₂ (λ (a b : ℕ). a * U ≤ b) (sym (add-one q)) (sym (m .1)) (mul-le-mul-right U c))
 
-  spaced : u < q * 2 ^ j → (2 ^ 52 < q) → (2 ^ 52 * 2 ^ j ≤ u) ⊎ (u < 2 ^ 52 * 2 ^ j) → u + 2 ^ j ≤ q * 2 ^ j
-  spaced h l (inl k) =
+  spaced : u < q * 2 ^ j → 2 ^ 52 < q → (u < 2 ^ 52 * 2 ^ j) ⊎ (2 ^ 52 * 2 ^ j ≤ u) → u + 2 ^ j ≤ q * 2 ^ j
+  spaced h l (inr k) =
       let U = 2 ^ j in
       let m = multiple u j d k in
       let c : suc (m .0) ≤ q = lt-of-mul-lt-mul-right U (subst (λ (z : ℕ). z < q * U) (m .1) h) in
       le-trans (le-of-eq (ap (λ (z : ℕ). z + U) (m .1) ∙ sym (suc-mul (m .0) U))) (mul-le-mul-right U c)
-  spaced h l (inr k) = let U = 2 ^ j in le-trans (upto u (2 ^ 52) U k) (mul-le-mul-right U l)
+  spaced h l (inl k) = let U = 2 ^ j in le-trans (upto u (2 ^ 52) U k) (mul-le-mul-right U l)
     where
       upto : (u c U : ℕ) → u < c * U → u + U ≤ suc c * U
       upto u c U k = omega arith
 
   next-below : u < q * 2 ^ j → (u + q * 2 ^ j) * (u + q * 2 ^ j) < 4 * (X * (2 ^ j * 2 ^ j))
-  next-below h = go (either q (2 ^ 52))
+  next-below h = go (lt-or-ge (2 ^ 52) q)
     where
       lowest : q ≤ 2 ^ 52 → (u + q * 2 ^ j) * (u + q * 2 ^ j) < 4 * (X * (2 ^ j * 2 ^ j))
       lowest l =
@@ -108,9 +101,9 @@ module _ (X q j u : ℕ) (n : Near X q) (long : 2 ^ 104 ≤ X) (least : 2 ^ 52 �
           four : (q : ℕ) → 2 * q * (2 * q) ≡ 4 * (q * q)
           four q = omega arith
 
-      go : (q ≤ 2 ^ 52) ⊎ (2 ^ 52 < q) → (u + q * 2 ^ j) * (u + q * 2 ^ j) < 4 * (X * (2 ^ j * 2 ^ j))
-      go (inl l) = lowest l
-      go (inr l) = middle-below X q (2 ^ j) u (pow-pos j) n (spaced h l (either (2 ^ 52 * 2 ^ j) u))
+      go : (2 ^ 52 < q) ⊎ (q ≤ 2 ^ 52) → (u + q * 2 ^ j) * (u + q * 2 ^ j) < 4 * (X * (2 ^ j * 2 ^ j))
+      go (inl l) = middle-below X q (2 ^ j) u (pow-pos j) n (spaced h l (lt-or-ge u (2 ^ 52 * 2 ^ j)))
+      go (inr l) = lowest l
 
 module _ (n : ℕ) (p : 0 < n) (d : Digits53 n) (u : ℕ) (g : Digits53 u) where
   -- Any other number above the root is farther from the exact root,
@@ -155,21 +148,21 @@ only-zero (suc v) r c h = absurd (none v c h)
 module _ (n v : ℕ) (d : Digits53 n) (g : Digits53 v) where
   -- Where n is at most the square of v, its root is at most v;
   pub root-le : n * one ≤ v * v → rootUnits n ≤ v
-  root-le h = go (by-zero n) (either (rootUnits n) v)
+  root-le h = go (by-zero n) (lt-or-ge v (rootUnits n))
     where
-      go : (n ≡ 0) ⊎ (0 < n) → (rootUnits n ≤ v) ⊎ (v < rootUnits n) → rootUnits n ≤ v
-      go z (inl l) = l
-      go (inl z) (inr l) = subst (λ (k : ℕ). k ≤ v) (sym (ap rootUnits z ∙ rootUnits-zero)) zero-le
-      go (inr p) (inr l) = absurd (middle-over v (rootUnits n) (n * one) l h (neighbour-below n p d v g l))
+      go : (n ≡ 0) ⊎ (0 < n) → (v < rootUnits n) ⊎ (rootUnits n ≤ v) → rootUnits n ≤ v
+      go z (inr l) = l
+      go (inl z) (inl l) = subst (λ (k : ℕ). k ≤ v) (sym (ap rootUnits z ∙ rootUnits-zero)) zero-le
+      go (inr p) (inl l) = absurd (middle-over v (rootUnits n) (n * one) l h (neighbour-below n p d v g l))
 
   -- where it is at least the square of v, its root is at least v.
   pub root-ge : v * v ≤ n * one → v ≤ rootUnits n
-  root-ge h = go (by-zero n) (either v (rootUnits n))
+  root-ge h = go (by-zero n) (lt-or-ge (rootUnits n) v)
     where
-      go : (n ≡ 0) ⊎ (0 < n) → (v ≤ rootUnits n) ⊎ (rootUnits n < v) → v ≤ rootUnits n
-      go z (inl l) = l
-      go (inl z) (inr l) = only-zero v (rootUnits n) one (subst (λ (k : ℕ). v * v ≤ k * one) z h)
-      go (inr p) (inr l) = absurd (middle-under v (rootUnits n) (n * one) l h (neighbour-above n p d v g l))
+      go : (n ≡ 0) ⊎ (0 < n) → (rootUnits n < v) ⊎ (v ≤ rootUnits n) → v ≤ rootUnits n
+      go z (inr l) = l
+      go (inl z) (inl l) = only-zero v (rootUnits n) one (subst (λ (k : ℕ). v * v ≤ k * one) z h)
+      go (inr p) (inl l) = absurd (middle-under v (rootUnits n) (n * one) l h (neighbour-above n p d v g l))
 
 -- the root is itself a number of at most 53 digits
 pub root-digits : (n : ℕ) → 0 < n → Digits53 n → Digits53 (rootUnits n)
@@ -177,12 +170,12 @@ root-digits n p d = let s = scaled n p d in subst (λ (r : ℕ). Digits53 r) (sy
 
 -- The root is monotone.
 pub root-mono : (n m : ℕ) → Digits53 n → Digits53 m → n ≤ m → rootUnits n ≤ rootUnits m
-root-mono n m d e h = go (by-zero n) (either (rootUnits n) (rootUnits m))
+root-mono n m d e h = go (by-zero n) (lt-or-ge (rootUnits m) (rootUnits n))
   where
-    go : (n ≡ 0) ⊎ (0 < n) → (rootUnits n ≤ rootUnits m) ⊎ (rootUnits m < rootUnits n) → rootUnits n ≤ rootUnits m
-    go z (inl l) = l
-    go (inl z) (inr l) = subst (λ (k : ℕ). k ≤ rootUnits m) (sym (ap rootUnits z ∙ rootUnits-zero)) zero-le
-    go (inr p) (inr l) =
+    go : (n ≡ 0) ⊎ (0 < n) → (rootUnits m < rootUnits n) ⊎ (rootUnits n ≤ rootUnits m) → rootUnits n ≤ rootUnits m
+    go z (inr l) = l
+    go (inl z) (inl l) = subst (λ (k : ℕ). k ≤ rootUnits m) (sym (ap rootUnits z ∙ rootUnits-zero)) zero-le
+    go (inr p) (inl l) =
         let q = lt-of-lt-of-le p h in
         absurd (apart (rootUnits n) (rootUnits m) (n * one) (m * one)
         (neighbour-above m q e (rootUnits n) (root-digits n p d) l)

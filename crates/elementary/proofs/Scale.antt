@@ -10,7 +10,8 @@ use lib.Ieee.{size}
 use lib.Ieee.Digits.{size-lt, size-reaches, size-le}
 use Rattle.binary64.specs.Units.{one, Digits53}
 use Rattle.binary64.proofs.Units.{one-is}
-use Rattle.elementary.specs.Root.{nearestRoot, rootUnits, Near}
+use Rattle.elementary.specs.Root.{nearestRoot, rootUnits}
+use Rattle.elementary.specs.Steps.{Near}
 use Rattle.elementary.proofs.Whole.{near}
 
 -- half the exponent of n's leading digit

@@ -1,2 +1,3 @@
 -- What the elementary functions are, and what is promised of them.
 pub mod Root
+pub mod Steps

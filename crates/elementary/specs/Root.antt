@@ -39,8 +39,3 @@ root (fin false (suc m) e) = ofUnits false (rootUnits (mag (fin false (suc m) e)
 unfoldable pub hypot : Float → Float → Float
 unfolding root
 hypot a b = root (add binary64 (mul binary64 a a) (mul binary64 b b))
-
--- q is nearer to the root of n than any other whole number: n lies above (q - 1/2)² and below (q + 1/2)².
-pub record Near (n q : ℕ) : Type 0 where
-  pub above : q * q < n + q
-  pub below : n ≤ q * q + q

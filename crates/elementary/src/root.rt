@@ -3,7 +3,8 @@
 ghost use mathlib.Core.Path.{_≡_};
 ghost use mathlib.Core.Bool.{true};
 ghost use Prim.Native.Nat.{_*_, _^_, _≤_, _<_};
-ghost use Rattle.elementary.specs.Root.{nearestRoot, Near};
+ghost use Rattle.elementary.specs.Root.{nearestRoot};
+ghost use Rattle.elementary.specs.Steps.{Near};
 
 // The whole number nearest to the root of m * 2^52, digit by digit: each step takes two digits of
 // the radicand and gives one of the root. `root` is the whole part of the root of what was taken,
