@@ -4,4 +4,5 @@ pub mod Digits
 pub mod Certificate
 pub mod Scale
 pub mod Neighbours
-pub mod Scratch
+pub mod Cases
+pub mod Leading

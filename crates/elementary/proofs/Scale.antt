@@ -26,7 +26,7 @@ pub four-pow : (h : ℕ) → 4 ^ h ≡ 2 ^ (h + h)
 four-pow zero = refl
 four-pow (suc h) = pow-succ' 4 h ∙ ap (λ (z : ℕ). 4 * z) (four-pow h) ∙ sym (pow-add 2 2 (h + h)) ∙ ap (λ (z : ℕ). 2 ^ z) (omega arith)
 
-four-pos : (h : ℕ) → 0 < 4 ^ h
+pub four-pos : (h : ℕ) → 0 < 4 ^ h
 four-pos h = subst (λ (z : ℕ). 0 < z) (sym (four-pow h)) (pow-pos (h + h))
 
 -- the division in `radicand` is exact
@@ -77,7 +77,7 @@ module _ (n : ℕ) (p : 0 < n) (d : Digits53 n) where
       (pow-pos 104))))
 
 -- so its nearest whole root has 53 digits, or is 2 ^ 53
-near-least : (x q : ℕ) → Near x q → 2 ^ 104 ≤ x → 2 ^ 52 ≤ q
+pub near-least : (x q : ℕ) → Near x q → 2 ^ 104 ≤ x → 2 ^ 52 ≤ q
 near-least x q n h = lt-of-not-le {n = q} {m = 2 ^ 52 - 1} (λ g. short g (n .below) (mul-le-mul g g))
   where
     short : q ≤ 2 ^ 52 - 1 → x ≤ q * q + q → q * q ≤ (2 ^ 52 - 1) * (2 ^ 52 - 1) → ⊥
@@ -123,7 +123,7 @@ pub record Scaled (n r : ℕ) : Type 0 where
   pub least : 2 ^ 52 ≤ q
   pub most : q ≤ 2 ^ 53
 
-rootUnits-is : (n : ℕ) → rootUnits n ≡ nearestRoot 53 (radicand n) * 2 ^ (485 + half n)
+pub rootUnits-is : (n : ℕ) → rootUnits n ≡ nearestRoot 53 (radicand n) * 2 ^ (485 + half n)
 unfolding rootUnits
 rootUnits-is n = refl
 
@@ -134,12 +134,13 @@ scaled n p d =
     let m = radicand-most n p d in
     let a = near 53 x (lt-of-lt-of-le (pow-pos 104) l) m in
     record {
-    j = 485 + half n;
-    X = x;
-    q = nearestRoot 53 x;
-    is = rootUnits-is n;
-    whole = radicand-scale n d;
-    nearest = a;
-    long = l;
-    least = near-least x (nearestRoot 53 x) a l;
-    most = near-most x (nearestRoot 53 x) a m }
+      j = 485 + half n;
+      X = x;
+      q = nearestRoot 53 x;
+      is = rootUnits-is n;
+      whole = radicand-scale n d;
+      nearest = a;
+      long = l;
+      least = near-least x (nearestRoot 53 x) a l;
+      most = near-most x (nearestRoot 53 x) a m;
+    }
