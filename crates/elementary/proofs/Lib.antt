@@ -6,3 +6,4 @@ pub mod Scale
 pub mod Neighbours
 pub mod Cases
 pub mod Leading
+pub mod Promise

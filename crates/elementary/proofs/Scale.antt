@@ -116,6 +116,7 @@ pub record Scaled (n r : ℕ) : Type 0 where
   pub j : ℕ
   pub X : ℕ
   pub q : ℕ
+  pub place : j ≡ 485 + half n
   pub is : r ≡ q * 2 ^ j
   pub whole : n * one ≡ X * (2 ^ j * 2 ^ j)
   pub nearest : Near X q
@@ -137,6 +138,7 @@ scaled n p d =
       j = 485 + half n;
       X = x;
       q = nearestRoot 53 x;
+      place = refl;
       is = rootUnits-is n;
       whole = radicand-scale n d;
       nearest = a;
