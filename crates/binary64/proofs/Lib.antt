@@ -1,0 +1,3 @@
+pub mod Naturals
+pub mod Units
+pub mod Patterns
