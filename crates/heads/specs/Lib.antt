@@ -1,3 +1,4 @@
+pub mod Cases
 pub mod Limits
-pub mod Relation
 pub mod Pair
+pub mod Relation

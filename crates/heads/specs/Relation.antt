@@ -7,7 +7,7 @@ use Rattle.heads.specs.declared.Relation.{Relation}
 use Rattle.heads.specs.declared.Relation.the-variants.{Apart, TouchingOutside, Crossing, TouchingInside, Holding, Identical}
 
 -- t, the difference of the radii: the larger less the smaller
-abbrev pub gap : ℕ → ℕ → ℕ
+unfoldable pub gap : ℕ → ℕ → ℕ
 gap a b = (a - b) + (b - a)
 
 -- the same circle: equal radii at distance zero
