@@ -10,7 +10,7 @@ use lib.Dec.{ltb, leb, eqb}
 use borrow.Author.Tests.{ltb-true, ltb-false, leb-true, eqb-true, lt-ltb, le-ltb, le-leb, lt-leb, eq-eqb, ne-eqb}
 use Rattle.heads.specs.declared.Relation.{Relation}
 use Rattle.heads.specs.declared.Relation.the-variants.{Apart, TouchingOutside, Crossing, TouchingInside, Holding, Identical}
-use Rattle.heads.specs.Relation.{gap, identical, meets, meetsOnce, contains, relation, points}
+use Rattle.heads.specs.Relation.{gap, identical, meets, meetsOnce, contains, relation, points, meeting, touching, covering}
 
 -- what each case says of D and the radii
 abbrev pub Case : Relation → ℕ → ℕ → ℕ → Type 0
@@ -114,6 +114,7 @@ some-case D a b = inside (order D (gap a b * gap a b)) (order 0 (gap a b)) (orde
     outside h (inl k) = (Crossing, (h, k))
     outside h (inr (inl k)) = (TouchingOutside, (h, k))
     outside h (inr (inr k)) = (Apart, k)
+
     inside : (D < gap a b * gap a b) ⊎ ((D ≡ gap a b * gap a b) ⊎ (gap a b * gap a b < D)) → (0 < gap a b) ⊎ ((0 ≡ gap a b) ⊎ (gap a b < 0))
         → (D < (a + b) * (a + b)) ⊎ ((D ≡ (a + b) * (a + b)) ⊎ ((a + b) * (a + b) < D)) → (r : Relation) × Case r D a b
     inside (inl h) z k = (Holding, h)
@@ -146,33 +147,6 @@ pub relation-comm : (D a b : ℕ) → relation D a b ≡ relation D b a
 relation-comm D a b = sym (relation-is (relation D a b) D b a (case-comm (relation D a b) D a b (case-of D a b)))
 
 -- ---- meets, meets in one point, contains
-
--- the cases in which two heads meet
-abbrev pub meeting : Relation → Bool
-meeting Apart = false
-meeting TouchingOutside = true
-meeting Crossing = true
-meeting TouchingInside = true
-meeting Holding = false
-meeting Identical = false
-
--- the cases in which they touch: one meeting point
-abbrev pub touching : Relation → Bool
-touching Apart = false
-touching TouchingOutside = true
-touching Crossing = false
-touching TouchingInside = true
-touching Holding = false
-touching Identical = false
-
--- the cases in which the head of the larger radius contains the other
-abbrev pub covering : Relation → Bool
-covering Apart = false
-covering TouchingOutside = false
-covering Crossing = false
-covering TouchingInside = true
-covering Holding = true
-covering Identical = true
 
 meets-in : (r : Relation) (D a b : ℕ) → Case r D a b → meets D a b ≡ meeting r
 unfolding meets

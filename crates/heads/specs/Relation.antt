@@ -52,3 +52,30 @@ points Crossing = 2
 points TouchingInside = 1
 points Holding = 0
 points Identical = 0
+
+-- the cases in which two heads meet
+abbrev pub meeting : Relation → Bool
+meeting Apart = false
+meeting TouchingOutside = true
+meeting Crossing = true
+meeting TouchingInside = true
+meeting Holding = false
+meeting Identical = false
+
+-- the cases in which they touch: one meeting point
+abbrev pub touching : Relation → Bool
+touching Apart = false
+touching TouchingOutside = true
+touching Crossing = false
+touching TouchingInside = true
+touching Holding = false
+touching Identical = false
+
+-- the cases in which the head of the larger radius contains the other
+abbrev pub covering : Relation → Bool
+covering Apart = false
+covering TouchingOutside = false
+covering Crossing = false
+covering TouchingInside = true
+covering Holding = true
+covering Identical = true
