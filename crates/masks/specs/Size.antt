@@ -3,14 +3,15 @@ use Prim.Native.Nat.{ℕ, zero, suc, _+_, _-_, _*_, _/_, _%_, _^_, _≤_, _<_, m
 use native.Mathlib.Nat.{zero-mul}
 use native.Mathlib.Omega.{arith}
 use mathlib.Core.Path.{_≡_, refl, sym, ap, _∙_, subst}
-use mathlib.Core.Bool.{Bool, true, false}
+use mathlib.Core.Bool.{Bool, true, false, not}
 use lib.Arith.{bin-ind}
 use lib.Bits.{bitAnd, bitOr, and-shr, or-shr}
 use lib.Count.{ones, ones-step}
 use lib.Dec.{eqb}
-use borrow.Author.Tests.{eqb-true, eqb-false}
-use Rattle.masks.specs.Mask.{bit, Subset, size, shifted, complement}
+use borrow.Author.Tests.{eqb-true, eqb-false, not-true}
+use Rattle.masks.specs.Mask.{bit, Subset, size, subset, strictSubset, shifted, complement}
 use Rattle.masks.specs.Operations.{bit-zero, bit-suc, bit-le, bit-and, bit-or, bit-ext, bit-power, shifted-is, test-mask, bit-with, bit-with-other, bit-without, bit-without-other}
+use Rattle.masks.specs.Subset.{and-both, subset-yes}
 
 pub ones-of-zero : ones 0 ≡ 0
 unfolding ones
@@ -65,6 +66,12 @@ ones-strict S T h k = go (eqb (ones S) (ones T)) refl
     go : (b : Bool) → eqb (ones S) (ones T) ≡ b → ones S < ones T
     go true e = absurd (k (ones-subset-eq S T h (eqb-true (ones S) (ones T) e)))
     go false e = let n = eqb-false (ones S) (ones T) e in omega (arith, ones-subset S T h)
+
+-- the same of the test that the code makes
+pub strict-more : (w S U : ℕ) → S < 2 ^ w → strictSubset w S U ≡ true → ones S < ones U
+strict-more w S U hs e =
+    let both = and-both (subset w S U) (not (eqb S U)) e in
+    ones-strict S U (subset-yes w S U hs .0 (both .0)) (λ same. eqb-false S U (not-true (eqb S U) (both .1)) same)
 
 -- ---- one head more, one head less
 

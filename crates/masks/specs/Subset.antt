@@ -66,7 +66,7 @@ subset-head S T h i e = in-of-one T i (omega (arith, h i, one-of-in S i e, bit-l
 
 -- ---- the test over the heads below w
 
-and-both : (a b : Bool) → (a && b) ≡ true → (a ≡ true) × (b ≡ true)
+pub and-both : (a b : Bool) → (a && b) ≡ true → (a ≡ true) × (b ≡ true)
 and-both true b e = (refl, e)
 and-both false b e = absurd (subst T (sym e) tt)
 
