@@ -5,8 +5,8 @@ use native.Mathlib.Nat.{mul-le-mul, le-antisymm}
 use native.Mathlib.Omega.{arith}
 use mathlib.Core.Path.{_≡_, refl, sym, ap, ap₂, _∙_, subst}
 use mathlib.Core.Bool.{Bool, true, false, not, cond, _&&_, _||_, and-false, or-true}
-use mathlib.Core.Logic.{_⊎_, inl, inr}
-use lib.Dec.{ltb, leb, eqb}
+use mathlib.Core.Logic.{_⊎_, inl, inr, _↔_}
+use lib.Dec.{T, ltb, leb, eqb}
 use borrow.Author.Tests.{ltb-true, ltb-false, leb-true, eqb-true, lt-ltb, le-ltb, le-leb, lt-leb, eq-eqb, ne-eqb}
 use Rattle.heads.specs.declared.Relation.{Relation}
 use Rattle.heads.specs.declared.Relation.the-variants.{Apart, TouchingOutside, Crossing, TouchingInside, Holding, Identical}
@@ -216,3 +216,40 @@ points-relation D a b = rw (meets-relation D a b, meetsOnce-relation D a b) (by-
     by-case TouchingInside = refl
     by-case Holding = refl
     by-case Identical = refl
+
+-- ---- the same as facts on numbers
+
+and-both : (a b : Bool) → (a && b) ≡ true → (a ≡ true) × (b ≡ true)
+and-both true b e = (refl, e)
+and-both false b e = absurd (subst T (sym e) tt)
+
+-- two heads meet exactly if t² ≤ D ≤ s² and they are not identical
+pub meets-facts : (D a b : ℕ) → (meets D a b ≡ true) ↔ ((gap a b * gap a b ≤ D) × (D ≤ (a + b) * (a + b)) × ((D ≡ 0) → (a ≡ b) → ⊥))
+unfolding meets
+meets-facts D a b = (λ e. there e, λ h. simp (le-leb (gap a b * gap a b) D (h .0), le-leb D ((a + b) * (a + b)) (h .1), identical-no D a b (h .2)))
+  where
+    there : meets D a b ≡ true → (gap a b * gap a b ≤ D) × (D ≤ (a + b) * (a + b)) × ((D ≡ 0) → (a ≡ b) → ⊥)
+    there e =
+        let one = and-both (leb (gap a b * gap a b) D) (leb D ((a + b) * (a + b)) && not (identical D a b)) e in
+        let two = and-both (leb D ((a + b) * (a + b))) (not (identical D a b)) (one .1) in (
+          leb-true (gap a b * gap a b) D (one .0),
+          leb-true D ((a + b) * (a + b)) (two .0),
+          λ z same. subst T (ap not (identical-yes D a b z same)) (subst T (sym (two .1)) tt),
+        )
+
+-- a contains b exactly if its radius is not the smaller and D ≤ (a - b)²
+pub contains-facts : (D a b : ℕ) → (contains D a b ≡ true) ↔ ((b ≤ a) × (D ≤ (a - b) * (a - b)))
+unfolding contains
+contains-facts D a b = (λ e. there e, λ h. simp (le-leb b a (h .0), le-leb D ((a - b) * (a - b)) (h .1)))
+  where
+    there : contains D a b ≡ true → (b ≤ a) × (D ≤ (a - b) * (a - b))
+    there e =
+        let both = and-both (leb b a) (leb D ((a - b) * (a - b))) e in
+        (leb-true b a (both .0), leb-true D ((a - b) * (a - b)) (both .1))
+
+-- ---- document 01's pairs P1 to P6, by their distances and radii
+
+pub worked-pairs : (relation 64 5 5 ≡ Crossing) × (relation 100 5 5 ≡ TouchingOutside) × (relation 121 5 5 ≡ Apart)
+    × (relation 4 5 3 ≡ TouchingInside) × (relation 0 5 3 ≡ Holding) × (relation 0 5 5 ≡ Identical)
+unfolding relation gap
+worked-pairs = (refl, refl, refl, refl, refl, refl)

@@ -4,12 +4,13 @@ use native.Mathlib.Omega.{arith}
 use mathlib.Core.Path.{_≡_, refl, sym, ap, _∙_, subst}
 use mathlib.Core.Bool.{Bool, true, false}
 use mathlib.Core.Logic.{_⊎_, ⊎-elim}
-use lib.Count.{ones, trailingZeros, under, trailing-of-zero, trailing-le}
-use lib.Dec.{eqb, ltb}
-use borrow.Author.Tests.{ltb-true, ltb-false, eqb-true, eqb-false}
+use lib.Count.{ones, trailingZeros, under}
+use lib.Dec.{ltb}
+use borrow.Author.Tests.{ltb-true, ltb-false}
 use Rattle.masks.specs.declared.LowestHead.the-variants.{Head, Nobody}
-use Rattle.masks.specs.Mask.{bit, inSet, Subset, lowestOf, orElse, shifted}
-use Rattle.masks.specs.Operations.{bit-zero, bit-suc, bit-le, bit-of-zero, bit-power, bit-power-other, bit-beyond, shifted-is, lt-or-eq, in-of-one, in-of-zero}
+use Rattle.masks.specs.Mask.{bit, inSet, lowestOf, orElse, shifted}
+use Rattle.masks.specs.Operations.{bit-zero, bit-suc, bit-le, bit-of-zero, bit-power, bit-power-other, shifted-is, lt-or-eq, in-of-one, in-of-zero}
+use Rattle.masks.specs.Subset.{power-subset}
 use Rattle.masks.specs.Size.{ones-of-zero, ones-power, ones-subset-eq}
 
 -- ---- the count of trailing zeros
@@ -65,14 +66,6 @@ trailing-power w i h = trailing-unique w (2 ^ i) i h (bit-power i) (λ j k. bit-
 
 pub trailing-shifted : (w i : ℕ) → i < w → trailingZeros w (shifted w i) ≡ i
 trailing-shifted w i h = ap (trailingZeros w) (shifted-is w i h) ∙ trailing-power w i h
-
--- a head of S alone is a subset of S
-pub power-subset : (S i : ℕ) → bit S i ≡ 1 → Subset (2 ^ i) S
-power-subset S i e j = go (eqb i j) refl
-  where
-    go : (b : Bool) → eqb i j ≡ b → bit (2 ^ i) j ≤ bit S j
-    go true f = let same = eqb-true i j f in omega (arith, ap (bit S) same, bit-le (2 ^ i) j)
-    go false f = omega (arith, bit-power-other i j (eqb-false i j f))
 
 -- a set of one head is the single of its lowest
 pub one-single : (w S : ℕ) → S < 2 ^ w → ones S ≡ 1 → S ≡ 2 ^ trailingZeros w S

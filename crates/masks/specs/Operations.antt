@@ -7,7 +7,7 @@ use mathlib.Core.Path.{_≡_, refl, sym, ap, ap₂, _∙_, subst}
 use mathlib.Core.Bool.{Bool, true, false, not, cond, _&&_, _||_}
 use mathlib.Core.Logic.{_⊎_, inl, inr}
 use lib.Arith.{bin-ind}
-use lib.Bits.{bitAnd, bitOr, and-step, or-step, and-shr, or-shr, and-mask}
+use lib.Bits.{bitAnd, bitOr, and-step, or-step, and-shr, or-shr, and-mask, or-lt, and-le-l}
 use lib.Dec.{eqb, ltb}
 use lib.Pow.{pow-pos, pow-lt, shr-shr}
 use borrow.Author.Tests.{ltb-true, ltb-false, eqb-true, eqb-false, eq-eqb, ne-eqb}
@@ -47,6 +47,23 @@ bit-cases S i = go (bit S i) (bit-le S i)
     go : (b : ℕ) → b ≤ 1 → (b ≡ 0) ⊎ (b ≡ 1)
     go zero h = inl refl
     go (suc b) h = inr (omega arith)
+
+-- a head is in S where its bit is 1, and not where it is 0
+pub in-of-one : (S i : ℕ) → bit S i ≡ 1 → inSet S i ≡ true
+unfolding inSet
+in-of-one S i e = eq-eqb (bit S i) 1 e
+
+pub in-of-zero : (S i : ℕ) → bit S i ≡ 0 → inSet S i ≡ false
+unfolding inSet
+in-of-zero S i e = ne-eqb (bit S i) 1 (λ f. omega arith)
+
+pub one-of-in : (S i : ℕ) → inSet S i ≡ true → bit S i ≡ 1
+unfolding inSet
+one-of-in S i e = eqb-true (bit S i) 1 e
+
+pub zero-of-in : (S i : ℕ) → inSet S i ≡ false → bit S i ≡ 0
+unfolding inSet
+zero-of-in S i e = let n = eqb-false (bit S i) 1 e in omega (arith, bit-le S i)
 
 -- `&`: the lesser of the two bits
 pub bit-and : (S T i : ℕ) → bit (bitAnd S T) i ≡ min (bit S i) (bit T i)
@@ -184,6 +201,13 @@ in-by-mask w S i h = ap (λ (n : ℕ). not (eqb n 0)) (test-mask w S i h) ∙ go
     go (inl z) = simp (z, eq-eqb (0 * 2 ^ i) 0 (omega arith))
     go (inr z) = simp (z, ne-eqb (1 * 2 ^ i) 0 (λ e. omega (arith, pow-pos i)))
 
+-- the same where a branch says whether it is zero
+pub zero-by-mask : (w S i : ℕ) → i < w → bitAnd S (shifted w i) ≡ 0 → bit S i ≡ 0
+zero-by-mask w S i h e = zero-of-in S i (sym (in-by-mask w S i h) ∙ ap not (eq-eqb (bitAnd S (shifted w i)) 0 e))
+
+pub one-by-mask : (w S i : ℕ) → i < w → (bitAnd S (shifted w i) ≡ 0 → ⊥) → bit S i ≡ 1
+one-by-mask w S i h n = one-of-in S i (sym (in-by-mask w S i h) ∙ ap not (ne-eqb (bitAnd S (shifted w i)) 0 n))
+
 -- ---- S with head i, `S | 1 << i`; S without it, `S & !(1 << i)`
 
 pub bit-with : (w S i : ℕ) → i < w → bit (bitOr S (shifted w i)) i ≡ 1
@@ -202,23 +226,15 @@ pub bit-without-other : (w S i j : ℕ) → S < 2 ^ w → i < w → (i ≡ j →
 bit-without-other w S i j hs h k =
     omega (arith, bit-minus w S (shifted w i) j hs (shifted-lt w i), bit-shifted-other w i j h k)
 
+-- of a mask of n heads: still one
+pub with-below : (w n S i : ℕ) → n ≤ w → S < 2 ^ n → i < n → bitOr S (shifted w i) < 2 ^ n
+with-below w n S i h hs k =
+    or-lt n S (shifted w i) hs (subst (λ (m : ℕ). m < 2 ^ n) (sym (shifted-is w i (omega arith))) (pow-lt k))
+
+pub without-below : (n S U : ℕ) → S < 2 ^ n → bitAnd S U < 2 ^ n
+without-below n S U hs = omega (arith, and-le-l S U)
+
 -- ---- the same as sets: a head is in the result exactly if ..
-
-pub in-of-one : (S i : ℕ) → bit S i ≡ 1 → inSet S i ≡ true
-unfolding inSet
-in-of-one S i e = eq-eqb (bit S i) 1 e
-
-pub in-of-zero : (S i : ℕ) → bit S i ≡ 0 → inSet S i ≡ false
-unfolding inSet
-in-of-zero S i e = ne-eqb (bit S i) 1 (λ f. omega arith)
-
-pub one-of-in : (S i : ℕ) → inSet S i ≡ true → bit S i ≡ 1
-unfolding inSet
-one-of-in S i e = eqb-true (bit S i) 1 e
-
-pub zero-of-in : (S i : ℕ) → inSet S i ≡ false → bit S i ≡ 0
-unfolding inSet
-zero-of-in S i e = let n = eqb-false (bit S i) 1 e in omega (arith, bit-le S i)
 
 pub in-or : (S T i : ℕ) → inSet (bitOr S T) i ≡ (inSet S i || inSet T i)
 unfolding inSet

@@ -8,9 +8,9 @@ use mathlib.Core.Logic.{_⊎_, ⊎-elim, _↔_}
 use lib.Arith.{bin-ind}
 use lib.Bits.{bitAnd, bitOr}
 use lib.Dec.{T, eqb, ltb}
-use borrow.Author.Tests.{ltb-true, ltb-false, eq-eqb, ne-eqb}
-use Rattle.masks.specs.Mask.{bit, inSet, Subset, every, subset, complement}
-use Rattle.masks.specs.Operations.{bit-zero, bit-suc, bit-le, bit-and, bit-or, bit-ext, bit-minus, bit-beyond, lt-or-eq, in-of-one, one-of-in, zero-of-in}
+use borrow.Author.Tests.{ltb-true, ltb-false, eqb-true, eqb-false, eq-eqb, ne-eqb}
+use Rattle.masks.specs.Mask.{bit, inSet, Subset, every, subset, shifted, complement}
+use Rattle.masks.specs.Operations.{bit-zero, bit-suc, bit-le, bit-and, bit-or, bit-ext, bit-minus, bit-beyond, bit-power-other, shifted-lt, bit-with, bit-without, lt-or-eq, in-of-one, one-of-in, zero-of-in}
 
 pub subset-refl : (S : ℕ) → Subset S S
 subset-refl S i = le-refl (bit S i)
@@ -50,6 +50,32 @@ pub subset-le : (S T : ℕ) → Subset S T → S ≤ T
 subset-le =
     bin-ind (λ (n : ℕ). (T : ℕ) → Subset n T → n ≤ T) (λ T h. omega arith)
     (λ n ih T h. omega (arith, ih (T / 2) (λ i. subst (λ (a : ℕ). a ≤ bit (T / 2) i) (bit-suc n i) (subst (λ (b : ℕ). bit n (suc i) ≤ b) (bit-suc T i) (h (suc i)))), bit-zero n, bit-zero T, h 0))
+
+-- a strict subset is smaller as a number
+pub subset-lt : (S T : ℕ) → Subset S T → (S ≡ T → ⊥) → S < T
+subset-lt S T h n = let l = subset-le S T h in omega arith
+
+-- a head of S alone is a subset of S
+pub power-subset : (S i : ℕ) → bit S i ≡ 1 → Subset (2 ^ i) S
+power-subset S i e j = go (eqb i j) refl
+  where
+    go : (b : Bool) → eqb i j ≡ b → bit (2 ^ i) j ≤ bit S j
+    go true f = let same = eqb-true i j f in omega (arith, ap (bit S) same, bit-le (2 ^ i) j)
+    go false f = omega (arith, bit-power-other i j (eqb-false i j f))
+
+-- a join is a subset where both are
+pub or-subset : (S T U : ℕ) → Subset S U → Subset T U → Subset (bitOr S T) U
+or-subset S T U h k i = omega (arith, bit-or S T i, h i, k i)
+
+-- `S & !(1 << i)` of a head of S is smaller, and `S | 1 << i` of another head larger
+pub without-lt : (w S i : ℕ) → S < 2 ^ w → i < w → bit S i ≡ 1 → bitAnd S (complement w (shifted w i)) < S
+without-lt w S i hs h one =
+    subset-lt (bitAnd S (complement w (shifted w i))) S (minus-subset w S (shifted w i) hs (shifted-lt w i))
+    (λ e. omega (arith, ap (λ (n : ℕ). bit n i) e, bit-without w S i hs h))
+
+pub with-gt : (w S i : ℕ) → i < w → bit S i ≡ 0 → S < bitOr S (shifted w i)
+with-gt w S i h none =
+    subset-lt S (bitOr S (shifted w i)) (or-subset-left S (shifted w i)) (λ e. omega (arith, ap (λ (n : ℕ). bit n i) e, bit-with w S i h))
 
 -- ---- head by head
 
