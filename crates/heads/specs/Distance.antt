@@ -1,11 +1,10 @@
 -- The distance of two whole numbers by their signs, and what follows for two heads: the squared centre distance is
 -- symmetric, two heads of the domain have one below 2^32, and one cut at the greatest u64 gives the same relation.
 use Prim.Native.Nat.{ℕ, zero, suc, _+_, _-_, _*_, _^_, _≤_, _<_, min}
-use native.Mathlib.Nat.{mul-le-mul, le-trans}
+use native.Mathlib.Nat.{mul-le-mul}
 use native.Mathlib.Omega.{arith}
-use mathlib.Core.Path.{_≡_, refl, sym, ap, ap₂, _∙_, subst}
+use mathlib.Core.Path.{_≡_, refl, sym, ap, _∙_}
 use mathlib.Core.Bool.{Bool, true, false, _&&_}
-use mathlib.Core.Logic.{_⊎_, inl, inr}
 use lib.Dec.{T, ltb, leb, leb→le}
 use lib.IntN.{ℤ, pos, negsuc, natAbs, subℕ, _-ℤ_}
 use lib.Signed.{mag}
@@ -32,6 +31,7 @@ sub-far m n = go (ltb m n) refl
     go true e = let h = ltb-true m n e in rw e (omega arith)
     go false e = let h = ltb-false m n e in rw e (omega arith)
 
+-- the magnitude of the difference is that
 pub natAbs-diff : (a b : ℤ) → natAbs (a -ℤ b) ≡ far a b
 natAbs-diff (pos m) (pos zero) = omega arith
 natAbs-diff (pos m) (pos (suc n)) = sub-far m (suc n)
@@ -58,6 +58,7 @@ far-natAbs (pos m) (negsuc n) = omega arith
 far-natAbs (negsuc m) (pos n) = omega arith
 far-natAbs (negsuc m) (negsuc n) = omega arith
 
+-- and does not depend on the order
 pub natAbs-diff-comm : (a b : ℤ) → natAbs (a -ℤ b) ≡ natAbs (b -ℤ a)
 natAbs-diff-comm a b = natAbs-diff a b ∙ far-comm a b ∙ sym (natAbs-diff b a)
 
@@ -71,6 +72,7 @@ diff-below a b ha hb = omega (arith, natAbs-diff a b, far-mag a b)
 pub squaredDistance-comm : (a b : Head) → squaredDistance a b ≡ squaredDistance b a
 squaredDistance-comm a b = simp (natAbs-diff-comm (a .x) (b .x), natAbs-diff-comm (a .y) (b .y))
 
+-- and so are the relation and meeting
 pub relationOf-comm : (a b : Head) → relationOf a b ≡ relationOf b a
 relationOf-comm a b =
     relation-comm (squaredDistance a b) (radiusOf a) (radiusOf b)
@@ -103,6 +105,7 @@ radius-bounds (pos n) h =
     let both = and-yes (leb 1 n) (leb n 20000) h in (leb→le 1 n (both .0), leb→le n 20000 (both .1), refl)
 radius-bounds (negsuc n) h = absurd h
 
+-- a head within the limits has these bounds
 pub limits-of : (h : Head) → T (inLimits h) → InLimits h
 limits-of h t =
     let xs = and-yes (positionInLimits (h .x)) (positionInLimits (h .y) && radiusInLimits (h .radius)) t in

@@ -1,17 +1,18 @@
 -- Subset by bits, and as code tests it: `S & T == S`.
-use Prim.Native.Nat.{ℕ, zero, suc, _+_, _-_, _*_, _/_, _%_, _^_, _≤_, _<_, min, max}
-use native.Mathlib.Nat.{le-refl, le-trans, le-antisymm}
+use Prim.Native.Nat.{ℕ, zero, suc, _/_, _^_, _≤_, _<_}
+use native.Mathlib.Nat.{le-refl, le-trans, le-antisymm, eq-or-lt-of-le, le-of-suc-le-suc}
 use native.Mathlib.Omega.{arith}
 use mathlib.Core.Path.{_≡_, refl, sym, ap, _∙_, subst}
 use mathlib.Core.Bool.{Bool, true, false, not, _&&_, _||_}
-use mathlib.Core.Logic.{_⊎_, ⊎-elim, _↔_}
+use mathlib.Core.Logic.{⊎-elim, _↔_}
 use lib.Arith.{bin-ind}
 use lib.Bits.{bitAnd, bitOr}
 use lib.Dec.{T, eqb, ltb}
 use borrow.Author.Tests.{ltb-true, ltb-false, eqb-true, eqb-false, eq-eqb, ne-eqb}
 use Rattle.masks.specs.Mask.{bit, inSet, Subset, every, subset, shifted, complement}
-use Rattle.masks.specs.Operations.{bit-zero, bit-suc, bit-le, bit-and, bit-or, bit-ext, bit-minus, bit-beyond, bit-power-other, shifted-lt, bit-with, bit-without, lt-or-eq, in-of-one, one-of-in, zero-of-in}
+use Rattle.masks.specs.Operations.{bit-zero, bit-suc, bit-le, bit-and, bit-or, bit-ext, bit-minus, bit-beyond, bit-power-other, shifted-lt, bit-with, bit-without, in-of-one, one-of-in, zero-of-in}
 
+-- an order on sets
 pub subset-refl : (S : ℕ) → Subset S S
 subset-refl S i = le-refl (bit S i)
 
@@ -87,6 +88,7 @@ subset-by-heads S T h i = go (inSet S i) refl
     go true e = omega (arith, one-of-in S i e, one-of-in T i (h i e))
     go false e = omega (arith, zero-of-in S i e)
 
+-- and the other way
 pub subset-head : (S T : ℕ) → Subset S T → (i : ℕ) → inSet S i ≡ true → inSet T i ≡ true
 subset-head S T h i e = in-of-one T i (omega (arith, h i, one-of-in S i e, bit-le T i))
 
@@ -96,12 +98,13 @@ pub and-both : (a b : Bool) → (a && b) ≡ true → (a ≡ true) × (b ≡ tru
 and-both true b e = (refl, e)
 and-both false b e = absurd (subst T (sym e) tt)
 
+-- the test holds exactly if it holds at each head below w
 pub every-at : (w : ℕ) (p : ℕ → Bool) → every w p ≡ true → (i : ℕ) → i < w → p i ≡ true
 unfolding every
 every-at zero p e i h = absurd (omega arith)
 every-at (suc w) p e i h =
     let both = and-both (every w p) (p w) e in
-    ⊎-elim (λ k. every-at w p (both .0) i k) (λ k. ap p k ∙ both .1) (lt-or-eq i w h)
+    ⊎-elim (λ k. ap p k ∙ both .1) (λ k. every-at w p (both .0) i k) (eq-or-lt-of-le (le-of-suc-le-suc h))
 
 pub every-of : (w : ℕ) (p : ℕ → Bool) → ((i : ℕ) → i < w → p i ≡ true) → every w p ≡ true
 unfolding every
