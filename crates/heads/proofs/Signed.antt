@@ -1,16 +1,16 @@
 -- What the signed code of this crate asks of whole numbers: a difference of two i32 in an i64, and its magnitude.
-use Prim.Native.Nat.{ℕ, zero, suc, _+_, _-_, _^_, _≤_, _<_}
+use Prim.Native.Nat.{ℕ, _^_, _≤_, _<_}
 use native.Mathlib.Omega.{arith}
-use mathlib.Core.Path.{_≡_, refl, sym, ap, _∙_, subst}
+use mathlib.Core.Path.{_≡_, refl, ap, _∙_, subst}
 use mathlib.Core.Bool.{Bool, true, false, not, _&&_}
 use lib.Dec.{T, ltb, leb}
 use lib.IntN.{ℤ, pos, negsuc, natAbs, _-ℤ_}
 use lib.Signed.{mag, ltZ, leZ, nonNeg}
 use borrow.Author.Tests.{ltb-true, ltb-false, lt-leb, le-leb}
 use mir.Syntax.{w32, w64}
-use mir.Val.{Fits, SFits, toZ, ofZ}
+use mir.Val.{SFits, toZ, ofZ}
 use mir.Facts.{toZ-ofZ, sfits-widen}
-use Rattle.heads.specs.Distance.{natAbs-diff, far, diff-below}
+use Rattle.heads.specs.Distance.{natAbs-diff, diff-below}
 use Rattle.heads.specs.Limits.{within}
 use Rattle.heads.specs.Pair.{aboveZero}
 
@@ -30,6 +30,7 @@ widened {z} h = ap (λ (y : ℤ). toZ w64 (ofZ w64 y)) (toZ-ofZ h) ∙ toZ-ofZ (
 pub diff-fits : {a b : ℤ} → SFits w32 a → SFits w32 b → SFits w64 (a -ℤ b)
 diff-fits {a} {b} ha hb = record { sfits = omega (arith, mag-natAbs (a -ℤ b), diff-below a b (ha .sfits) (hb .sfits)) }
 
+-- a number and what it is below zero have one magnitude
 pub natAbs-minus : (z : ℤ) → natAbs (pos 0 -ℤ z) ≡ natAbs z
 natAbs-minus (pos n) = natAbs-diff (pos 0) (pos n) ∙ omega arith
 natAbs-minus (negsuc n) = natAbs-diff (pos 0) (negsuc n) ∙ omega arith

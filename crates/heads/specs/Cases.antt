@@ -3,10 +3,11 @@
 use Prim.Native.Nat.{ℕ, zero, suc, _+_, _-_, _*_, _≤_, _<_}
 use native.Mathlib.Nat.{mul-le-mul, le-antisymm}
 use native.Mathlib.Omega.{arith}
-use mathlib.Core.Path.{_≡_, refl, sym, ap, ap₂, _∙_, subst}
-use mathlib.Core.Bool.{Bool, true, false, not, cond, _&&_, _||_, and-false, or-true}
-use mathlib.Core.Logic.{_⊎_, inl, inr}
-use lib.Dec.{ltb, leb, eqb}
+use mathlib.Core.Path.{_≡_, refl, sym, ap, _∙_, subst}
+use mathlib.Core.Bool.{Bool, true, false, not, cond, _&&_, and-false, or-true}
+use mathlib.Core.Logic.{_⊎_, inl, inr, _↔_}
+use lib.Dec.{T, ltb, leb, eqb, leb→le}
+use mir.Facts.{and-yes}
 use borrow.Author.Tests.{ltb-true, ltb-false, leb-true, eqb-true, lt-ltb, le-ltb, le-leb, lt-leb, eq-eqb, ne-eqb}
 use Rattle.heads.specs.declared.Relation.{Relation}
 use Rattle.heads.specs.declared.Relation.the-variants.{Apart, TouchingOutside, Crossing, TouchingInside, Holding, Identical}
@@ -23,6 +24,7 @@ Case Identical D a b = (D ≡ 0) × (a ≡ b)
 
 -- ---- the difference of the radii
 
+-- symmetric; at most the sum; zero exactly for equal radii
 pub gap-comm : (a b : ℕ) → gap a b ≡ gap b a
 unfolding gap
 gap-comm a b = omega arith
@@ -34,10 +36,6 @@ gap-le a b = omega arith
 pub gap-zero : (a b : ℕ) → gap a b ≡ 0 → a ≡ b
 unfolding gap
 gap-zero a b e = omega arith
-
-pub gap-self : (a : ℕ) → gap a a ≡ 0
-unfolding gap
-gap-self a = omega arith
 
 -- of the larger and the smaller
 pub gap-of : {a b : ℕ} → b ≤ a → gap a b ≡ a - b
@@ -65,9 +63,6 @@ order a b = go (ltb a b) (ltb b a) refl refl
 pos-root : {D : ℕ} (n : ℕ) → D < n * n → 0 < n
 pos-root zero h = omega arith
 pos-root (suc n) h = omega arith
-
-pos-square : (n : ℕ) → 0 < n → 0 < n * n
-pos-square (suc n) h = omega arith
 
 identical-no : (D a b : ℕ) → (D ≡ 0 → a ≡ b → ⊥) → identical D a b ≡ false
 identical-no D a b h = go (eqb D 0) (eqb a b) refl refl
@@ -143,6 +138,7 @@ case-comm TouchingInside D a b h = rw (← gap-comm a b) h
 case-comm Holding D a b h = rw (← gap-comm a b) h
 case-comm Identical D a b h = (h .0, sym (h .1))
 
+-- the relation does not depend on which radius comes first
 pub relation-comm : (D a b : ℕ) → relation D a b ≡ relation D b a
 relation-comm D a b = sym (relation-is (relation D a b) D b a (case-comm (relation D a b) D a b (case-of D a b)))
 
@@ -199,6 +195,7 @@ contains-relation D a b = go (leb b a) refl
         ∙ reaches-in (relation D a b) D a b (case-of D a b)
     go false e = refl
 
+-- nor does it matter to meeting
 pub meets-comm : (D a b : ℕ) → meets D a b ≡ meets D b a
 meets-comm D a b = meets-relation D a b ∙ ap meeting (relation-comm D a b) ∙ sym (meets-relation D b a)
 
@@ -216,3 +213,36 @@ points-relation D a b = rw (meets-relation D a b, meetsOnce-relation D a b) (by-
     by-case TouchingInside = refl
     by-case Holding = refl
     by-case Identical = refl
+
+-- ---- the same as facts on numbers
+
+-- two heads meet exactly if t² ≤ D ≤ s² and they are not identical
+pub meets-facts : (D a b : ℕ) → (meets D a b ≡ true) ↔ ((gap a b * gap a b ≤ D) × (D ≤ (a + b) * (a + b)) × (D ≡ 0 → a ≡ b → ⊥))
+unfolding meets
+meets-facts D a b = (there, λ h. simp (le-leb (gap a b * gap a b) D (h .0), le-leb D ((a + b) * (a + b)) (h .1), identical-no D a b (h .2)))
+  where
+    there : meets D a b ≡ true → (gap a b * gap a b ≤ D) × (D ≤ (a + b) * (a + b)) × (D ≡ 0 → a ≡ b → ⊥)
+    there e =
+        let one = and-yes (leb (gap a b * gap a b) D) (leb D ((a + b) * (a + b)) && not (identical D a b)) (subst T (sym e) tt) in
+        let two = and-yes (leb D ((a + b) * (a + b))) (not (identical D a b)) (one .1) in (
+          leb→le (gap a b * gap a b) D (one .0),
+          leb→le D ((a + b) * (a + b)) (two .0),
+          λ z same. subst T (ap not (identical-yes D a b z same)) (two .1),
+        )
+
+-- a contains b exactly if its radius is not the smaller and D ≤ (a - b)²
+pub contains-facts : (D a b : ℕ) → (contains D a b ≡ true) ↔ ((b ≤ a) × (D ≤ (a - b) * (a - b)))
+unfolding contains
+contains-facts D a b = (there, λ h. simp (le-leb b a (h .0), le-leb D ((a - b) * (a - b)) (h .1)))
+  where
+    there : contains D a b ≡ true → (b ≤ a) × (D ≤ (a - b) * (a - b))
+    there e =
+        let both = and-yes (leb b a) (leb D ((a - b) * (a - b))) (subst T (sym e) tt) in
+        (leb→le b a (both .0), leb→le D ((a - b) * (a - b)) (both .1))
+
+-- ---- document 01's pairs P1 to P6, by their distances and radii
+
+pub worked-pairs : (relation 64 5 5 ≡ Crossing) × (relation 100 5 5 ≡ TouchingOutside) × (relation 121 5 5 ≡ Apart)
+    × (relation 4 5 3 ≡ TouchingInside) × (relation 0 5 3 ≡ Holding) × (relation 0 5 5 ≡ Identical)
+unfolding relation gap
+worked-pairs = (refl, refl, refl, refl, refl, refl)

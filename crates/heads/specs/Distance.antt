@@ -1,11 +1,10 @@
 -- The distance of two whole numbers by their signs, and what follows for two heads: the squared centre distance is
 -- symmetric, two heads of the domain have one below 2^32, and one cut at the greatest u64 gives the same relation.
 use Prim.Native.Nat.{ℕ, zero, suc, _+_, _-_, _*_, _^_, _≤_, _<_, min}
-use native.Mathlib.Nat.{mul-le-mul, le-trans}
+use native.Mathlib.Nat.{mul-le-mul}
 use native.Mathlib.Omega.{arith}
-use mathlib.Core.Path.{_≡_, refl, sym, ap, ap₂, _∙_, subst}
+use mathlib.Core.Path.{_≡_, refl, sym, ap, _∙_}
 use mathlib.Core.Bool.{Bool, true, false, _&&_}
-use mathlib.Core.Logic.{_⊎_, inl, inr}
 use lib.Dec.{T, ltb, leb, leb→le}
 use lib.IntN.{ℤ, pos, negsuc, natAbs, subℕ, _-ℤ_}
 use lib.Signed.{mag}
@@ -13,9 +12,9 @@ use mir.Facts.{and-yes}
 use borrow.Author.Tests.{ltb-true, ltb-false}
 use Rattle.heads.specs.declared.Head.{Head}
 use Rattle.heads.specs.declared.Relation.the-variants.{Apart}
-use Rattle.heads.specs.Limits.{positionLimit, positionInLimits, radiusInLimits, inLimits}
+use Rattle.heads.specs.Limits.{positionLimit, radiusLimit, positionInLimits, radiusInLimits, inLimits}
 use Rattle.heads.specs.Relation.{relation, meets, meetsOnce}
-use Rattle.heads.specs.Pair.{squaredDistance, radiusOf, relationOf, meetsOf, meetsOnceOf, greatest}
+use Rattle.heads.specs.Pair.{squaredDistance, aboveZero, radiusOf, relationOf, meetsOf, meetsOnceOf, greatest}
 use Rattle.heads.specs.Cases.{relation-is, relation-comm, meets-comm, meetsOnce-comm}
 
 -- how far two whole numbers lie apart, by their signs
@@ -32,6 +31,7 @@ sub-far m n = go (ltb m n) refl
     go true e = let h = ltb-true m n e in rw e (omega arith)
     go false e = let h = ltb-false m n e in rw e (omega arith)
 
+-- the magnitude of the difference is that
 pub natAbs-diff : (a b : ℤ) → natAbs (a -ℤ b) ≡ far a b
 natAbs-diff (pos m) (pos zero) = omega arith
 natAbs-diff (pos m) (pos (suc n)) = sub-far m (suc n)
@@ -58,6 +58,7 @@ far-natAbs (pos m) (negsuc n) = omega arith
 far-natAbs (negsuc m) (pos n) = omega arith
 far-natAbs (negsuc m) (negsuc n) = omega arith
 
+-- and does not depend on the order
 pub natAbs-diff-comm : (a b : ℤ) → natAbs (a -ℤ b) ≡ natAbs (b -ℤ a)
 natAbs-diff-comm a b = natAbs-diff a b ∙ far-comm a b ∙ sym (natAbs-diff b a)
 
@@ -71,6 +72,7 @@ diff-below a b ha hb = omega (arith, natAbs-diff a b, far-mag a b)
 pub squaredDistance-comm : (a b : Head) → squaredDistance a b ≡ squaredDistance b a
 squaredDistance-comm a b = simp (natAbs-diff-comm (a .x) (b .x), natAbs-diff-comm (a .y) (b .y))
 
+-- and so are the relation and meeting
 pub relationOf-comm : (a b : Head) → relationOf a b ≡ relationOf b a
 relationOf-comm a b =
     relation-comm (squaredDistance a b) (radiusOf a) (radiusOf b)
@@ -86,30 +88,56 @@ meetsOnceOf-comm a b =
     meetsOnce-comm (squaredDistance a b) (radiusOf a) (radiusOf b)
     ∙ ap (λ (D : ℕ). meetsOnce D (radiusOf b) (radiusOf a)) (squaredDistance-comm a b)
 
+-- what the limits say of a head's numbers
+pub record InLimits (h : Head) : Type 0 where
+  pub x : natAbs (h .x) ≤ positionLimit
+  pub y : natAbs (h .y) ≤ positionLimit
+  pub least : 1 ≤ radiusOf h
+  pub most : radiusOf h ≤ radiusLimit
+  pub whole : h .radius ≡ pos (radiusOf h)
+
 position-bound : (v : ℤ) → T (positionInLimits v) → natAbs v ≤ positionLimit
 position-bound (pos n) h = leb→le n 20000 h
 position-bound (negsuc n) h = omega (arith, leb→le n 19999 (and-yes (leb n 19999) true h .0))
 
+radius-bounds : (v : ℤ) → T (radiusInLimits v) → (1 ≤ aboveZero v) × (aboveZero v ≤ radiusLimit) × (v ≡ pos (aboveZero v))
+radius-bounds (pos n) h =
+    let both = and-yes (leb 1 n) (leb n 20000) h in (leb→le 1 n (both .0), leb→le n 20000 (both .1), refl)
+radius-bounds (negsuc n) h = absurd h
+
+-- a head within the limits has these bounds
+pub limits-of : (h : Head) → T (inLimits h) → InLimits h
+limits-of h t =
+    let xs = and-yes (positionInLimits (h .x)) (positionInLimits (h .y) && radiusInLimits (h .radius)) t in
+    let ys = and-yes (positionInLimits (h .y)) (radiusInLimits (h .radius)) (xs .1) in
+    let r = radius-bounds (h .radius) (ys .1) in
+    record {
+      x = position-bound (h .x) (xs .0);
+      y = position-bound (h .y) (ys .0);
+      least = r .0;
+      most = r .1;
+      whole = r .2;
+    }
+
 -- two positions within the limits lie at most 40000 apart
-position-diff : (v w : ℤ) → T (positionInLimits v) → T (positionInLimits w) → natAbs (v -ℤ w) ≤ 40000
-position-diff v w hv hw = omega (arith, natAbs-diff v w, far-natAbs v w, position-bound v hv, position-bound w hw)
+position-diff : (v w : ℤ) → natAbs v ≤ positionLimit → natAbs w ≤ positionLimit → natAbs (v -ℤ w) ≤ 40000
+position-diff v w hv hw = omega (arith, natAbs-diff v w, far-natAbs v w)
 
 -- two heads of the domain: D is at most 2 × 40000², which is below 2^32
 pub distance-in-limits : (a b : Head) → T (inLimits a) → T (inLimits b) → squaredDistance a b ≤ 2 * (40000 * 40000)
 distance-in-limits a b ha hb =
-    let pa = and-yes (positionInLimits (a .x)) (positionInLimits (a .y) && radiusInLimits (a .radius)) ha in
-    let pb = and-yes (positionInLimits (b .x)) (positionInLimits (b .y) && radiusInLimits (b .radius)) hb in
-    let dx = position-diff (a .x) (b .x) (pa .0) (pb .0) in
-    let dy =
-    position-diff
-    (a .y)
-    (b .y)
-    (and-yes (positionInLimits (a .y)) (radiusInLimits (a .radius)) (pa .1) .0)
-    (and-yes (positionInLimits (b .y)) (radiusInLimits (b .radius)) (pb .1) .0) in
+    let la = limits-of a ha in
+    let lb = limits-of b hb in
+    let dx = position-diff (a .x) (b .x) (la .x) (lb .x) in
+    let dy = position-diff (a .y) (b .y) (la .y) (lb .y) in
     omega (arith, mul-le-mul dx dx, mul-le-mul dy dy)
 
 pub distance-fits : (a b : Head) → T (inLimits a) → T (inLimits b) → squaredDistance a b < 2 ^ 32
 distance-fits a b ha hb = omega (arith, distance-in-limits a b ha hb)
+
+-- so that nothing is cut at the greatest u64
+pub distance-whole : (a b : Head) → T (inLimits a) → T (inLimits b) → min (squaredDistance a b) greatest ≡ squaredDistance a b
+distance-whole a b ha hb = let h = distance-fits a b ha hb in omega arith
 
 -- a distance cut at the greatest u64 gives the same relation for radii below 2^31
 pub relation-capped : (D a b : ℕ) → a < 2 ^ 31 → b < 2 ^ 31 → relation (min D greatest) a b ≡ relation D a b

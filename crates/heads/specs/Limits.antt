@@ -5,6 +5,7 @@ use lib.IntN.{ℤ, pos, negℤ}
 use lib.Signed.{leZ}
 use Rattle.heads.specs.declared.Head.{Head}
 
+-- the greatest distance of an x or y from zero, the greatest radius, the greatest side
 abbrev pub positionLimit : ℕ
 positionLimit = 20000
 

@@ -24,6 +24,7 @@ squaredDistance a b =
 abbrev pub greatest : ℕ
 greatest = 0xFFFF_FFFF_FFFF_FFFF
 
+-- how two heads lie to each other
 abbrev pub relationOf : Head → Head → Relation
 relationOf a b = relation (squaredDistance a b) (radiusOf a) (radiusOf b)
 

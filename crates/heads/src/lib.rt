@@ -6,7 +6,7 @@ ghost use lib.Dec.{ltb};
 ghost use lib.IntN.{natAbs, _-ℤ_};
 ghost use Rattle.heads.specs.Limits.{within, positionInLimits, radiusInLimits, sideInLimits, inLimits};
 ghost use Rattle.heads.specs.Relation.{gap, relation, number, points, meeting, touching, covering};
-ghost use Rattle.heads.specs.Pair.{radiusOf, aboveZero, squaredDistance, greatest, relationOf, meetsOf, meetsOnceOf, containsOf};
+ghost use Rattle.heads.specs.Pair.{aboveZero, squaredDistance, greatest, relationOf, meetsOf, meetsOnceOf, containsOf};
 
 // A head: a circle about (x, y), in centimetres.
 pub struct Head {

@@ -1,21 +1,22 @@
 -- The set gathered from a test on heads has those heads and no others, and is the only such mask of its width.
 use Prim.Native.Nat.{ℕ, zero, suc, _+_, _-_, _*_, _^_, _≤_, _<_}
-use native.Mathlib.Nat.{one-mul, add-zero}
+use native.Mathlib.Nat.{one-mul, add-zero, eq-or-lt-of-le, le-of-suc-le-suc}
 use native.Mathlib.Omega.{arith}
-use mathlib.Core.Path.{_≡_, refl, sym, ap, _∙_, subst}
+use mathlib.Core.Path.{_≡_, refl, sym, ap, _∙_}
 use mathlib.Core.Bool.{Bool, true, false, not, cond, _&&_, _||_, or-false, or-true, and-true}
-use mathlib.Core.Logic.{_⊎_, inl, inr, ⊎-elim}
+use mathlib.Core.Logic.{⊎-elim}
 use lib.Bits.{bitAnd, bitOr, or-lt, and-lt, or-shifted-r}
 use lib.Dec.{eqb, ltb}
 use lib.Pow.{pow-pos, pow-mono}
 use borrow.Author.Tests.{ltb-true, ltb-false, eq-eqb, ne-eqb, lt-ltb}
-use Rattle.masks.specs.Mask.{bit, inSet, gather, single, below, union, intersection, withHead, withoutHead, shifted, complement}
-use Rattle.masks.specs.Operations.{in-ext, in-or, in-and, in-minus, in-beyond, in-shifted, in-of-zero, lt-or-eq, in-power, in-ones, bit-of-zero, shifted-lt, complement-lt}
+use Rattle.masks.specs.Mask.{inSet, gather, single, below, union, intersection, withHead, withoutHead, shifted, complement}
+use Rattle.masks.specs.Operations.{in-ext, in-or, in-and, in-minus, in-beyond, in-shifted, in-of-zero, in-power, in-ones, bit-of-zero, shifted-lt, complement-lt}
 
 gather-step-lt : (w G : ℕ) (b : Bool) → G < 2 ^ w → G + cond b (2 ^ w) 0 < 2 ^ suc w
 gather-step-lt w G true h = omega arith
 gather-step-lt w G false h = omega arith
 
+-- it is a mask of width w
 pub gather-lt : (w : ℕ) (p : ℕ → Bool) → gather w p < 2 ^ w
 unfolding gather
 gather-lt zero p = omega arith
@@ -30,7 +31,7 @@ in-plus w G i h =
 
 gather-step : (w G : ℕ) (p : ℕ → Bool) (i : ℕ) → G < 2 ^ w → i < suc w → (i < w → inSet G i ≡ p i) → (b : Bool) → p w ≡ b
     → inSet (G + cond b (2 ^ w) 0) i ≡ p i
-gather-step w G p i hg h rest b e = ⊎-elim (λ k. lower b e k) (λ k. top b e k) (lt-or-eq i w h)
+gather-step w G p i hg h rest b e = ⊎-elim (λ k. top b e k) (λ k. lower b e k) (eq-or-lt-of-le (le-of-suc-le-suc h))
   where
     lower : (b : Bool) → p w ≡ b → i < w → inSet (G + cond b (2 ^ w) 0) i ≡ p i
     lower true e k = in-plus w G i hg ∙ simp (ne-eqb i w (λ f. omega arith), or-false) (rest k)
@@ -88,6 +89,7 @@ ones-below w n h = gather-unique w (2 ^ n - 1) (λ j. ltb j n) (omega (arith, po
 
 -- ---- a head of w or more is in no mask of width w
 
+-- its single is empty; adding it or taking it away changes nothing
 pub single-beyond : (w i : ℕ) → w ≤ i → 0 ≡ single w i
 single-beyond w i h =
     gather-unique w 0 (λ j. eqb j i) (pow-pos w) (λ j k. in-of-zero 0 j (bit-of-zero j) ∙ sym (ne-eqb j i (λ e. omega arith)))

@@ -1,15 +1,17 @@
 -- The lowest head of a set by the count of trailing zeros: it is in the set and none below it is; a set of one head is its single.
-use Prim.Native.Nat.{ℕ, zero, suc, _+_, _-_, _*_, _/_, _%_, _^_, _≤_, _<_}
+use Prim.Native.Nat.{ℕ, zero, suc, _/_, _%_, _^_, _<_}
+use native.Mathlib.Nat.{eq-or-lt-of-le, le-of-suc-le-suc}
 use native.Mathlib.Omega.{arith}
-use mathlib.Core.Path.{_≡_, refl, sym, ap, _∙_, subst}
+use mathlib.Core.Path.{_≡_, refl, sym, ap, _∙_}
 use mathlib.Core.Bool.{Bool, true, false}
-use mathlib.Core.Logic.{_⊎_, ⊎-elim}
-use lib.Count.{ones, trailingZeros, under, trailing-of-zero, trailing-le}
-use lib.Dec.{eqb, ltb}
-use borrow.Author.Tests.{ltb-true, ltb-false, eqb-true, eqb-false}
+use mathlib.Core.Logic.{⊎-elim}
+use lib.Count.{ones, trailingZeros, under}
+use lib.Dec.{ltb}
+use borrow.Author.Tests.{ltb-true, ltb-false}
 use Rattle.masks.specs.declared.LowestHead.the-variants.{Head, Nobody}
-use Rattle.masks.specs.Mask.{bit, inSet, Subset, lowestOf, orElse, shifted}
-use Rattle.masks.specs.Operations.{bit-zero, bit-suc, bit-le, bit-of-zero, bit-power, bit-power-other, bit-beyond, shifted-is, lt-or-eq, in-of-one, in-of-zero}
+use Rattle.masks.specs.Mask.{bit, inSet, lowestOf, orElse, shifted}
+use Rattle.masks.specs.Operations.{bit-zero, bit-suc, bit-le, bit-of-zero, bit-power, bit-power-other, shifted-is, in-of-one, in-of-zero}
+use Rattle.masks.specs.Subset.{power-subset}
 use Rattle.masks.specs.Size.{ones-of-zero, ones-power, ones-subset-eq}
 
 -- ---- the count of trailing zeros
@@ -60,19 +62,12 @@ trailing-unique w S i h one none = go (ltb (trailingZeros w S) i) (ltb i (traili
 
 -- ---- a single head
 
+-- the lowest head of a single is its head
 pub trailing-power : (w i : ℕ) → i < w → trailingZeros w (2 ^ i) ≡ i
 trailing-power w i h = trailing-unique w (2 ^ i) i h (bit-power i) (λ j k. bit-power-other i j (λ e. omega arith))
 
 pub trailing-shifted : (w i : ℕ) → i < w → trailingZeros w (shifted w i) ≡ i
 trailing-shifted w i h = ap (trailingZeros w) (shifted-is w i h) ∙ trailing-power w i h
-
--- a head of S alone is a subset of S
-pub power-subset : (S i : ℕ) → bit S i ≡ 1 → Subset (2 ^ i) S
-power-subset S i e j = go (eqb i j) refl
-  where
-    go : (b : Bool) → eqb i j ≡ b → bit (2 ^ i) j ≤ bit S j
-    go true f = let same = eqb-true i j f in omega (arith, ap (bit S) same, bit-le (2 ^ i) j)
-    go false f = omega (arith, bit-power-other i j (eqb-false i j f))
 
 -- a set of one head is the single of its lowest
 pub one-single : (w S : ℕ) → S < 2 ^ w → ones S ≡ 1 → S ≡ 2 ^ trailingZeros w S
@@ -87,6 +82,7 @@ one-single w S h e = sym (ones-subset-eq (2 ^ trailingZeros w S) S (power-subset
 
 -- ---- the lowest head, by its definition
 
+-- no head below w; and a head with none below it
 pub lowest-none : (w S : ℕ) → ((j : ℕ) → j < w → bit S j ≡ 0) → lowestOf w S ≡ Nobody
 unfolding lowestOf
 lowest-none zero S h = refl
@@ -97,7 +93,8 @@ pub lowest-head : (w S i : ℕ) → i < w → bit S i ≡ 1 → ((j : ℕ) → j
 unfolding lowestOf
 lowest-head zero S i h one none = absurd (omega arith)
 lowest-head (suc w) S i h one none =
-    ⊎-elim (λ k. ap (λ l. orElse l (inSet S w) w) (lowest-head w S i k one none)) (λ k. top k) (lt-or-eq i w h)
+    ⊎-elim (λ k. top k) (λ k. ap (λ l. orElse l (inSet S w) w) (lowest-head w S i k one none))
+    (eq-or-lt-of-le (le-of-suc-le-suc h))
   where
     top : i ≡ w → orElse (lowestOf w S) (inSet S w) w ≡ Head i
     top k =
@@ -109,5 +106,6 @@ lowest-trailing w S p h =
     let t = trailing-lt w S p h in
     lowest-head w S (trailingZeros w S) t (trailing-in w S t) (λ j k. trailing-below w S j k)
 
+-- the empty set has none
 pub lowest-empty : (w : ℕ) → lowestOf w 0 ≡ Nobody
 lowest-empty w = lowest-none w 0 (λ j k. bit-of-zero j)

@@ -1,7 +1,7 @@
 -- A set of heads as a mask: "A mask has bit i set if head i is in the set." A mask of width w is a number below 2^w.
 -- The definitions go bit by bit; the code's shifts and masks are proved equal to them.
 use Prim.Native.Nat.{ℕ, zero, suc, _+_, _-_, _*_, _/_, _%_, _^_, _≤_}
-use mathlib.Core.Bool.{Bool, true, false, not, cond, _&&_, _||_}
+use mathlib.Core.Bool.{Bool, true, not, cond, _&&_, _||_}
 use lib.Dec.{eqb, ltb}
 use Rattle.masks.specs.declared.LowestHead.{LowestHead}
 use Rattle.masks.specs.declared.LowestHead.the-variants.{Head, Nobody}
@@ -34,7 +34,7 @@ unfoldable pub size : ℕ → ℕ → ℕ
 size zero S = 0
 size (suc w) S = size w S + bit S w
 
--- what stands at i, or else the head k if b holds
+-- the head found so far, or else head k if b holds
 abbrev pub orElse : LowestHead → Bool → ℕ → LowestHead
 orElse (Head i) b k = Head i
 orElse Nobody b k = cond b (Head k) Nobody
@@ -54,9 +54,11 @@ single w i = gather w (λ j. eqb j i)
 abbrev pub below : ℕ → ℕ → ℕ
 below w n = gather w (λ j. ltb j n)
 
+-- the heads of S or T
 abbrev pub union : ℕ → ℕ → ℕ → ℕ
 union w S T = gather w (λ j. inSet S j || inSet T j)
 
+-- the heads of both S and T
 abbrev pub intersection : ℕ → ℕ → ℕ → ℕ
 intersection w S T = gather w (λ j. inSet S j && inSet T j)
 

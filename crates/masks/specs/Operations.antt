@@ -1,29 +1,21 @@
 -- The bits of what code writes: `1 << i`, `>>`, `&`, `|`, `!`, for every width w and every index; and a mask is its bits.
-use Prim.Native.Nat.{ℕ, zero, suc, _+_, _-_, _*_, _/_, _%_, _^_, _≤_, _<_, min, max}
+use Prim.Native.Nat.{ℕ, zero, suc, _-_, _*_, _/_, _%_, _^_, _≤_, _<_, min, max}
 use native.Mathlib.Nat.{mod-lt, mod-eq-of-lt, one-mul, zero-mul, sub-zero}
 use native.Mathlib.Numerals.{one-add}
 use native.Mathlib.Omega.{arith}
-use mathlib.Core.Path.{_≡_, refl, sym, ap, ap₂, _∙_, subst}
-use mathlib.Core.Bool.{Bool, true, false, not, cond, _&&_, _||_}
+use mathlib.Core.Path.{_≡_, refl, sym, ap, _∙_, subst}
+use mathlib.Core.Bool.{Bool, true, false, not, _&&_, _||_}
 use mathlib.Core.Logic.{_⊎_, inl, inr}
 use lib.Arith.{bin-ind}
-use lib.Bits.{bitAnd, bitOr, and-step, or-step, and-shr, or-shr, and-mask}
+use lib.Bits.{bitAnd, bitOr, and-step, or-step, and-shr, or-shr, and-mask, or-lt, and-le-l}
 use lib.Dec.{eqb, ltb}
 use lib.Pow.{pow-pos, pow-lt, shr-shr}
 use borrow.Author.Tests.{ltb-true, ltb-false, eqb-true, eqb-false, eq-eqb, ne-eqb}
 use Rattle.masks.specs.Mask.{bit, inSet, shifted, complement}
 
--- ---- numbers
-
-pub lt-or-eq : (i w : ℕ) → i < suc w → (i < w) ⊎ (i ≡ w)
-lt-or-eq i w h = go (ltb i w) refl
-  where
-    go : (b : Bool) → ltb i w ≡ b → (i < w) ⊎ (i ≡ w)
-    go true e = inl (ltb-true i w e)
-    go false e = let k = ltb-false i w e in inr (omega arith)
-
 -- ---- bits
 
+-- the lowest bit, and the others by halving
 pub bit-zero : (S : ℕ) → bit S 0 ≡ S % 2
 unfolding bit
 bit-zero S = omega arith
@@ -47,6 +39,23 @@ bit-cases S i = go (bit S i) (bit-le S i)
     go : (b : ℕ) → b ≤ 1 → (b ≡ 0) ⊎ (b ≡ 1)
     go zero h = inl refl
     go (suc b) h = inr (omega arith)
+
+-- a head is in S where its bit is 1, and not where it is 0
+pub in-of-one : (S i : ℕ) → bit S i ≡ 1 → inSet S i ≡ true
+unfolding inSet
+in-of-one S i e = eq-eqb (bit S i) 1 e
+
+pub in-of-zero : (S i : ℕ) → bit S i ≡ 0 → inSet S i ≡ false
+unfolding inSet
+in-of-zero S i e = ne-eqb (bit S i) 1 (λ f. omega arith)
+
+pub one-of-in : (S i : ℕ) → inSet S i ≡ true → bit S i ≡ 1
+unfolding inSet
+one-of-in S i e = eqb-true (bit S i) 1 e
+
+pub zero-of-in : (S i : ℕ) → inSet S i ≡ false → bit S i ≡ 0
+unfolding inSet
+zero-of-in S i e = let n = eqb-false (bit S i) 1 e in omega (arith, bit-le S i)
 
 -- `&`: the lesser of the two bits
 pub bit-and : (S T i : ℕ) → bit (bitAnd S T) i ≡ min (bit S i) (bit T i)
@@ -98,6 +107,7 @@ bit-ext-below w S T hs ht h = bit-ext S T (λ i. go i (ltb i w) refl)
 
 -- ---- a single head
 
+-- 2^i has head i and no other
 pub bit-power : (i : ℕ) → bit (2 ^ i) i ≡ 1
 bit-power zero = bit-zero 1
 bit-power (suc i) = bit-suc (2 ^ suc i) i ∙ ap (λ (n : ℕ). bit n i) (omega arith) ∙ bit-power i
@@ -131,6 +141,7 @@ bit-complement (suc w) S (suc i) h k =
     ∙ bit-complement w (S / 2) i (omega arith) (omega arith)
     ∙ ap (λ (b : ℕ). 1 - b) (sym (bit-suc S i))
 
+-- `!S` is a mask of width w
 pub complement-lt : (w S : ℕ) → complement w S < 2 ^ w
 complement-lt w S = omega (arith, pow-pos w)
 
@@ -184,17 +195,27 @@ in-by-mask w S i h = ap (λ (n : ℕ). not (eqb n 0)) (test-mask w S i h) ∙ go
     go (inl z) = simp (z, eq-eqb (0 * 2 ^ i) 0 (omega arith))
     go (inr z) = simp (z, ne-eqb (1 * 2 ^ i) 0 (λ e. omega (arith, pow-pos i)))
 
+-- the same where a branch says whether it is zero
+pub zero-by-mask : (w S i : ℕ) → i < w → bitAnd S (shifted w i) ≡ 0 → bit S i ≡ 0
+zero-by-mask w S i h e = zero-of-in S i (sym (in-by-mask w S i h) ∙ ap not (eq-eqb (bitAnd S (shifted w i)) 0 e))
+
+pub one-by-mask : (w S i : ℕ) → i < w → (bitAnd S (shifted w i) ≡ 0 → ⊥) → bit S i ≡ 1
+one-by-mask w S i h n = one-of-in S i (sym (in-by-mask w S i h) ∙ ap not (ne-eqb (bitAnd S (shifted w i)) 0 n))
+
 -- ---- S with head i, `S | 1 << i`; S without it, `S & !(1 << i)`
 
+-- head i is in `S | 1 << i`, and the others are as in S
 pub bit-with : (w S i : ℕ) → i < w → bit (bitOr S (shifted w i)) i ≡ 1
 bit-with w S i h = omega (arith, bit-or S (shifted w i) i, bit-shifted w i h, bit-le S i)
 
 pub bit-with-other : (w S i j : ℕ) → i < w → (i ≡ j → ⊥) → bit (bitOr S (shifted w i)) j ≡ bit S j
 bit-with-other w S i j h k = omega (arith, bit-or S (shifted w i) j, bit-shifted-other w i j h k)
 
+-- `1 << i` is a mask of width w
 pub shifted-lt : (w i : ℕ) → shifted w i < 2 ^ w
 shifted-lt w i = mod-lt (1 * 2 ^ i) (pow-pos w)
 
+-- head i is not in `S & !(1 << i)`, and the others are as in S
 pub bit-without : (w S i : ℕ) → S < 2 ^ w → i < w → bit (bitAnd S (complement w (shifted w i))) i ≡ 0
 bit-without w S i hs h = omega (arith, bit-minus w S (shifted w i) i hs (shifted-lt w i), bit-shifted w i h, bit-le S i)
 
@@ -202,54 +223,46 @@ pub bit-without-other : (w S i j : ℕ) → S < 2 ^ w → i < w → (i ≡ j →
 bit-without-other w S i j hs h k =
     omega (arith, bit-minus w S (shifted w i) j hs (shifted-lt w i), bit-shifted-other w i j h k)
 
+-- of a mask of n heads: still one
+pub with-below : (w n S i : ℕ) → n ≤ w → S < 2 ^ n → i < n → bitOr S (shifted w i) < 2 ^ n
+with-below w n S i h hs k =
+    or-lt n S (shifted w i) hs (subst (λ (m : ℕ). m < 2 ^ n) (sym (shifted-is w i (omega arith))) (pow-lt k))
+
+pub without-below : (n S U : ℕ) → S < 2 ^ n → bitAnd S U < 2 ^ n
+without-below n S U hs = omega (arith, and-le-l S U)
+
 -- ---- the same as sets: a head is in the result exactly if ..
 
-pub in-of-one : (S i : ℕ) → bit S i ≡ 1 → inSet S i ≡ true
-unfolding inSet
-in-of-one S i e = eq-eqb (bit S i) 1 e
+-- an operation f on bits, and g on whether a head is in, agree
+abbrev Agree : (ℕ → ℕ → ℕ) → (Bool → Bool → Bool) → Type 0
+Agree f g =
+    (eqb (f 0 0) 1 ≡ g false false) × (eqb (f 0 1) 1 ≡ g false true) × (eqb (f 1 0) 1 ≡ g true false) × (eqb (f 1 1) 1 ≡ g true true)
 
-pub in-of-zero : (S i : ℕ) → bit S i ≡ 0 → inSet S i ≡ false
+in-by-bits : (f : ℕ → ℕ → ℕ) (g : Bool → Bool → Bool) → Agree f g → (R S T i : ℕ) → bit R i ≡ f (bit S i) (bit T i)
+    → inSet R i ≡ g (inSet S i) (inSet T i)
 unfolding inSet
-in-of-zero S i e = ne-eqb (bit S i) 1 (λ f. omega arith)
+in-by-bits f g same R S T i e = ap (λ (n : ℕ). eqb n 1) e ∙ go (bit-cases S i) (bit-cases T i)
+  where
+    go : (bit S i ≡ 0) ⊎ (bit S i ≡ 1) → (bit T i ≡ 0) ⊎ (bit T i ≡ 1) → eqb (f (bit S i) (bit T i)) 1 ≡ g (eqb (bit S i) 1) (eqb (bit T i) 1)
+    go (inl s) (inl t) = rw (s, t) (same .0)
+    go (inl s) (inr t) = rw (s, t) (same .1)
+    go (inr s) (inl t) = rw (s, t) (same .2)
+    go (inr s) (inr t) = rw (s, t) (same .3)
 
-pub one-of-in : (S i : ℕ) → inSet S i ≡ true → bit S i ≡ 1
-unfolding inSet
-one-of-in S i e = eqb-true (bit S i) 1 e
-
-pub zero-of-in : (S i : ℕ) → inSet S i ≡ false → bit S i ≡ 0
-unfolding inSet
-zero-of-in S i e = let n = eqb-false (bit S i) 1 e in omega (arith, bit-le S i)
-
+-- .. it is in S or in T
 pub in-or : (S T i : ℕ) → inSet (bitOr S T) i ≡ (inSet S i || inSet T i)
-unfolding inSet
-in-or S T i = go (bit-cases S i) (bit-cases T i)
-  where
-    go : (bit S i ≡ 0) ⊎ (bit S i ≡ 1) → (bit T i ≡ 0) ⊎ (bit T i ≡ 1) → eqb (bit (bitOr S T) i) 1 ≡ (eqb (bit S i) 1 || eqb (bit T i) 1)
-    go (inl s) (inl t) = simp (bit-or, s, t)
-    go (inl s) (inr t) = simp (bit-or, s, t)
-    go (inr s) (inl t) = simp (bit-or, s, t)
-    go (inr s) (inr t) = simp (bit-or, s, t)
+in-or S T i = in-by-bits max _||_ (refl, refl, refl, refl) (bitOr S T) S T i (bit-or S T i)
 
+-- .. it is in S and in T
 pub in-and : (S T i : ℕ) → inSet (bitAnd S T) i ≡ (inSet S i && inSet T i)
-unfolding inSet
-in-and S T i = go (bit-cases S i) (bit-cases T i)
-  where
-    go : (bit S i ≡ 0) ⊎ (bit S i ≡ 1) → (bit T i ≡ 0) ⊎ (bit T i ≡ 1) → eqb (bit (bitAnd S T) i) 1 ≡ (eqb (bit S i) 1 && eqb (bit T i) 1)
-    go (inl s) (inl t) = simp (bit-and, s, t)
-    go (inl s) (inr t) = simp (bit-and, s, t)
-    go (inr s) (inl t) = simp (bit-and, s, t)
-    go (inr s) (inr t) = simp (bit-and, s, t)
+in-and S T i = in-by-bits min _&&_ (refl, refl, refl, refl) (bitAnd S T) S T i (bit-and S T i)
 
+-- .. it is in S and not in T
 pub in-minus : (w S T i : ℕ) → S < 2 ^ w → T < 2 ^ w → inSet (bitAnd S (complement w T)) i ≡ (inSet S i && not (inSet T i))
-unfolding inSet
-in-minus w S T i hs ht = ap (λ (n : ℕ). eqb n 1) (bit-minus w S T i hs ht) ∙ go (bit-cases S i) (bit-cases T i)
-  where
-    go : (bit S i ≡ 0) ⊎ (bit S i ≡ 1) → (bit T i ≡ 0) ⊎ (bit T i ≡ 1) → eqb (bit S i - bit T i) 1 ≡ (eqb (bit S i) 1 && not (eqb (bit T i) 1))
-    go (inl s) (inl t) = simp (s, t)
-    go (inl s) (inr t) = simp (s, t)
-    go (inr s) (inl t) = simp (s, t)
-    go (inr s) (inr t) = simp (s, t)
+in-minus w S T i hs ht =
+    in-by-bits _-_ (λ a b. a && not b) (refl, refl, refl, refl) (bitAnd S (complement w T)) S T i (bit-minus w S T i hs ht)
 
+-- .. it is head i itself
 pub in-power : (i j : ℕ) → inSet (2 ^ i) j ≡ eqb j i
 in-power i j = go (eqb j i) refl
   where
@@ -268,6 +281,7 @@ in-ext S T h = bit-ext S T (λ i. go i (bit-cases T i))
     go i (inl z) = zero-of-in S i (h i ∙ in-of-zero T i z) ∙ sym z
     go i (inr z) = one-of-in S i (h i ∙ in-of-one T i z) ∙ sym z
 
+-- a head of w or more is in no mask of width w
 pub in-beyond : (w S i : ℕ) → S < 2 ^ w → w ≤ i → inSet S i ≡ false
 in-beyond w S i h k = in-of-zero S i (bit-beyond w S i h k)
 

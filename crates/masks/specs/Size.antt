@@ -1,17 +1,19 @@
 -- The number of heads of a set is the count of ones: a strict superset has more; a head added adds one, one taken away takes one.
-use Prim.Native.Nat.{ℕ, zero, suc, _+_, _-_, _*_, _/_, _%_, _^_, _≤_, _<_, min, max}
+use Prim.Native.Nat.{ℕ, zero, suc, _+_, _*_, _/_, _%_, _^_, _≤_, _<_, min, max}
 use native.Mathlib.Nat.{zero-mul}
 use native.Mathlib.Omega.{arith}
-use mathlib.Core.Path.{_≡_, refl, sym, ap, _∙_, subst}
-use mathlib.Core.Bool.{Bool, true, false}
+use mathlib.Core.Path.{_≡_, refl, sym, ap, _∙_}
+use mathlib.Core.Bool.{Bool, true, false, not}
 use lib.Arith.{bin-ind}
 use lib.Bits.{bitAnd, bitOr, and-shr, or-shr}
 use lib.Count.{ones, ones-step}
 use lib.Dec.{eqb}
-use borrow.Author.Tests.{eqb-true, eqb-false}
-use Rattle.masks.specs.Mask.{bit, Subset, size, shifted, complement}
-use Rattle.masks.specs.Operations.{bit-zero, bit-suc, bit-le, bit-and, bit-or, bit-ext, bit-power, shifted-is, test-mask, bit-with, bit-with-other, bit-without, bit-without-other}
+use borrow.Author.Tests.{eqb-true, eqb-false, not-true}
+use Rattle.masks.specs.Mask.{bit, Subset, size, subset, strictSubset, shifted, complement}
+use Rattle.masks.specs.Operations.{bit-zero, bit-suc, bit-and, bit-or, bit-ext, shifted-is, test-mask, bit-with, bit-with-other, bit-without, bit-without-other}
+use Rattle.masks.specs.Subset.{and-both, subset-yes}
 
+-- the empty set has no heads
 pub ones-of-zero : ones 0 ≡ 0
 unfolding ones
 ones-of-zero = refl
@@ -23,6 +25,7 @@ unfolding size
 size-low zero S = omega (arith, bit-zero S)
 size-low (suc w) S = omega (arith, size-low w S, bit-suc S w)
 
+-- counted head by head or by ones
 pub ones-size : (w S : ℕ) → S < 2 ^ w → ones S ≡ size w S
 unfolding size
 ones-size zero S h = ap ones (omega arith) ∙ ones-of-zero
@@ -66,6 +69,12 @@ ones-strict S T h k = go (eqb (ones S) (ones T)) refl
     go true e = absurd (k (ones-subset-eq S T h (eqb-true (ones S) (ones T) e)))
     go false e = let n = eqb-false (ones S) (ones T) e in omega (arith, ones-subset S T h)
 
+-- the same of the test that the code makes
+pub strict-more : (w S U : ℕ) → S < 2 ^ w → strictSubset w S U ≡ true → ones S < ones U
+strict-more w S U hs e =
+    let both = and-both (subset w S U) (not (eqb S U)) e in
+    ones-strict S U (subset-yes w S U hs .0 (both .0)) (λ same. eqb-false S U (not-true (eqb S U) (both .1)) same)
+
 -- ---- one head more, one head less
 
 half-or : (S T : ℕ) → bitOr S T / 2 ≡ bitOr (S / 2) (T / 2)
@@ -74,13 +83,20 @@ half-or S T = or-shr S T 1
 half-and : (S T : ℕ) → bitAnd S T / 2 ≡ bitAnd (S / 2) (T / 2)
 half-and S T = and-shr S T 1
 
+low-or : (S T : ℕ) → bitOr S T % 2 ≡ max (S % 2) (T % 2)
+low-or S T = omega (arith, bit-or S T 0, bit-zero (bitOr S T), bit-zero S, bit-zero T)
+
+low-and : (S T : ℕ) → bitAnd S T % 2 ≡ min (S % 2) (T % 2)
+low-and S T = omega (arith, bit-and S T 0, bit-zero (bitAnd S T), bit-zero S, bit-zero T)
+
 -- the heads of the join and of what is common are those of both
 pub ones-or-and : (S T : ℕ) → ones (bitOr S T) + ones (bitAnd S T) ≡ ones S + ones T
 ones-or-and =
     bin-ind (λ (n : ℕ). (T : ℕ) → ones (bitOr n T) + ones (bitAnd n T) ≡ ones n + ones T) (λ T. omega arith)
     (λ n ih T.
-    omega
-    (arith, ih (T / 2), ones-step (bitOr n T), ones-step (bitAnd n T), ap ones (half-or n T), ap ones (half-and n T), ones-step n, ones-step T, bit-zero (bitOr n T), bit-zero (bitAnd n T), bit-or n T 0, bit-and n T 0, bit-zero n, bit-zero T))
+    let or = ones-step (bitOr n T) ∙ ap (λ (m : ℕ). bitOr n T % 2 + ones m) (half-or n T) in
+    let and = ones-step (bitAnd n T) ∙ ap (λ (m : ℕ). bitAnd n T % 2 + ones m) (half-and n T) in
+    omega (arith, ih (T / 2), ones-step n, ones-step T, low-or n T, low-and n T))
 
 -- a single head
 pub ones-power : (i : ℕ) → ones (2 ^ i) ≡ 1

@@ -1,17 +1,18 @@
 -- Subset by bits, and as code tests it: `S & T == S`.
-use Prim.Native.Nat.{ℕ, zero, suc, _+_, _-_, _*_, _/_, _%_, _^_, _≤_, _<_, min, max}
-use native.Mathlib.Nat.{le-refl, le-trans, le-antisymm}
+use Prim.Native.Nat.{ℕ, zero, suc, _/_, _^_, _≤_, _<_}
+use native.Mathlib.Nat.{le-refl, le-trans, le-antisymm, eq-or-lt-of-le, le-of-suc-le-suc}
 use native.Mathlib.Omega.{arith}
 use mathlib.Core.Path.{_≡_, refl, sym, ap, _∙_, subst}
 use mathlib.Core.Bool.{Bool, true, false, not, _&&_, _||_}
-use mathlib.Core.Logic.{_⊎_, ⊎-elim, _↔_}
+use mathlib.Core.Logic.{⊎-elim, _↔_}
 use lib.Arith.{bin-ind}
 use lib.Bits.{bitAnd, bitOr}
 use lib.Dec.{T, eqb, ltb}
-use borrow.Author.Tests.{ltb-true, ltb-false, eq-eqb, ne-eqb}
-use Rattle.masks.specs.Mask.{bit, inSet, Subset, every, subset, complement}
-use Rattle.masks.specs.Operations.{bit-zero, bit-suc, bit-le, bit-and, bit-or, bit-ext, bit-minus, bit-beyond, lt-or-eq, in-of-one, one-of-in, zero-of-in}
+use borrow.Author.Tests.{ltb-true, ltb-false, eqb-true, eqb-false, eq-eqb, ne-eqb}
+use Rattle.masks.specs.Mask.{bit, inSet, Subset, every, subset, shifted, complement}
+use Rattle.masks.specs.Operations.{bit-zero, bit-suc, bit-le, bit-and, bit-or, bit-ext, bit-minus, bit-beyond, bit-power-other, shifted-lt, bit-with, bit-without, in-of-one, one-of-in, zero-of-in}
 
+-- an order on sets
 pub subset-refl : (S : ℕ) → Subset S S
 subset-refl S i = le-refl (bit S i)
 
@@ -51,6 +52,32 @@ subset-le =
     bin-ind (λ (n : ℕ). (T : ℕ) → Subset n T → n ≤ T) (λ T h. omega arith)
     (λ n ih T h. omega (arith, ih (T / 2) (λ i. subst (λ (a : ℕ). a ≤ bit (T / 2) i) (bit-suc n i) (subst (λ (b : ℕ). bit n (suc i) ≤ b) (bit-suc T i) (h (suc i)))), bit-zero n, bit-zero T, h 0))
 
+-- a strict subset is smaller as a number
+pub subset-lt : (S T : ℕ) → Subset S T → (S ≡ T → ⊥) → S < T
+subset-lt S T h n = let l = subset-le S T h in omega arith
+
+-- a head of S alone is a subset of S
+pub power-subset : (S i : ℕ) → bit S i ≡ 1 → Subset (2 ^ i) S
+power-subset S i e j = go (eqb i j) refl
+  where
+    go : (b : Bool) → eqb i j ≡ b → bit (2 ^ i) j ≤ bit S j
+    go true f = let same = eqb-true i j f in omega (arith, ap (bit S) same, bit-le (2 ^ i) j)
+    go false f = omega (arith, bit-power-other i j (eqb-false i j f))
+
+-- a join is a subset where both are
+pub or-subset : (S T U : ℕ) → Subset S U → Subset T U → Subset (bitOr S T) U
+or-subset S T U h k i = omega (arith, bit-or S T i, h i, k i)
+
+-- `S & !(1 << i)` of a head of S is smaller, and `S | 1 << i` of another head larger
+pub without-lt : (w S i : ℕ) → S < 2 ^ w → i < w → bit S i ≡ 1 → bitAnd S (complement w (shifted w i)) < S
+without-lt w S i hs h one =
+    subset-lt (bitAnd S (complement w (shifted w i))) S (minus-subset w S (shifted w i) hs (shifted-lt w i))
+    (λ e. omega (arith, ap (λ (n : ℕ). bit n i) e, bit-without w S i hs h))
+
+pub with-gt : (w S i : ℕ) → i < w → bit S i ≡ 0 → S < bitOr S (shifted w i)
+with-gt w S i h none =
+    subset-lt S (bitOr S (shifted w i)) (or-subset-left S (shifted w i)) (λ e. omega (arith, ap (λ (n : ℕ). bit n i) e, bit-with w S i h))
+
 -- ---- head by head
 
 -- S is a subset of T exactly if every head of S is in T
@@ -61,21 +88,23 @@ subset-by-heads S T h i = go (inSet S i) refl
     go true e = omega (arith, one-of-in S i e, one-of-in T i (h i e))
     go false e = omega (arith, zero-of-in S i e)
 
+-- and the other way
 pub subset-head : (S T : ℕ) → Subset S T → (i : ℕ) → inSet S i ≡ true → inSet T i ≡ true
 subset-head S T h i e = in-of-one T i (omega (arith, h i, one-of-in S i e, bit-le T i))
 
 -- ---- the test over the heads below w
 
-and-both : (a b : Bool) → (a && b) ≡ true → (a ≡ true) × (b ≡ true)
+pub and-both : (a b : Bool) → (a && b) ≡ true → (a ≡ true) × (b ≡ true)
 and-both true b e = (refl, e)
 and-both false b e = absurd (subst T (sym e) tt)
 
+-- the test holds exactly if it holds at each head below w
 pub every-at : (w : ℕ) (p : ℕ → Bool) → every w p ≡ true → (i : ℕ) → i < w → p i ≡ true
 unfolding every
 every-at zero p e i h = absurd (omega arith)
 every-at (suc w) p e i h =
     let both = and-both (every w p) (p w) e in
-    ⊎-elim (λ k. every-at w p (both .0) i k) (λ k. ap p k ∙ both .1) (lt-or-eq i w h)
+    ⊎-elim (λ k. ap p k ∙ both .1) (λ k. every-at w p (both .0) i k) (eq-or-lt-of-le (le-of-suc-le-suc h))
 
 pub every-of : (w : ℕ) (p : ℕ → Bool) → ((i : ℕ) → i < w → p i ≡ true) → every w p ≡ true
 unfolding every

@@ -77,7 +77,7 @@ pub fn is_strict_subset(a: usize, b: usize) -> bool
     if a == b {
         return false;
     }
-    a & b == a
+    is_subset(a, b)
 }
 
 // The number of heads in the set.

@@ -3,8 +3,7 @@ use Prim.Native.Nat.{_*_, _≤_}
 use native.Mathlib.Nat.{mul-le-mul}
 use native.Mathlib.Omega.{arith}
 use borrow.Author.Tests.{lt-ltb}
-use mathlib.Core.Path.{sym}
-use borrow.Author.Needs.{needs}
+use mathlib.Core.Path.{refl, sym}
 use Rattle.heads.proofs.below_square.Statement.{statement}
 use Rattle.heads.proofs.below_square.Tie as tie
 
@@ -14,7 +13,7 @@ mul-result c = let s = c .before .args .s in
     omega (arith, mul-le-mul h h)
 
 returns : tie.Need-returns
-returns c = search needs
+returns c = refl
 
 returns-2 : tie.Need-returns-2
 returns-2 c = let s = c .before .args .s in

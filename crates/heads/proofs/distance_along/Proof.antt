@@ -1,5 +1,4 @@
 -- `heads::distance_along` meets its contract: the difference of two i32 fits an i64, and so does what it is below zero.
-use mathlib.Core.Path.{_∙_}
 use mir.Syntax.{w32, w64}
 use mir.Facts.{toZ-ofZ, sfits-widen, fits-natAbs}
 use Rattle.heads.proofs.Signed.{widened, diff-fits, minus-fits, natAbs-minus, minus-nonNeg, nonNeg-of}

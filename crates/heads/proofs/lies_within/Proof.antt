@@ -1,5 +1,5 @@
 -- `heads::lies_within` meets its contract: by its first test.
-use mathlib.Core.Path.{sym, _∙_}
+use mathlib.Core.Path.{sym}
 use mir.Facts.{toZ-ofZ}
 use Rattle.heads.proofs.Signed.{within-below, within-rest}
 use Rattle.heads.proofs.lies_within.Statement.{statement}

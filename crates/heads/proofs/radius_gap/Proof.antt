@@ -1,5 +1,4 @@
 -- `heads::radius_gap` meets its contract: the larger radius less the smaller.
-use Prim.Native.Nat.{ℕ}
 use native.Mathlib.Omega.{arith}
 use Rattle.heads.specs.Relation.{gap}
 use borrow.Author.Needs.{needs}

@@ -17,11 +17,16 @@ capped-sum-requires : tie.Need-capped-sum-requires
 capped-sum-requires c κs = search needs
 
 returns : tie.Need-returns
-returns c = let s = c .before .before .before .before .before .before .before .args in
+returns c =
     let m = c .before .before .before .before in
     let n = c .before in
-    let dx = simp (read-back (s .a .x) (m .before .before .struct-told .given .0 .1), read-back (s .b .x) (m .before .struct-told2 .given .0 .1)) at (m .squared-difference .ensures) in
-    let dy = simp (read-back (s .a .y) (n .before .before .struct-told3 .given .1 .0 .1), read-back (s .b .y) (n .before .struct-told4 .given .1 .0 .1)) at (n .squared-difference2 .ensures) in
+    let s = m .before .before .before .args in
+    let ax = read-back (s .a .x) (m .before .before .struct-told .given .0 .1) in
+    let bx = read-back (s .b .x) (m .before .struct-told2 .given .0 .1) in
+    let ay = read-back (s .a .y) (n .before .before .struct-told3 .given .1 .0 .1) in
+    let by = read-back (s .b .y) (n .before .struct-told4 .given .1 .0 .1) in
+    let dx = simp (ax, bx) at (m .squared-difference .ensures) in
+    let dy = simp (ay, by) at (n .squared-difference2 .ensures) in
     c .capped-sum .ensures ∙ ap₂ (λ (p q : ℕ). min (p + q) greatest) dx dy
 
 pub squared-distance-spec : {M : Type 1} → statement M
