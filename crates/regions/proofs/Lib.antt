@@ -1,0 +1,5 @@
+pub mod Lists
+pub mod Masks
+pub mod Kept
+pub mod Rows
+pub mod Simulation

@@ -1,0 +1,3 @@
+pub mod Row
+pub mod Edit
+pub mod Run
