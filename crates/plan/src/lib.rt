@@ -6,6 +6,7 @@ ghost use mathlib.Core.Bool.{_&&_};
 ghost use lib.Dec.{leb, ltb};
 ghost use Rattle.plan.specs.Table.{numberOf, refusalOf, holds, within, examined};
 
+mod book;
 mod check;
 
 use heads::Head;
