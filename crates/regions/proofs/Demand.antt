@@ -27,6 +27,9 @@ use Rattle.regions.specs.Run.{Step}
 use Rattle.regions.specs.Run as Run
 use Rattle.regions.specs.Table.{Method, Sheet, headAt, areaAt, afresh, metBy, edited, leaves, sheetStep, bookStep}
 use Rattle.regions.specs.Demand.{Faithful, AfreshRows, Ends, ListEndsAfresh, Reworks, EditReworksExactly, RefusedLeavesAll}
+use Rattle.masks.specs.Operations.{in-power}
+use Rattle.masks.specs.Gather.{in-gather}
+use Rattle.regions.proofs.Masks.{overlap-at, overlap-none, head-below}
 use Rattle.regions.proofs.Rows.{edited-afresh}
 use Rattle.regions.proofs.Simulation.{simulates}
 
@@ -138,3 +141,102 @@ list-ends-afresh m f needed p ten taken rows fresh es =
       planned = end .1 .plan ∙ book-after needed es p;
       fresh = subst (λ q. AfreshRows m q (Run.after (sheetStep m needed) (record { plan = p; rows = rows }) es .rows)) (book-after needed es p) (end .1 .fresh);
     }
+
+-- ---- one edit
+
+module _ (m : Method) (p : Plan) (e : Edit) (rows : ℕ → Row) where
+  -- whether head j, not the edited one, was met before or after
+  met-at : (j : ℕ) → j < p .n → (j ≡ e .head → ⊥)
+      → inSet (metBy p e) j ≡ (meetsOf (headAt p (e .head)) (headAt p j) || (meetsOf (headOf e) (headAt p j) || false))
+  unfolding met meetsAny
+  met-at j hj n = in-gather (p .n) _ j hj ∙ ap (λ b. not b && (meetsOf (headAt p (e .head)) (headAt p j) || (meetsOf (headOf e) (headAt p j) || false))) (ne-eqb j (e .head) n)
+
+  -- a set after the edit whose row is worked out
+  row-reworked : (S : ℕ) → 0 < S → S < 2 ^ p .n → m .sets (applied p e) S ≡ true → reworked (2 ^ e .head) (metBy p e) (m .sets p) S ≡ true
+      → edited m p e rows S ≡ present (areaAt m (applied p e) S)
+  unfolding edited editedRow
+  row-reworked zero z h a r = absurd (omega arith)
+  row-reworked (suc S) z h a r = rw (lt-ltb (suc S) (2 ^ p .n) h, a, r)
+
+  -- a set after the edit whose row is kept
+  row-kept : (S : ℕ) → 0 < S → S < 2 ^ p .n → m .sets (applied p e) S ≡ true → reworked (2 ^ e .head) (metBy p e) (m .sets p) S ≡ false
+      → edited m p e rows S ≡ present (rows S .number)
+  unfolding edited editedRow
+  row-kept zero z h a r = absurd (omega arith)
+  row-kept (suc S) z h a r = rw (lt-ltb (suc S) (2 ^ p .n) h, a, r)
+
+  row-gone : (S : ℕ) → 0 < S → S < 2 ^ p .n → m .sets (applied p e) S ≡ false → edited m p e rows S ≡ absent
+  unfolding edited editedRow
+  row-gone zero z h a = absurd (omega arith)
+  row-gone (suc S) z h a = rw (lt-ltb (suc S) (2 ^ p .n) h, a)
+
+  row-ground : edited m p e rows 0 ≡ present (rows 0 .number)
+  unfolding edited editedRow
+  row-ground = rw (lt-ltb 0 (2 ^ p .n) (pow-pos (p .n)))
+
+  row-beyond : (S : ℕ) → 2 ^ p .n ≤ S → edited m p e rows S ≡ rows S
+  unfolding edited
+  row-beyond S h = rw (le-ltb S (2 ^ p .n) h)
+
+  by-own : (S : ℕ) → inSet S (e .head) ≡ true → reworked (2 ^ e .head) (metBy p e) (m .sets p) S ≡ true
+  unfolding reworked
+  by-own S i = rw (overlap-at S (2 ^ e .head) (e .head) i (in-power (e .head) (e .head) ∙ borrow.Author.Tests.eq-eqb (e .head) (e .head) refl))
+
+  by-newly : (S : ℕ) → m .sets p S ≡ false → reworked (2 ^ e .head) (metBy p e) (m .sets p) S ≡ true
+  unfolding reworked
+  by-newly S b = rw (b, or-true)
+
+  by-met : (S j : ℕ) → S < 2 ^ p .n → isSingle S ≡ false → inSet S j ≡ true → (j ≡ e .head → ⊥)
+      → (meetsOf (headAt p (e .head)) (headAt p j) ≡ true) ⊎ (meetsOf (headOf e) (headAt p j) ≡ true)
+      → reworked (2 ^ e .head) (metBy p e) (m .sets p) S ≡ true
+  unfolding reworked
+  by-met S j h s i n w =
+      rw (s, overlap-at S (metBy p e) j i (met-at j (head-below S (p .n) j h i) n ∙ either w), or-true, or-true)
+    where
+      either : (meetsOf (headAt p (e .head)) (headAt p j) ≡ true) ⊎ (meetsOf (headOf e) (headAt p j) ≡ true)
+          → (meetsOf (headAt p (e .head)) (headAt p j) || (meetsOf (headOf e) (headAt p j) || false)) ≡ true
+      either (inl t) = rw t
+      either (inr t) = rw (t, or-true)
+
+  by-none : (S : ℕ) → S < 2 ^ p .n → m .sets p S ≡ true → inSet S (e .head) ≡ false
+      → (isSingle S ≡ true) ⊎ ((j : ℕ) → inSet S j ≡ true
+      → (meetsOf (headAt p (e .head)) (headAt p j) ≡ false) × (meetsOf (headOf e) (headAt p j) ≡ false))
+      → reworked (2 ^ e .head) (metBy p e) (m .sets p) S ≡ false
+  unfolding reworked
+  by-none S h b out w = rw (overlap-none S (2 ^ e .head) not-own, b) (single w)
+    where
+      other : (j : ℕ) → inSet S j ≡ true → j ≡ e .head → ⊥
+      other j i q = true≢false (sym i ∙ ap (inSet S) q ∙ out)
+
+      not-own : (j : ℕ) → inSet S j ≡ true → inSet (2 ^ e .head) j ≡ false
+      not-own j i = in-power (e .head) j ∙ ne-eqb j (e .head) (other j i)
+
+      single : (isSingle S ≡ true) ⊎ ((j : ℕ) → inSet S j ≡ true
+          → (meetsOf (headAt p (e .head)) (headAt p j) ≡ false) × (meetsOf (headOf e) (headAt p j) ≡ false))
+          → (not (isSingle S) && overlaps S (metBy p e)) ≡ false
+      single (inl s) = rw s
+      single (inr c) =
+          ap (λ b. not (isSingle S) && b)
+          (overlap-none S (metBy p e) (λ j i. met-at j (head-below S (p .n) j h i) (other j i) ∙ rw (c j i .0, c j i .1)))
+          ∙ and-false (not (isSingle S))
+
+-- demand 3, second half
+pub edit-reworks-exactly : EditReworksExactly
+edit-reworks-exactly m p e rows = record {
+  ground = row-ground m p e rows;
+  gone = row-gone m p e rows;
+  own = λ S z h a i. row-reworked m p e rows S z h a (by-own m p e rows S i);
+  newly = λ S z h a b. row-reworked m p e rows S z h a (by-newly m p e rows S b);
+  met = λ S j z h a s i n w. row-reworked m p e rows S z h a (by-met m p e rows S j h s i n w);
+  kept = λ S z h a b i w. row-kept m p e rows S z h a (by-none m p e rows S h b i w);
+  beyond = row-beyond m p e rows;
+}
+
+-- a refused edit leaves all
+pub refused-leaves-all : RefusedLeavesAll
+unfolding sheetStep
+refused-leaves-all m needed s e n = go (editAnswer (s .plan) (e .edit) needed (e .lent)) n
+  where
+    go : (a : Answer) → (a ≡ Taken → ⊥) → leaves a s (record { plan = applied (s .plan) (e .edit); rows = edited m (s .plan) (e .edit) (s .rows) }) ≡ s
+    go Taken n = absurd (n refl)
+    go (Refused r at) n = refl
