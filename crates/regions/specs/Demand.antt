@@ -56,9 +56,9 @@ pub record Reworks (m : Method) (p : Plan) (e : Edit) (rows : ℕ → Row) : Typ
   -- a set with the edited head is worked out
   pub own : (S : ℕ) → 0 < S → S < 2 ^ p .n → m .sets (applied p e) S ≡ true → inSet S (e .head) ≡ true
       → edited m p e rows S ≡ present (areaAt m (applied p e) S)
-  -- A set newly present is worked out, even where the edited head meets nobody. Heads (0,0,50), (30,0,50), (0,30,50), (0,0,1000),
-  -- (0,0,2000): moving the last to (9000,0) makes the set of the first three present by itself, since their points are no longer
-  -- adopted by it, and the edited head meets none of them, before or after.
+  -- A set newly present is worked out, even where the edited head meets nobody. Of heads (0,0,50), (30,0,50), (0,30,50), (0,0,1000),
+  -- (0,0,2000) move the last to (9000,0): it meets none before or after, and yet the set of the first three becomes present, since
+  -- their common points are then adopted by one large head and no more by two.
   pub newly : (S : ℕ) → 0 < S → S < 2 ^ p .n → m .sets (applied p e) S ≡ true → m .sets p S ≡ false
       → edited m p e rows S ≡ present (areaAt m (applied p e) S)
   -- a set of two heads or more with a head met before or after is worked out
