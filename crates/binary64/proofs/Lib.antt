@@ -3,3 +3,5 @@ pub mod Units
 pub mod Patterns
 pub mod Rounding
 pub mod Operations
+pub mod Magnitude
+pub mod Error

@@ -1,25 +1,22 @@
 -- What +, -, * and / give in units: each is the `Result` of a signed fraction, and three laws say of every `Result` that it is `Rounded`, when it is
 -- finite, and how large it is. Then the magnitude and the sign of a product and a quotient. Rests on Units, Rounding and lib.Ieee.{Exact, Scale}.
 use mathlib.Core.Path.{_≡_, refl, sym, ap, ap₂, _∙_, subst}
-use mathlib.Core.Logic.{_⊎_, inl, inr}
-use Prim.Native.Nat.{ℕ, zero, suc, _+_, _-_, _*_, _/_, _%_, _^_, _≤_, _<_, zero-le}
-use native.Mathlib.Nat.{le-refl, le-trans, le-of-eq, le-of-lt, lt-of-le-of-lt, mul-one, mul-comm, mul-assoc, mul-left-comm, mul-pos, add-mul, zero-mul, mul-sub, eq-zero-or-pos, mul-le-mul-right, le-of-mul-le-mul-right, mul-mul-mul-comm, eq-of-mul-eq-mul-right}
+use Prim.Native.Nat.{ℕ, _+_, _-_, _*_, _/_, _^_, _≤_, _<_}
+use native.Mathlib.Nat.{le-trans, le-of-eq, le-of-lt, lt-of-le-of-lt, mul-one, mul-comm, mul-assoc, mul-left-comm, mul-pos, add-mul, mul-sub, mul-le-mul-right, le-of-mul-le-mul-right, mul-mul-mul-comm, eq-of-mul-eq-mul-right}
 use native.Mathlib.Omega.{arith}
-use mathlib.Core.Bool.{Bool, true, false, not, _&&_, Bool·beq, cond, true≢false, false≢true}
-use lib.Dec.{T, ltb, eqb, ltb→lt, nltb→le, eqb→eq, not-T, lt→ltb}
-use lib.IntN.{ℤ}
+use mathlib.Core.Bool.{Bool, true, false, not, cond, true≢false, false≢true}
+use lib.Dec.{T, ltb, eqb, ltb→lt, nltb→le, eqb→eq, not-T}
 use lib.Ieee.{Float, nan, inf, fin, binary64, up, down, unlike, fits, odd, units, round, sum, add, sub, mul, div, neg}
 use lib.Ieee.Exact.{HasValue, units-val}
-use lib.Ieee.Fits.{round-is, round-fits, up-pos, down-pos, add-fits, sub-fits, mul-fits, div-fits}
+use lib.Ieee.Fits.{round-is, round-fits, up-pos, down-pos}
 use lib.Ieee.Bits.{cond-no}
 use lib.Ieee.Positive.{first-pos}
 use lib.Ieee.Order.{drop, kept}
 use lib.Ieee.Scale.{finite, round-same}
-use Rattle.binary64.specs.Units.{pow2, one, limit, Finite, mag, negative, plus, minus, ofUnits, Digits53}
-use Rattle.binary64.specs.Rounding.{rnd, Rounded, Near, Result}
-use Rattle.binary64.proofs.Naturals.{lt-or-ge}
-use Rattle.binary64.proofs.Units.{crossed, one-is, one-pos, limit-pow, mag-exact, mag-value, value-mag, value-sign, value-finite, plus-is, minus-is, plus-sign, minus-sign, plus-minus, neg-finite, neg-plus, neg-minus, neg-sign, neg-mag}
-use Rattle.binary64.proofs.Rounding.{rnd-is, rnd-same, rnd-le, rnd-zero, plus-le, minus-le}
+use Rattle.binary64.specs.Units.{one, limit, Finite, mag, negative, plus, minus, Digits53}
+use Rattle.binary64.specs.Rounding.{rnd, Rounded, Result}
+use Rattle.binary64.proofs.Units.{crossed, one-is, one-pos, limit-pow, mag-exact, value-mag, value-sign, value-finite, plus-is, minus-is, plus-sign, minus-sign, neg-finite, neg-plus, neg-minus}
+use Rattle.binary64.proofs.Rounding.{rnd-is, rnd-same, rnd-le, rnd-zero}
 
 -- ---- `round` in units
 
@@ -54,6 +51,16 @@ module _ (s : Bool) (a c : ℕ) where
   round-below t =
       subst (λ (l : ℕ). rnd (a * one) c < l) (sym limit-pow)
       (subst (λ (n : ℕ). n < 2 ^ 2098) is-rnd (units-finite s digits zeros (subst (λ (z : Float). T (finite z)) (round-is binary64 s a c) t)))
+
+  -- It is finite, and at most w units, where w has 53 digits, is below the limit, and bounds the fraction.
+  pub round-finite : {w : ℕ} → 0 < c → Digits53 w → w < limit → a * one ≤ w * c → Finite (round binary64 s a c)
+  round-finite C d l h = value-finite (round binary64 s a c) s (rnd (a * one) c) one (round-fits binary64 s a c) (round-value (lt-of-le-of-lt (rnd-le (a * one) c C d h) l))
+
+  pub round-mag : Finite (round binary64 s a c) → mag (round binary64 s a c) ≡ rnd (a * one) c
+  round-mag f = value-mag (round binary64 s a c) s (rnd (a * one) c) (round-value (round-below (f .number)))
+
+  pub round-sign : Finite (round binary64 s a c) → negative (round binary64 s a c) ≡ s
+  round-sign f = value-sign (round binary64 s a c) s (rnd (a * one) c) one (round-value (round-below (f .number)))
 
 -- ---- every Result
 
@@ -172,9 +179,13 @@ add-result {x = fin s m e} {y = fin t n d} h k =
     (sym (ap (λ (z : ℕ). mag (fin t n d) * z) (mul-comm (down e) (down d)) ∙ crossed (n * up d) (down d) (down e) (mag (fin t n d)) one (mag-exact t n d (k .fit))))
     s t
 
-pub sub-result : {x y : Float} → Finite x → Finite y → Result (sub binary64 x y) (plus x + minus y) (minus x + plus y) 1
+-- x - y is x + (-y), and so plus and minus of y change places.
+pub sub-is : (x y : Float) → sub binary64 x y ≡ add binary64 x (neg y)
 unfolding sub
-sub-result {x} {y} h k = rw (neg-plus k, neg-minus k) at (add-result h (neg-finite k))
+sub-is x y = refl
+
+pub sub-result : {x y : Float} → Finite x → Finite y → Result (sub binary64 x y) (plus x + minus y) (minus x + plus y) 1
+sub-result {x} {y} h k = rw (sub-is x y) (rw (neg-plus k, neg-minus k) at (add-result h (neg-finite k)))
 
 -- ---- the product and the quotient
 
@@ -250,22 +261,19 @@ div-result-minus {x} {y} h k Y =
 
 -- ---- magnitude and sign of a product and a quotient, that of a zero included
 
-round-number : (s : Bool) (a c : ℕ) (z : Float) → z ≡ round binary64 s a c → Finite z → HasValue z s (rnd (a * one) c) one
-round-number s a c z e f = subst (λ (x : Float). HasValue x s (rnd (a * one) c) one) (sym e) (round-value s a c (round-below s a c (subst (λ (x : Float). T (finite x)) e (f .number))))
+module _ {x y : Float} (h : Finite x) (k : Finite y) where
+  pub mul-sign : Finite (mul binary64 x y) → negative (mul binary64 x y) ≡ unlike (negative x) (negative y)
+  mul-sign = subst (λ (z : Float). Finite z → negative z ≡ unlike (negative x) (negative y)) (sym (mul-round h k)) (round-sign (unlike (negative x) (negative y)) (mag x * mag y) (one * one))
 
-pub mul-sign : {x y : Float} → Finite x → Finite y → Finite (mul binary64 x y) → negative (mul binary64 x y) ≡ unlike (negative x) (negative y)
-mul-sign {x} {y} h k f =
-    value-sign (mul binary64 x y) (unlike (negative x) (negative y)) (rnd (mag x * mag y * one) (one * one)) one (round-number (unlike (negative x) (negative y)) (mag x * mag y) (one * one) (mul binary64 x y) (mul-round h k) f)
+  pub mul-mag : Finite (mul binary64 x y) → mag (mul binary64 x y) ≡ rnd (mag x * mag y) one
+  mul-mag =
+      subst (λ (z : Float). Finite z → mag z ≡ rnd (mag x * mag y) one) (sym (mul-round h k))
+      (λ (f : Finite (round binary64 (unlike (negative x) (negative y)) (mag x * mag y) (one * one))).
+      round-mag (unlike (negative x) (negative y)) (mag x * mag y) (one * one) f
+      ∙ rnd-same (mag x * mag y * one) (one * one) (mag x * mag y) one (mul-pos one-pos one-pos) one-pos (mul-assoc (mag x * mag y) one one))
 
-pub mul-mag : {x y : Float} → Finite x → Finite y → Finite (mul binary64 x y) → mag (mul binary64 x y) ≡ rnd (mag x * mag y) one
-mul-mag {x} {y} h k f =
-    value-mag (mul binary64 x y) (unlike (negative x) (negative y)) (rnd (mag x * mag y * one) (one * one)) (round-number (unlike (negative x) (negative y)) (mag x * mag y) (one * one) (mul binary64 x y) (mul-round h k) f)
-    ∙ rnd-same (mag x * mag y * one) (one * one) (mag x * mag y) one (mul-pos one-pos one-pos) one-pos (mul-assoc (mag x * mag y) one one)
+  pub div-sign : 0 < mag y → Finite (div binary64 x y) → negative (div binary64 x y) ≡ unlike (negative x) (negative y)
+  div-sign Y = subst (λ (z : Float). Finite z → negative z ≡ unlike (negative x) (negative y)) (sym (div-round h k Y)) (round-sign (unlike (negative x) (negative y)) (mag x) (mag y))
 
-pub div-sign : {x y : Float} → Finite x → Finite y → 0 < mag y → Finite (div binary64 x y) → negative (div binary64 x y) ≡ unlike (negative x) (negative y)
-div-sign {x} {y} h k Y f =
-    value-sign (div binary64 x y) (unlike (negative x) (negative y)) (rnd (mag x * one) (mag y)) one (round-number (unlike (negative x) (negative y)) (mag x) (mag y) (div binary64 x y) (div-round h k Y) f)
-
-pub div-mag : {x y : Float} → Finite x → Finite y → 0 < mag y → Finite (div binary64 x y) → mag (div binary64 x y) ≡ rnd (mag x * one) (mag y)
-div-mag {x} {y} h k Y f =
-    value-mag (div binary64 x y) (unlike (negative x) (negative y)) (rnd (mag x * one) (mag y)) (round-number (unlike (negative x) (negative y)) (mag x) (mag y) (div binary64 x y) (div-round h k Y) f)
+  pub div-mag : 0 < mag y → Finite (div binary64 x y) → mag (div binary64 x y) ≡ rnd (mag x * one) (mag y)
+  div-mag Y = subst (λ (z : Float). Finite z → mag z ≡ rnd (mag x * one) (mag y)) (sym (div-round h k Y)) (round-mag (unlike (negative x) (negative y)) (mag x) (mag y))
