@@ -1,4 +1,5 @@
 pub mod Naturals
+pub mod Values
 pub mod Units
 pub mod Patterns
 pub mod Rounding

@@ -1,3 +1,4 @@
 pub mod Units
 pub mod Rounding
 pub mod Magnitude
+pub mod Whole
