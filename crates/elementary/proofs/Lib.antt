@@ -7,3 +7,4 @@ pub mod Neighbours
 pub mod Cases
 pub mod Leading
 pub mod Promise
+pub mod Squares
