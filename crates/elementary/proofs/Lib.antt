@@ -8,3 +8,4 @@ pub mod Cases
 pub mod Leading
 pub mod Promise
 pub mod Squares
+pub mod Integers
