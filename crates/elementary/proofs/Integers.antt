@@ -8,12 +8,15 @@ use native.Mathlib.Nat.{le-trans, le-of-eq, le-of-lt, mul-one, mul-assoc, mul-co
 use native.Mathlib.Omega.{arith}
 use lib.Dec.{T}
 use lib.IntN.{pos}
-use lib.Ieee.{Float, binary64, ofInt}
+use lib.Ieee.{Float, nan, inf, fin, binary64, up, down, round, ofInt}
+use lib.Ieee.Back.{round-whole}
+use lib.Ieee.Exact.{HasValue}
+use lib.Ieee.Fits.{round-fits}
 use Rattle.binary64.specs.Units.{pow2, one, mag, negative, minus, Finite, Digits53}
 use Rattle.binary64.proofs.Naturals.{lt-or-ge}
-use Rattle.binary64.proofs.Units.{pow2-is, pow2-pos, pow2-split, digits53}
+use Rattle.binary64.proofs.Units.{pow2-is, pow2-pos, pow2-split, digits53, value-finite, value-sign, value-mag, same-float, plus-is}
 use Rattle.elementary.specs.Root.{root}
-use Rattle.elementary.proofs.Squares.{at-most, at-least}
+use Rattle.elementary.proofs.Squares.{at-most, at-least, root-finite, root-sign}
 
 -- c of 2 ^ k units is a number of at most 53 digits
 grid : (c k : ℕ) → c ≤ 2 ^ 53 → Digits53 (c * pow2 k)
@@ -123,3 +126,31 @@ module _ {x : Float} (f : Finite x) (m : minus x ≡ 0) (n : ℕ) (w : mag x ≡
         where
           short : (a p r : ℕ) → 0 < p → r + 1 * p ≤ a → a ≤ r → ⊥
           short a p r q u v = omega arith
+
+-- ---- whole numbers as floats
+
+-- a whole number up to 2 ^ 53 as a float, in units
+pub ofInt-units : (n : ℕ) → n ≤ 2 ^ 53 → Finite (ofInt binary64 (pos n)) × (negative (ofInt binary64 (pos n)) ≡ false) × (mag (ofInt binary64 (pos n)) ≡ n * one)
+unfolding ofInt
+ofInt-units n h =
+    let x = round binary64 false n 1 in
+    let v = round-whole binary64 false n h in
+    (value-finite x false n 1 (round-fits binary64 false n 1) v, value-sign x false n 1 v, value-mag x false (n * one) (in-units x v))
+  where
+    in-units : (x : Float) → HasValue x false n 1 → HasValue x false (n * one) one
+    in-units nan v = v
+    in-units (inf s) v = v
+    in-units (fin s m e) v = (v .0, ap (λ (z : ℕ). z * one) (sym (mul-one (m * up e)) ∙ v .1) ∙ mul-right-comm n (down e) one)
+
+-- The root of a perfect square is the whole number.
+pub root-square : (s : ℕ) → s * s ≤ 2 ^ 53 → root (ofInt binary64 (pos (s * s))) ≡ ofInt binary64 (pos s)
+root-square s h =
+    let l : s ≤ 2 ^ 53 = le-trans (self s) h in
+    let a = ofInt-units (s * s) h in
+    let b = ofInt-units s l in
+    let r = root-finite (ofInt binary64 (pos (s * s))) (a .0 .fit) in
+    same-float r (b .0) (root-sign _ (a .0 .fit) (a .1) ∙ sym (b .1)) (whole-square (a .0) (plus-is _ (a .1) .1) (s * s) (a .2) s l refl ∙ sym (b .2))
+  where
+    self : (s : ℕ) → s ≤ s * s
+    self zero = omega arith
+    self (suc s) = omega arith

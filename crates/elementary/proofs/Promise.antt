@@ -47,7 +47,8 @@ module _ {x : Float} (f : Finite x) (s : negative x ≡ false) (p : 0 < mag x) w
     above = λ u g h. subst (λ (r : ℕ). 4 * (mag x * one) < (mag u + r) * (mag u + r)) (sym positive-mag)
         (neighbour-above (mag x) p (mag-digits f) (mag u) (mag-digits g) (subst (λ (r : ℕ). r < mag u) positive-mag h));
     below = λ u g h. subst (λ (r : ℕ). (mag u + r) * (mag u + r) < 4 * (mag x * one)) (sym positive-mag)
-        (neighbour-below (mag x) p (mag-digits f) (mag u) (mag-digits g) (subst (λ (r : ℕ). mag u < r) positive-mag h)) }
+        (neighbour-below (mag x) p (mag-digits f) (mag u) (mag-digits g) (subst (λ (r : ℕ). mag u < r) positive-mag h));
+  }
 
 -- ---- the cases
 
@@ -98,4 +99,5 @@ root-promise = record {
   zeros = λ s. refl;
   negatives = below-zero;
   no-number = refl;
-  infinities = λ s. refl }
+  infinities = λ s. refl;
+}

@@ -45,6 +45,15 @@ root-minus (fin false zero e) f = refl
 root-minus (fin true (suc m) e) f = refl
 root-minus (fin false (suc m) e) f = plus-is (root (fin false (suc m) e)) (positive-sign (record { fit = f; number = tt }) refl (some-units false m e f)) .1
 
+-- The root of a number without a sign has none.
+pub root-sign : (x : Float) → T (fits binary64 x) → negative x ≡ false → negative (root x) ≡ false
+unfolding root
+root-sign nan f h = refl
+root-sign (inf s) f h = refl
+root-sign (fin s zero e) f h = h
+root-sign (fin true (suc m) e) f h = refl
+root-sign (fin false (suc m) e) f h = positive-sign (record { fit = f; number = tt }) refl (some-units false m e f)
+
 -- ---- in units
 
 zero-root : (x : Float) → Finite x → mag x ≡ 0 → root x ≡ x
