@@ -77,20 +77,25 @@ fn positive(bits: u64) -> f64
 }
 
 // A guess at the root of the positive finite number with the given bits, promised nothing: for a
-// normal number its digits are those of the root, or one off. Newton's steps for 1 / root(x), from a
-// first guess in the bits (off by at most 2^-4.8, then 2^-9, 2^-17, 2^-34), and one from
-// x / root(x) to the root.
+// normal number its digits are those of the root, or one off. From a first guess in the bits r goes
+// to 1 / root(x) and y to root(x), both times 2, 16 and 8192, by Newton's factor 3 - y * r (off by
+// at most 2^-4.8, then 2^-9, 2^-17, 2^-34); the last step takes up what rounding left.
 fn guess(bits: u64) -> f64
     requires { ⌜ bits < 2047 * 2 ^ 52 ⌝ }
 {
     let x = f64::from_bits(bits);
-    let half = 0.5 * x;
     let r0 = f64::from_bits(0x5FE6_EB50_C7B5_37A9 - (bits >> 1));
-    let r1 = r0 * (1.5 - half * r0 * r0);
-    let r2 = r1 * (1.5 - half * r1 * r1);
-    let r3 = r2 * (1.5 - half * r2 * r2);
-    let y = x * r3;
-    y + 0.5 * r3 * (x - y * y)
+    let y0 = x * r0;
+    let t0 = 3.0 - y0 * r0;
+    let r1 = r0 * t0;
+    let y1 = y0 * t0;
+    let t1 = 12.0 - y1 * r1;
+    let r2 = r1 * t1;
+    let y2 = y1 * t1;
+    let t2 = 768.0 - y2 * r2;
+    let half = r2 * 0.00006103515625 * t2;
+    let y = y2 * 0.0001220703125 * t2;
+    y + half * (x - y * y)
 }
 
 // The whole number nearest to the root of m * 2^52: the digits of a guess, settled by exact
