@@ -8,19 +8,13 @@ use native.Mathlib.Nat.{le-trans, le-of-eq, le-of-lt, mul-one, mul-assoc, mul-co
 use native.Mathlib.Omega.{arith}
 use lib.Dec.{T}
 use lib.IntN.{pos}
-use lib.Ieee.{Float, nan, inf, fin, binary64, up, down, round, ofInt}
-use lib.Ieee.Back.{round-whole}
-use lib.Ieee.Exact.{HasValue}
-use lib.Ieee.Fits.{round-fits}
+use lib.Ieee.{Float, binary64, ofInt}
 use Rattle.binary64.specs.Units.{pow2, one, mag, negative, minus, Finite, Digits53}
 use Rattle.binary64.proofs.Naturals.{lt-or-ge}
-use Rattle.binary64.proofs.Units.{pow2-is, pow2-pos, pow2-split, digits53, value-finite, value-sign, value-mag, same-float, plus-is}
+use Rattle.binary64.proofs.Units.{pow2-pos, pow2-split, same-float}
+use Rattle.binary64.proofs.Whole.{ofInt-finite, ofInt-mag, ofInt-sign, ofInt-pos}
 use Rattle.elementary.specs.Root.{root}
-use Rattle.elementary.proofs.Squares.{at-most, at-least, root-finite, root-sign}
-
--- c of 2 ^ k units is a number of at most 53 digits
-grid : (c k : ℕ) → c ≤ 2 ^ 53 → Digits53 (c * pow2 k)
-grid c k h = subst (λ (p : ℕ). Digits53 (c * p)) (sym (pow2-is k)) (digits53 c k h)
+use Rattle.elementary.proofs.Squares.{root-most, root-least, root-finite, root-sign}
 
 -- the squares, with the units taken out
 square-units : (c K : ℕ) → c * K * (c * K) ≡ c * c * (K * K)
@@ -56,14 +50,16 @@ module _ {x : Float} (f : Finite x) (m : minus x ≡ 0) (n : ℕ) (w : mag x ≡
   -- n up to a square has a root up to that of the square,
   pub whole-le : (s : ℕ) → s ≤ 2 ^ 53 → n ≤ s * s → mag (root x) ≤ s * one
   whole-le s l h =
-      at-most f m (s * one) (grid s 1074 l)
+      root-most f m s 1074 l
       (le-trans (le-of-eq (ap (λ (z : ℕ). z * one) w ∙ mul-assoc n one one)) (le-trans (mul-le-mul-right (one * one) h) (le-of-eq (sym (square-units s one)))))
+      .bound
 
   -- and n from a square on a root from that of the square on.
   pub whole-ge : (s : ℕ) → s ≤ 2 ^ 53 → s * s ≤ n → s * one ≤ mag (root x)
   whole-ge s l h =
-      at-least f m (s * one) (grid s 1074 l)
+      root-least f m s 1074 l
       (le-trans (le-of-eq (square-units s one)) (le-trans (mul-le-mul-right (one * one) h) (le-of-eq (sym (ap (λ (z : ℕ). z * one) w ∙ mul-assoc n one one)))))
+      .bound
 
   -- Perfect squares are exact.
   pub whole-square : (s : ℕ) → s ≤ 2 ^ 53 → n ≡ s * s → mag (root x) ≡ s * one
@@ -82,8 +78,7 @@ module _ {x : Float} (f : Finite x) (m : minus x ≡ 0) (n : ℕ) (w : mag x ≡
         let P = 2 ^ i in
         let K = pow2 k in
         le-trans (le-of-eq (ap (λ (z : ℕ). s * z + e * K) units-in ∙ ap (λ (z : ℕ). z + e * K) (sym (mul-assoc s P K)) ∙ sym (add-mul (s * P) e K)))
-        (at-least f m ((s * P + e) * K) (grid (s * P + e) k l)
-        (le-trans (le-of-eq (square-units (s * P + e) K)) (le-trans (mul-le-mul-right (K * K) (over n s e P h g)) (le-of-eq (sym radicand-in)))))
+        (root-least f m (s * P + e) k l (le-trans (le-of-eq (square-units (s * P + e) K)) (le-trans (mul-le-mul-right (K * K) (over n s e P h g)) (le-of-eq (sym radicand-in)))) .bound)
 
     -- An n short of the square of s has a root short of s by e / 2 ^ i, whenever 2 * s * e ≤ 2 ^ i.
     pub shortfall : s * 2 ^ i ≤ 2 ^ 53 → n + 1 ≤ s * s → 2 * s * e ≤ 2 ^ i → mag (root x) + e * pow2 k ≤ s * one
@@ -93,8 +88,7 @@ module _ {x : Float} (f : Finite x) (m : minus x ≡ 0) (n : ℕ) (w : mag x ≡
         let c = s * P - e in
         let q : s * P ≡ c + e = split n s e P h g in
         let r : mag (root x) ≤ c * K =
-        at-most f m (c * K) (grid c k (omega arith))
-        (le-trans (le-of-eq radicand-in) (le-trans (mul-le-mul-right (K * K) (under n s e P c h g q)) (le-of-eq (sym (square-units c K))))) in
+        root-most f m c k (omega arith) (le-trans (le-of-eq radicand-in) (le-trans (mul-le-mul-right (K * K) (under n s e P c h g q)) (le-of-eq (sym (square-units c K))))) .bound in
         let t : s * one ≡ (c + e) * K = ap (λ (z : ℕ). s * z) units-in ∙ sym (mul-assoc s P K) ∙ ap (λ (z : ℕ). z * K) q in
         let u = add-mul c e K in
         omega arith
@@ -129,27 +123,16 @@ module _ {x : Float} (f : Finite x) (m : minus x ≡ 0) (n : ℕ) (w : mag x ≡
 
 -- ---- whole numbers as floats
 
--- a whole number up to 2 ^ 53 as a float, in units
-pub ofInt-units : (n : ℕ) → n ≤ 2 ^ 53 → Finite (ofInt binary64 (pos n)) × (negative (ofInt binary64 (pos n)) ≡ false) × (mag (ofInt binary64 (pos n)) ≡ n * one)
-unfolding ofInt
-ofInt-units n h =
-    let x = round binary64 false n 1 in
-    let v = round-whole binary64 false n h in
-    (value-finite x false n 1 (round-fits binary64 false n 1) v, value-sign x false n 1 v, value-mag x false (n * one) (in-units x v))
-  where
-    in-units : (x : Float) → HasValue x false n 1 → HasValue x false (n * one) one
-    in-units nan v = v
-    in-units (inf s) v = v
-    in-units (fin s m e) v = (v .0, ap (λ (z : ℕ). z * one) (sym (mul-one (m * up e)) ∙ v .1) ∙ mul-right-comm n (down e) one)
-
 -- The root of a perfect square is the whole number.
 pub root-square : (s : ℕ) → s * s ≤ 2 ^ 53 → root (ofInt binary64 (pos (s * s))) ≡ ofInt binary64 (pos s)
 root-square s h =
     let l : s ≤ 2 ^ 53 = le-trans (self s) h in
-    let a = ofInt-units (s * s) h in
-    let b = ofInt-units s l in
-    let r = root-finite (ofInt binary64 (pos (s * s))) (a .0 .fit) in
-    same-float r (b .0) (root-sign _ (a .0 .fit) (a .1) ∙ sym (b .1)) (whole-square (a .0) (plus-is _ (a .1) .1) (s * s) (a .2) s l refl ∙ sym (b .2))
+    let n = pos (s * s) in
+    let x = ofInt binary64 n in
+    let f = ofInt-finite n h in
+    same-float (root-finite x (f .fit)) (ofInt-finite (pos s) l)
+    (root-sign x (f .fit) (ofInt-sign n h) ∙ sym (ofInt-sign (pos s) l))
+    (whole-square f (ofInt-pos (s * s) h .1) (s * s) (ofInt-mag n h) s l refl ∙ sym (ofInt-mag (pos s) l))
   where
     self : (s : ℕ) → s ≤ s * s
     self zero = omega arith

@@ -11,7 +11,8 @@ use lib.Ieee.{Float, nan, inf, fin, binary64, up, down, fits}
 use lib.Ieee.Fits.{up-pos}
 use lib.Ieee.Positive.{first-pos}
 use Rattle.binary64.specs.Units.{pow2, one, mag, negative, plus, minus, Finite, Digits53}
-use Rattle.binary64.proofs.Units.{one-pos, mag-exact, mag-digits, plus-is, minus-is, same-float}
+use Rattle.binary64.specs.Magnitude.{Most, Least}
+use Rattle.binary64.proofs.Units.{pow2-is, digits53, one-pos, mag-exact, mag-digits, plus-is, minus-is, same-float}
 use Rattle.elementary.specs.Root.{root, rootUnits, +0}
 use Rattle.elementary.proofs.Neighbours.{root-le, root-ge, root-mono, rootUnits-zero, by-zero}
 use Rattle.elementary.proofs.Promise.{zero-finite, plus-zero, positive-mag, positive-sign, positive-finite}
@@ -88,13 +89,24 @@ root-mag {x} f m = go (by-zero (mag x))
 -- ---- by squares
 
 module _ {x : Float} (f : Finite x) (m : minus x ≡ 0) where
-  -- x is at most the square of v: so is the root at most v
+  -- Where x is at most the square of v, its root is at most v;
   pub at-most : (v : ℕ) → Digits53 v → mag x * one ≤ v * v → mag (root x) ≤ v
   at-most v d h = subst (λ (r : ℕ). r ≤ v) (sym (root-mag f m)) (root-le (mag x) v (mag-digits f) d h)
 
-  -- x is at least the square of v: so is the root at least v
+  -- where it is at least the square of v, its root is at least v.
   pub at-least : (v : ℕ) → Digits53 v → v * v ≤ mag x * one → v ≤ mag (root x)
   at-least v d h = subst (λ (r : ℕ). v ≤ r) (sym (root-mag f m)) (root-ge (mag x) v (mag-digits f) d h)
+
+  -- The same for v = c * 2 ^ a units.
+  module _ (c a : ℕ) (l : c ≤ 2 ^ 53) where
+    grid : Digits53 (c * pow2 a)
+    grid = subst (λ (p : ℕ). Digits53 (c * p)) (sym (pow2-is a)) (digits53 c a l)
+
+    pub root-most : mag x * one ≤ c * pow2 a * (c * pow2 a) → Most c a (root x)
+    root-most h = record { finite = root-finite x (f .fit); bound = at-most (c * pow2 a) grid h }
+
+    pub root-least : c * pow2 a * (c * pow2 a) ≤ mag x * one → Least c a (root x)
+    root-least h = record { finite = root-finite x (f .fit); bound = at-least (c * pow2 a) grid h }
 
 -- A larger number has no smaller root.
 pub monotone : {x y : Float} → Finite x → Finite y → minus x ≡ 0 → minus y ≡ 0 → mag x ≤ mag y → mag (root x) ≤ mag (root y)
