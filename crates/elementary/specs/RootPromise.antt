@@ -1,9 +1,10 @@
--- What is promised of the root (proofs/Promise.antt proves it), and document 01's case P11.
+-- What is promised of the root (proofs/root/Promise.antt proves it), and document 01's case P11.
 use mathlib.Core.Path.{_≡_, refl}
 use mathlib.Core.Bool.{Bool, true, false}
 use Prim.Native.Nat.{ℕ, _+_, _*_, _<_}
+use lib.Dec.{T}
 use lib.IntN.{pos}
-use lib.Ieee.{Float, nan, inf, fin, binary64, lt, ofBits, round}
+use lib.Ieee.{Float, nan, inf, fin, binary64, fits, lt, ofBits, round}
 use Rattle.binary64.specs.Units.{pow2, one, mag, negative, Finite}
 use Rattle.elementary.specs.Root.{root, +0}
 
@@ -26,6 +27,9 @@ pub record RootPromise : Type 0 where
   pub negatives : (x : Float) → lt x +0 ≡ true → root x ≡ +0
   pub no-number : root nan ≡ +0
   pub infinities : (s : Bool) → root (inf s) ≡ +0
+  -- of whatever a program holds the root is finite and not below zero
+  pub finite : (x : Float) → T (fits binary64 x) → Finite (root x)
+  pub not-below : (x : Float) → T (fits binary64 x) → lt (root x) +0 ≡ false
 
 -- P11: the root of 2 has bits 0x3FF6A09E667F3BCD.
 pub P11 : root (ofBits binary64 0x4000_0000_0000_0000) ≡ ofBits binary64 0x3FF6_A09E_667F_3BCD

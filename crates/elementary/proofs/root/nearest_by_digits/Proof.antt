@@ -2,7 +2,7 @@
 use Prim.Native.Nat.{ℕ, _^_, _-_, _<_}
 use mathlib.Core.Logic.{⊎-elim}
 use native.Mathlib.Omega.{arith}
-use Rattle.elementary.proofs.Digits.{Taken, taken-none, taken-short, taken-one, taken-zero, taken-down, taken-up}
+use Rattle.elementary.proofs.root.Digits.{Taken, taken-none, taken-short, taken-one, taken-zero, taken-down, taken-up}
 use Rattle.elementary.proofs.root.nearest_by_digits.Statement.{statement}
 use Rattle.elementary.proofs.root.nearest_by_digits.Tie as tie
 use Rattle.elementary.proofs.root.nearest_by_digits.Reads as reads

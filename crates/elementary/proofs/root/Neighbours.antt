@@ -12,7 +12,7 @@ use Rattle.binary64.proofs.Naturals.{lt-or-ge}
 use Rattle.binary64.proofs.Units.{digits53}
 use Rattle.elementary.specs.Root.{rootUnits}
 use Rattle.elementary.specs.Steps.{Near}
-use Rattle.elementary.proofs.Scale.{Scaled, scaled}
+use Rattle.elementary.proofs.root.Scale.{Scaled, scaled}
 
 -- A number of at most 53 digits that reaches 2 ^ 52 * 2 ^ j is a multiple of 2 ^ j.
 multiple : (u j : ℕ) → Digits53 u → 2 ^ 52 * 2 ^ j ≤ u → (c : ℕ) × (u ≡ c * 2 ^ j)

@@ -19,9 +19,9 @@ use Rattle.binary64.proofs.Patterns.{normal-mag, subnormal-mag, pattern-units, 
 use Rattle.binary64.proofs.Units.{not-nan}
 use Rattle.elementary.specs.Root.{root, nearestRoot, rootUnits}
 use Rattle.elementary.specs.Steps.{Near, Leading}
-use Rattle.elementary.proofs.Cases.{root-positive, number-bits}
-use Rattle.elementary.proofs.Scale.{half, radicand, four-pow, four-pos, near-least, rootUnits-is}
-use Rattle.elementary.proofs.Whole.{near}
+use Rattle.elementary.proofs.root.Cases.{root-positive, number-bits}
+use Rattle.elementary.proofs.root.Scale.{half, radicand, four-pow, four-pos, near-least, rootUnits-is}
+use Rattle.elementary.proofs.root.Whole.{near}
 
 -- a normal number: its 53 digits stand in the bits, the first of them unwritten
 pub leading-normal : (b : ℕ) → 2 ^ 52 ≤ b → b < 2047 * 2 ^ 52 → Leading (mag (ofBits binary64 b)) (b % 2 ^ 52 + 2 ^ 52) (b / 2 ^ 52 + 51)

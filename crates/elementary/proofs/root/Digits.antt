@@ -8,7 +8,7 @@ use lib.Arith.{le-zero}
 use lib.Pow.{pow-pos}
 use Rattle.elementary.specs.Root.{nearestRoot}
 use Rattle.elementary.specs.Steps.{Near}
-use Rattle.elementary.proofs.Whole.{near, near-unique}
+use Rattle.elementary.proofs.root.Whole.{near, near-unique}
 
 -- With `left` pairs of digits of m * 2^52 to come, which stand at the head of the 64-bit word `digits`:
 -- `root` is the whole part of the root of the pairs taken, and `rest` what its square leaves.

@@ -1,23 +1,54 @@
--- The root of a float in units, against any number of at most 53 digits, by squares: what the geometry cites.
-use mathlib.Core.Path.{_≡_, refl, sym, ap, ap₂, _∙_, subst, subst₂}
+-- The root of a float as a number of units: `rootUnits` of its own units, finite and not below zero.
+use mathlib.Core.Path.{_≡_, refl, sym, ap, _∙_, subst}
 use mathlib.Core.Logic.{_⊎_, inl, inr}
-use mathlib.Core.Bool.{Bool, true, false, true≢false, cond}
-use Prim.Native.Nat.{ℕ, zero, suc, _+_, _-_, _*_, _/_, _^_, _≤_, _<_}
-use native.Mathlib.Nat.{zero-mul, zero-div, mul-pos, zero-lt-suc, le-trans, le-of-eq}
+use mathlib.Core.Bool.{Bool, true, false}
+use Prim.Native.Nat.{ℕ, zero, suc, _*_, _/_, _≤_, _<_}
+use native.Mathlib.Nat.{zero-mul, zero-div, mul-pos, zero-lt-suc}
 use native.Mathlib.Omega.{arith}
 use lib.Dec.{T}
 use lib.IntN.{ℤ, pos}
-use lib.Ieee.{Float, nan, inf, fin, binary64, up, down, fits}
+use lib.Ieee.{Float, nan, inf, fin, binary64, up, down, size, fits}
+use lib.Ieee.Digits.{size-le}
 use lib.Ieee.Fits.{up-pos}
 use lib.Ieee.Positive.{first-pos}
-use Rattle.binary64.specs.Units.{pow2, one, mag, negative, plus, minus, Finite, Digits53}
-use Rattle.binary64.specs.Magnitude.{Most, Least}
-use Rattle.binary64.proofs.Units.{pow2-is, digits53, one-pos, mag-exact, mag-digits, plus-is, minus-is, same-float}
+use Rattle.binary64.specs.Units.{one, limit, mag, negative, minus, Finite, Digits53}
+use Rattle.binary64.proofs.Units.{limit-pow, one-pos, mag-exact, mag-digits, mag-limit, ofUnits-mag, ofUnits-sign, ofUnits-finite, below-limit, plus-is, minus-is}
 use Rattle.elementary.specs.Root.{root, rootUnits, +0}
-use Rattle.elementary.proofs.Neighbours.{root-le, root-ge, root-mono, rootUnits-zero, by-zero}
-use Rattle.elementary.proofs.Promise.{zero-finite, plus-zero, positive-mag, positive-sign, positive-finite}
+use Rattle.elementary.proofs.root.Cases.{root-positive}
+use Rattle.elementary.proofs.root.Neighbours.{root-digits, rootUnits-zero, by-zero}
+use Rattle.elementary.proofs.root.Scale.{scaled, half}
+
+-- ---- above zero
+
+-- the root of a finite number is finite: half its exponent is far below the largest
+root-limit : (n : ℕ) → 0 < n → Digits53 n → n < limit → rootUnits n < limit
+root-limit n p d h =
+    let s = scaled n p d in
+    let few : size n ≤ 2098 = size-le n 2098 (subst (λ (z : ℕ). n < z) limit-pow h) in
+    subst (λ (r : ℕ). r < limit) (sym (s .is)) (below-limit (s .q) (s .j) (s .most) (omega (arith, s .place)))
+
+module _ {x : Float} (f : Finite x) (s : negative x ≡ false) (p : 0 < mag x) where
+  above : rootUnits (mag x) < limit
+  above = root-limit (mag x) p (mag-digits f) (mag-limit f)
+
+  digits : Digits53 (rootUnits (mag x))
+  digits = root-digits (mag x) p (mag-digits f)
+
+  -- the root of a number above zero, in units
+  pub positive-mag : mag (root x) ≡ rootUnits (mag x)
+  positive-mag = ap mag (root-positive f s p) ∙ ofUnits-mag false (rootUnits (mag x)) digits above
+
+  pub positive-sign : negative (root x) ≡ false
+  positive-sign = ap negative (root-positive f s p) ∙ ofUnits-sign false (rootUnits (mag x)) digits above
+
+  pub positive-finite : Finite (root x)
+  positive-finite = subst (λ (r : Float). Finite r) (sym (root-positive f s p)) (ofUnits-finite false (rootUnits (mag x)) digits above)
 
 -- ---- finite, and not below zero
+
+pub zero-finite : Finite +0
+unfolding fits
+zero-finite = record { fit = tt; number = tt }
 
 zero-units : (s : Bool) (e : ℤ) → mag (fin s 0 e) ≡ 0
 unfolding mag
@@ -85,29 +116,3 @@ root-mag {x} f m = go (by-zero (mag x))
     go : (mag x ≡ 0) ⊎ (0 < mag x) → mag (root x) ≡ rootUnits (mag x)
     go (inl z) = ap mag (zero-root x f z) ∙ z ∙ sym (ap rootUnits z ∙ rootUnits-zero)
     go (inr p) = positive-mag f (no-sign x m p) p
-
--- ---- by squares
-
-module _ {x : Float} (f : Finite x) (m : minus x ≡ 0) where
-  -- Where x is at most the square of v, its root is at most v;
-  pub at-most : (v : ℕ) → Digits53 v → mag x * one ≤ v * v → mag (root x) ≤ v
-  at-most v d h = subst (λ (r : ℕ). r ≤ v) (sym (root-mag f m)) (root-le (mag x) v (mag-digits f) d h)
-
-  -- where it is at least the square of v, its root is at least v.
-  pub at-least : (v : ℕ) → Digits53 v → v * v ≤ mag x * one → v ≤ mag (root x)
-  at-least v d h = subst (λ (r : ℕ). v ≤ r) (sym (root-mag f m)) (root-ge (mag x) v (mag-digits f) d h)
-
-  -- The same for v = c * 2 ^ a units.
-  module _ (c a : ℕ) (l : c ≤ 2 ^ 53) where
-    grid : Digits53 (c * pow2 a)
-    grid = subst (λ (p : ℕ). Digits53 (c * p)) (sym (pow2-is a)) (digits53 c a l)
-
-    pub root-most : mag x * one ≤ c * pow2 a * (c * pow2 a) → Most c a (root x)
-    root-most h = record { finite = root-finite x (f .fit); bound = at-most (c * pow2 a) grid h }
-
-    pub root-least : c * pow2 a * (c * pow2 a) ≤ mag x * one → Least c a (root x)
-    root-least h = record { finite = root-finite x (f .fit); bound = at-least (c * pow2 a) grid h }
-
--- A larger number has no smaller root.
-pub monotone : {x y : Float} → Finite x → Finite y → minus x ≡ 0 → minus y ≡ 0 → mag x ≤ mag y → mag (root x) ≤ mag (root y)
-monotone {x} {y} f g m n h = subst₂ (λ (a b : ℕ). a ≤ b) (sym (root-mag f m)) (sym (root-mag g n)) (root-mono (mag x) (mag y) (mag-digits f) (mag-digits g) h)

@@ -14,7 +14,8 @@ use Rattle.binary64.proofs.Naturals.{lt-or-ge}
 use Rattle.binary64.proofs.Units.{pow2-pos, pow2-split, same-float}
 use Rattle.binary64.proofs.Whole.{ofInt-finite, ofInt-mag, ofInt-sign, ofInt-pos}
 use Rattle.elementary.specs.Root.{root}
-use Rattle.elementary.proofs.Squares.{root-most, root-least, root-finite, root-sign}
+use Rattle.elementary.proofs.root.Squares.{root-most, root-least}
+use Rattle.elementary.proofs.root.Values.{root-finite, root-sign}
 
 -- the squares, with the units taken out
 square-units : (c K : ℕ) → c * K * (c * K) ≡ c * c * (K * K)

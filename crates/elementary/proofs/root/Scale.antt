@@ -12,7 +12,7 @@ use Rattle.binary64.specs.Units.{one, Digits53}
 use Rattle.binary64.proofs.Units.{one-is}
 use Rattle.elementary.specs.Root.{nearestRoot, rootUnits}
 use Rattle.elementary.specs.Steps.{Near}
-use Rattle.elementary.proofs.Whole.{near}
+use Rattle.elementary.proofs.root.Whole.{near}
 
 -- half the exponent of n's leading digit
 abbrev pub half : ℕ → ℕ
