@@ -1,6 +1,6 @@
 -- Document 01: "Root: IEEE 754 square root, rounded to nearest, ties to even, for every finite number not below zero; compared over whole
 -- numbers by squares", +0 outside that domain; and hypot. Rests on the units of binary64: the number 1 is `one` = 2 ^ 1074 of them.
-use Prim.Native.Nat.{ℕ, zero, suc, _+_, _-_, _*_, _/_, _^_, _≤_, _<_}
+use Prim.Native.Nat.{ℕ, zero, suc, _+_, _-_, _*_, _/_, _^_}
 use mathlib.Core.Bool.{true, false, cond}
 use lib.Dec.{leb}
 use lib.IntN.{pos}

@@ -1,7 +1,7 @@
 -- What is promised of the root (proofs/root/Promise.antt proves it), and document 01's case P11.
 use mathlib.Core.Path.{_≡_, refl}
 use mathlib.Core.Bool.{Bool, true, false}
-use Prim.Native.Nat.{ℕ, _+_, _*_, _<_}
+use Prim.Native.Nat.{_+_, _*_, _<_}
 use lib.Dec.{T}
 use lib.IntN.{pos}
 use lib.Ieee.{Float, nan, inf, fin, binary64, fits, lt, ofBits, round}

@@ -1,15 +1,15 @@
 -- The root of a float by the cases that the program tells apart: above zero and finite, above zero and infinite, a zero, anything else.
 use mathlib.Core.Path.{_≡_, refl, sym, ap, ap₂, _∙_, subst, subst₂}
-use mathlib.Core.Bool.{Bool, true, false, not, _&&_, _||_, cond, true≢false, false≢true}
-use Prim.Native.Nat.{ℕ, zero, suc, _+_, _-_, _*_, _/_, _%_, _^_, _≤_, _<_}
-use native.Mathlib.Nat.{lt-irrefl, zero-mul, mul-one, mul-pos, zero-lt-suc, zero-div, lt-of-lt-of-le, not-le-of-lt}
+use mathlib.Core.Bool.{Bool, true, false, not, true≢false, false≢true}
+use Prim.Native.Nat.{ℕ, zero, suc, _*_, _/_, _%_, _^_, _≤_, _<_}
+use native.Mathlib.Nat.{lt-irrefl, zero-mul, mul-one, mul-pos, zero-lt-suc, zero-div}
 use native.Mathlib.Omega.{arith}
 use lib.Arith.{le→nltb}
-use lib.Dec.{T, leb, ltb, eqb, ltb→lt, lt→ltb, eqb→eq, T-not, nleb→lt}
-use lib.IntN.{ℤ, pos, negsuc}
+use lib.Dec.{T, ltb, eqb, lt→ltb, eqb→eq, T-not, nleb→lt}
+use lib.IntN.{ℤ}
 use lib.Ieee.{Float, nan, inf, fin, binary64, up, down, level, lt, eq, fits, isNan, nanBits, ofBits, toBits}
 use lib.Ieee.Bits.{ofBits-toBits, nanBits-above, is-true}
-use lib.Ieee.Fits.{up-pos, down-pos, and-l, eq→eqb}
+use lib.Ieee.Fits.{up-pos, and-l, eq→eqb}
 use lib.Ieee.Scale.{finite}
 use Rattle.binary64.specs.Units.{mag, negative, ofUnits, Finite}
 use Rattle.binary64.proofs.Patterns.{pattern-finite, pattern-sign}

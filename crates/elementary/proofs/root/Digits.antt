@@ -1,5 +1,5 @@
 -- The root digit by digit: what holds after each pair of the radicand's digits, and that the end is the nearest whole number.
-use mathlib.Core.Path.{_≡_, refl, sym, ap, _∙_, subst}
+use mathlib.Core.Path.{_≡_, sym, ap, _∙_, subst}
 use Prim.Native.Nat.{ℕ, zero, suc, _+_, _-_, _*_, _/_, _%_, _^_, _≤_, _<_}
 use native.Mathlib.Nat.{mul-assoc, mul-le-mul-left, mul-le-mul-right, pow-suc, pow-succ'}
 use native.Mathlib.Numerals.{sub-one}

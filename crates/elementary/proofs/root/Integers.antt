@@ -1,15 +1,13 @@
 -- The root of a whole number n against a whole number s: root n ≤ s and s ≤ root n as n and s * s compare, perfect squares exactly,
 -- and by how much the root of an n that is no square misses s at least. 1 is `one` units, and 2 ^ -i is `pow2 k` units where k + i is 1074.
-use mathlib.Core.Path.{_≡_, refl, sym, ap, ap₂, _∙_, subst, subst₂}
+use mathlib.Core.Path.{_≡_, refl, sym, ap, ap₂, _∙_}
 use mathlib.Core.Logic.{_⊎_, inl, inr}
-use mathlib.Core.Bool.{Bool, true, false}
 use Prim.Native.Nat.{ℕ, zero, suc, _+_, _-_, _*_, _^_, _≤_, _<_}
-use native.Mathlib.Nat.{le-trans, le-of-eq, le-of-lt, mul-one, mul-assoc, mul-comm, mul-right-comm, mul-mul-mul-comm, mul-le-mul-left, mul-le-mul-right, le-antisymm, add-mul, add-comm}
+use native.Mathlib.Nat.{le-trans, le-of-eq, mul-assoc, mul-mul-mul-comm, mul-le-mul-left, mul-le-mul-right, le-antisymm, add-mul, add-comm}
 use native.Mathlib.Omega.{arith}
-use lib.Dec.{T}
 use lib.IntN.{pos}
 use lib.Ieee.{Float, binary64, ofInt}
-use Rattle.binary64.specs.Units.{pow2, one, mag, negative, minus, Finite, Digits53}
+use Rattle.binary64.specs.Units.{pow2, one, mag, minus, Finite}
 use Rattle.binary64.proofs.Naturals.{lt-or-ge}
 use Rattle.binary64.proofs.Units.{pow2-pos, pow2-split, same-float}
 use Rattle.binary64.proofs.Whole.{ofInt-finite, ofInt-mag, ofInt-sign, ofInt-pos}

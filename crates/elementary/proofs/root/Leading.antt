@@ -1,8 +1,8 @@
 -- From bits to the radicand and back: the leading digits of a positive float as its bits have them, the radicand that they give,
 -- and the bits of the root.
-use mathlib.Core.Path.{_≡_, refl, sym, ap, ap₂, _∙_, subst}
-use mathlib.Core.Logic.{_⊎_, inl, inr}
-use mathlib.Core.Bool.{Bool, false, not}
+use mathlib.Core.Path.{_≡_, sym, ap, ap₂, _∙_, subst}
+use mathlib.Core.Logic.{inr}
+use mathlib.Core.Bool.{false, not}
 use Prim.Native.Nat.{ℕ, zero, suc, _+_, _-_, _*_, _/_, _%_, _^_, _≤_, _<_}
 use native.Mathlib.Nat.{le-trans, le-of-eq, lt-of-lt-of-le, mul-assoc, mul-comm, mul-right-comm, mul-le-mul-left, mul-le-mul-right, mul-div-cancel, mul-pos, mul-lt-mul-of-pos-right, lt-of-mul-lt-mul-right, le-of-mul-le-mul-right, mod-eq-of-lt, add-comm, lt-of-not-le, not-le-of-lt}
 use native.Mathlib.Omega.{arith}
@@ -17,7 +17,7 @@ use lib.Ieee.Positive.{first-pos}
 use Rattle.binary64.specs.Units.{mag, negative, ofUnits, Finite}
 use Rattle.binary64.proofs.Patterns.{normal-mag, subnormal-mag, pattern-units, pattern-sign, finite-pattern}
 use Rattle.binary64.proofs.Units.{not-nan}
-use Rattle.elementary.specs.Root.{root, nearestRoot, rootUnits}
+use Rattle.elementary.specs.Root.{root, nearestRoot}
 use Rattle.elementary.specs.Steps.{Near, Leading}
 use Rattle.elementary.proofs.root.Cases.{root-positive, number-bits}
 use Rattle.elementary.proofs.root.Scale.{half, radicand, four-pow, four-pos, near-least, rootUnits-is}

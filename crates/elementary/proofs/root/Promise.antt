@@ -1,15 +1,14 @@
 -- The promise of specs/RootPromise.antt.
-use mathlib.Core.Path.{_≡_, refl, sym, ap, _∙_, subst}
+use mathlib.Core.Path.{_≡_, refl, sym, subst}
 use mathlib.Core.Bool.{Bool, true, false}
 use Prim.Native.Nat.{ℕ, zero, suc, _+_, _*_, _≤_, _<_}
 use native.Mathlib.Nat.{zero-mul, zero-add}
 use native.Mathlib.Omega.{arith}
 use lib.Dec.{T, ltb, ltb→lt}
-use lib.IntN.{pos}
 use lib.Ieee.{Float, nan, inf, fin, binary64, up, down, fits, lt}
 use Rattle.binary64.specs.Units.{pow2, one, mag, negative, plus, minus, Finite}
 use Rattle.binary64.proofs.Units.{mag-digits, plus-is, minus-is, units-of-lt, not-lt-of-units}
-use Rattle.elementary.specs.Root.{root, rootUnits, +0}
+use Rattle.elementary.specs.Root.{root, +0}
 use Rattle.elementary.specs.RootPromise.{Nearest, RootPromise}
 use Rattle.elementary.proofs.root.Neighbours.{neighbour-above, neighbour-below}
 use Rattle.elementary.proofs.root.Values.{positive-mag, positive-sign, positive-finite, zero-finite, root-finite, root-minus}

@@ -1,9 +1,8 @@
 -- `rootUnits` by scale: n units are X * 4 ^ h of 2 ^ -104 units, so the root of n units is that of X times U = 2 ^ (485 + h) units,
 -- where X has 105 or 106 digits and its nearest whole root q has 53.
 use mathlib.Core.Path.{_≡_, refl, sym, ap, _∙_, subst}
-use mathlib.Core.Logic.{_⊎_, inl, inr}
-use Prim.Native.Nat.{ℕ, zero, suc, _+_, _-_, _*_, _/_, _%_, _^_, _≤_, _<_}
-use native.Mathlib.Nat.{le-trans, le-of-eq, lt-of-lt-of-le, lt-of-le-of-lt, mul-one, mul-assoc, mul-comm, mul-left-comm, mul-mul-mul-comm, mul-le-mul-right, mul-div-cancel, mul-lt-mul-of-pos-right, lt-of-mul-lt-mul-right, le-of-mul-le-mul-right, le-of-suc-le-suc, lt-of-not-le, mul-le-mul, pow-succ'}
+use Prim.Native.Nat.{ℕ, zero, suc, _+_, _-_, _*_, _/_, _^_, _≤_, _<_}
+use native.Mathlib.Nat.{le-trans, le-of-eq, lt-of-lt-of-le, mul-assoc, mul-comm, mul-le-mul-right, mul-div-cancel, mul-lt-mul-of-pos-right, lt-of-mul-lt-mul-right, le-of-mul-le-mul-right, le-of-suc-le-suc, lt-of-not-le, mul-le-mul, pow-succ'}
 use native.Mathlib.Omega.{arith}
 use lib.Pow.{pow-add, pow-pos, pow-mono, shl-lt}
 use lib.Ieee.{size}

@@ -6,7 +6,7 @@ use Prim.Native.Nat.{ℕ, zero, suc, _*_, _/_, _≤_, _<_}
 use native.Mathlib.Nat.{zero-mul, zero-div, mul-pos, zero-lt-suc}
 use native.Mathlib.Omega.{arith}
 use lib.Dec.{T}
-use lib.IntN.{ℤ, pos}
+use lib.IntN.{ℤ}
 use lib.Ieee.{Float, nan, inf, fin, binary64, up, down, size, fits}
 use lib.Ieee.Digits.{size-le}
 use lib.Ieee.Fits.{up-pos}
@@ -16,7 +16,7 @@ use Rattle.binary64.proofs.Units.{limit-pow, one-pos, mag-exact, mag-digits, ma
 use Rattle.elementary.specs.Root.{root, rootUnits, +0}
 use Rattle.elementary.proofs.root.Cases.{root-positive}
 use Rattle.elementary.proofs.root.Neighbours.{root-digits, rootUnits-zero, by-zero}
-use Rattle.elementary.proofs.root.Scale.{scaled, half}
+use Rattle.elementary.proofs.root.Scale.{scaled}
 
 -- ---- above zero
 
