@@ -8,9 +8,9 @@ use lib.Ieee.{Float, nan, inf, fin, binary64, fits, lt, ofBits, round}
 use Rattle.binary64.specs.Units.{pow2, one, mag, negative, Finite}
 use Rattle.elementary.specs.Root.{root, +0}
 
--- r is the float nearest to the root of x, and no other float is as near. With x, r and another float u as whole numbers of units, the exact root
--- is that of x * one, and u is farther from it than r where the root lies on r's side of their middle (u + r) / 2: so the middle's square,
--- four times, is compared with four times x * one. Neither is ever equal, so there is no tie to break.
+-- r is the float nearest to the root of x, and no other float is as near. Let x, r and another float u be so many units: the exact root is that
+-- of x * one, and u is farther from it than r if the root lies on r's side of the middle (u + r) / 2. So (u + r)² is compared with four times
+-- x * one. The two are never equal: there is no tie to break. (A float below zero is farther than its magnitude.)
 pub record Nearest (x r : Float) : Type 0 where
   pub finite : Finite r
   pub sign : negative r ≡ false
@@ -21,6 +21,8 @@ pub record Nearest (x r : Float) : Type 0 where
 pub record RootPromise : Type 0 where
   -- every finite number above zero
   pub nearest : (x : Float) → Finite x → lt +0 x ≡ true → Nearest x (root x)
+  -- and no other float has that property
+  pub only : (x r : Float) → Finite x → lt +0 x ≡ true → Nearest x r → r ≡ root x
   -- the zeros, each with its sign
   pub zeros : (s : Bool) → root (fin s 0 (pos 0)) ≡ fin s 0 (pos 0)
   -- outside the domain +0: numbers below zero, NaN, the infinities

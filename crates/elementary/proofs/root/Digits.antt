@@ -7,7 +7,7 @@ use native.Mathlib.Omega.{arith}
 use lib.Arith.{le-zero}
 use lib.Pow.{pow-pos}
 use Rattle.elementary.specs.Root.{nearestRoot}
-use Rattle.elementary.specs.Steps.{Near}
+use Rattle.elementary.specs.RootSteps.{Near}
 use Rattle.elementary.proofs.root.Whole.{near, near-unique}
 
 -- With `left` pairs of digits of m * 2^52 to come, which stand at the head of the 64-bit word `digits`:

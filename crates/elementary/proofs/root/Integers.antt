@@ -5,13 +5,13 @@ use mathlib.Core.Logic.{_⊎_, inl, inr}
 use Prim.Native.Nat.{ℕ, zero, suc, _+_, _-_, _*_, _^_, _≤_, _<_}
 use native.Mathlib.Nat.{le-trans, le-of-eq, mul-assoc, mul-mul-mul-comm, mul-le-mul-left, mul-le-mul-right, le-antisymm, add-mul, add-comm}
 use native.Mathlib.Omega.{arith}
-use lib.IntN.{pos}
-use lib.Ieee.{Float, binary64, ofInt}
+use lib.IntN.{ℤ, pos, natAbs}
+use lib.Ieee.{Float, binary64, add, ofInt}
 use Rattle.binary64.specs.Units.{pow2, one, mag, minus, Finite}
 use Rattle.binary64.proofs.Naturals.{lt-or-ge}
 use Rattle.binary64.proofs.Units.{pow2-pos, pow2-split, same-float}
-use Rattle.binary64.proofs.Whole.{ofInt-finite, ofInt-mag, ofInt-sign, ofInt-pos}
-use Rattle.elementary.specs.Root.{root}
+use Rattle.binary64.proofs.Whole.{ofInt-finite, ofInt-mag, ofInt-sign, ofInt-pos, square-ofInt, add-ofInt}
+use Rattle.elementary.specs.Root.{root, hypot}
 use Rattle.elementary.proofs.root.Squares.{root-most, root-least}
 use Rattle.elementary.proofs.root.Values.{root-finite, root-sign}
 
@@ -122,6 +122,10 @@ module _ {x : Float} (f : Finite x) (m : minus x ≡ 0) (n : ℕ) (w : mag x ≡
 
 -- ---- whole numbers as floats
 
+self : (s : ℕ) → s ≤ s * s
+self zero = omega arith
+self (suc s) = omega arith
+
 -- The root of a perfect square is the whole number.
 pub root-square : (s : ℕ) → s * s ≤ 2 ^ 53 → root (ofInt binary64 (pos (s * s))) ≡ ofInt binary64 (pos s)
 root-square s h =
@@ -132,7 +136,14 @@ root-square s h =
     same-float (root-finite x (f .fit)) (ofInt-finite (pos s) l)
     (root-sign x (f .fit) (ofInt-sign n h) ∙ sym (ofInt-sign (pos s) l))
     (whole-square f (ofInt-pos (s * s) h .1) (s * s) (ofInt-mag n h) s l refl ∙ sym (ofInt-mag (pos s) l))
-  where
-    self : (s : ℕ) → s ≤ s * s
-    self zero = omega arith
-    self (suc s) = omega arith
+
+-- hypot of whole numbers is the root of the whole number a² + b².
+pub hypot-whole : (a b : ℤ) → natAbs a * natAbs a + natAbs b * natAbs b ≤ 2 ^ 53
+    → hypot (ofInt binary64 a) (ofInt binary64 b) ≡ root (ofInt binary64 (pos (natAbs a * natAbs a + natAbs b * natAbs b)))
+unfolding hypot
+hypot-whole a b h =
+    let p = natAbs a * natAbs a in
+    let q = natAbs b * natAbs b in
+    ap root
+    (ap₂ (λ (x y : Float). add binary64 x y) (square-ofInt a (le-trans (self (natAbs a)) (omega arith))) (square-ofInt b (le-trans (self (natAbs b)) (omega arith)))
+    ∙ add-ofInt (pos p) (pos q) (omega arith) (omega arith))

@@ -18,7 +18,7 @@ use Rattle.binary64.specs.Units.{mag, negative, ofUnits, Finite}
 use Rattle.binary64.proofs.Patterns.{normal-mag, subnormal-mag, pattern-units, pattern-sign, finite-pattern}
 use Rattle.binary64.proofs.Units.{not-nan}
 use Rattle.elementary.specs.Root.{root, nearestRoot}
-use Rattle.elementary.specs.Steps.{Near, Leading}
+use Rattle.elementary.specs.RootSteps.{Near, Leading}
 use Rattle.elementary.proofs.root.Cases.{root-positive, number-bits}
 use Rattle.elementary.proofs.root.Scale.{half, radicand, four-pow, four-pos, near-least, rootUnits-is}
 use Rattle.elementary.proofs.root.Whole.{near}

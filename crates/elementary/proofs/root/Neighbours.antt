@@ -11,7 +11,7 @@ use Rattle.binary64.specs.Units.{one, Digits53}
 use Rattle.binary64.proofs.Naturals.{lt-or-ge}
 use Rattle.binary64.proofs.Units.{digits53}
 use Rattle.elementary.specs.Root.{rootUnits}
-use Rattle.elementary.specs.Steps.{Near}
+use Rattle.elementary.specs.RootSteps.{Near}
 use Rattle.elementary.proofs.root.Scale.{scaled}
 
 -- A number of at most 53 digits that reaches 2 ^ 52 * 2 ^ j is a multiple of 2 ^ j.

@@ -1,5 +1,5 @@
 -- The promise of specs/RootPromise.antt.
-use mathlib.Core.Path.{_≡_, refl, sym, subst}
+use mathlib.Core.Path.{_≡_, refl, sym, _∙_, subst}
 use mathlib.Core.Bool.{Bool, true, false}
 use Prim.Native.Nat.{ℕ, zero, suc, _+_, _*_, _≤_, _<_}
 use native.Mathlib.Nat.{zero-mul, zero-add}
@@ -7,7 +7,7 @@ use native.Mathlib.Omega.{arith}
 use lib.Dec.{T, ltb, ltb→lt}
 use lib.Ieee.{Float, nan, inf, fin, binary64, up, down, fits, lt}
 use Rattle.binary64.specs.Units.{pow2, one, mag, negative, plus, minus, Finite}
-use Rattle.binary64.proofs.Units.{mag-digits, plus-is, minus-is, units-of-lt, not-lt-of-units}
+use Rattle.binary64.proofs.Units.{mag-digits, plus-is, minus-is, units-of-lt, not-lt-of-units, same-float}
 use Rattle.elementary.specs.Root.{root, +0}
 use Rattle.elementary.specs.RootPromise.{Nearest, RootPromise}
 use Rattle.elementary.proofs.root.Neighbours.{neighbour-above, neighbour-below}
@@ -23,6 +23,20 @@ module _ {x : Float} (f : Finite x) (s : negative x ≡ false) (p : 0 < mag x) w
     below = λ u g h. subst (λ (r : ℕ). (mag u + r) * (mag u + r) < 4 * (mag x * one)) (sym (positive-mag f s p))
         (neighbour-below (mag x) p (mag-digits f) (mag u) (mag-digits g) (subst (λ (r : ℕ). mag u < r) (positive-mag f s p) h));
   }
+
+-- of two floats that are nearest none is the larger
+not-larger : {x r t : Float} → Nearest x r → Nearest x t → mag r < mag t → ⊥
+not-larger {x} {r} {t} a b l = apart (mag r) (mag t) (mag x * one) (a .above t (b .finite) l) (b .below r (a .finite) l)
+  where
+    apart : (r t n : ℕ) → 4 * n < (t + r) * (t + r) → (r + t) * (r + t) < 4 * n → ⊥
+    apart r t n h k = omega arith
+
+nearest-only : {x r t : Float} → Nearest x r → Nearest x t → r ≡ t
+nearest-only {x} {r} {t} a b =
+    same-float (a .finite) (b .finite) (a .sign ∙ sym (b .sign)) (level (mag r) (mag t) (not-larger a b) (not-larger b a))
+  where
+    level : (m n : ℕ) → (m < n → ⊥) → (n < m → ⊥) → m ≡ n
+    level m n h k = omega arith
 
 -- ---- the cases
 
@@ -72,6 +86,7 @@ pub root-promise : RootPromise
 unfolding root
 root-promise = record {
   nearest = λ x f h. let a = above-zero f h in positive-nearest f (a .0) (a .1);
+  only = λ x r f h n. let a = above-zero f h in nearest-only n (positive-nearest f (a .0) (a .1));
   zeros = λ s. refl;
   negatives = below-zero;
   no-number = refl;

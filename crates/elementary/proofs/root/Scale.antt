@@ -10,7 +10,7 @@ use lib.Ieee.Digits.{size-lt, size-reaches, size-le}
 use Rattle.binary64.specs.Units.{one, Digits53}
 use Rattle.binary64.proofs.Units.{one-is}
 use Rattle.elementary.specs.Root.{nearestRoot, rootUnits}
-use Rattle.elementary.specs.Steps.{Near}
+use Rattle.elementary.specs.RootSteps.{Near}
 use Rattle.elementary.proofs.root.Whole.{near}
 
 -- half the exponent of n's leading digit
@@ -42,7 +42,7 @@ radicand-exact n d =
     ∙ ap (λ (z : ℕ). z * 4 ^ h) (mul-div-cancel (d .digits * 2 ^ k) (four-pos h))
     ∙ sym is
 
--- the leading digit of n
+-- a number above 0 has a digit
 size-pos : (n : ℕ) → 0 < n → 0 < size n
 size-pos n p = go (size n) (size-lt n)
   where

@@ -6,7 +6,7 @@ use native.Mathlib.Nat.{div-lt-iff-lt-mul, pow-suc}
 use native.Mathlib.Omega.{arith}
 use lib.Dec.{T, leb, leb→le, nleb→lt}
 use Rattle.elementary.specs.Root.{wholeRoot, nearestRoot}
-use Rattle.elementary.specs.Steps.{Near}
+use Rattle.elementary.specs.RootSteps.{Near}
 
 -- r is the whole part of the root of n.
 pub record Floor (n r : ℕ) : Type 0 where
