@@ -23,6 +23,7 @@ unfoldable pub rootUnits : ℕ → ℕ
 unfolding nearestRoot size
 rootUnits n = let h = (size n - 1) / 2 in nearestRoot 53 (n * 2 ^ 104 / 4 ^ h) * 2 ^ (485 + h)
 
+-- the zero without a sign
 abbrev pub +0 : Float
 +0 = fin false 0 (pos 0)
 

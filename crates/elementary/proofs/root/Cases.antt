@@ -11,7 +11,7 @@ use lib.Ieee.{Float, nan, inf, fin, binary64, up, down, level, lt, eq, fits, isN
 use lib.Ieee.Bits.{ofBits-toBits, nanBits-above, is-true}
 use lib.Ieee.Fits.{up-pos, and-l, eq→eqb}
 use lib.Ieee.Scale.{finite}
-use Rattle.binary64.specs.Units.{mag, negative, ofUnits, Finite}
+use Rattle.binary64.specs.Units.{one, mag, negative, ofUnits, Finite}
 use Rattle.binary64.proofs.Patterns.{pattern-finite, pattern-sign}
 use Rattle.elementary.specs.Root.{root, rootUnits}
 
@@ -22,15 +22,18 @@ passes e = subst (λ (t : Bool). T t) (sym e) tt
 fails : {b : Bool} → b ≡ false → T (not b)
 fails e = subst (λ (t : Bool). T (not t)) (sym e) tt
 
-no-units : (e : ℤ) (c : ℕ) → 0 < 0 * up e * c / down e → ⊥
-no-units e c h = lt-irrefl 0 (subst (λ (n : ℕ). 0 < n) (ap (λ (n : ℕ). n * c / down e) (zero-mul (up e)) ∙ ap (λ (n : ℕ). n / down e) (zero-mul c) ∙ zero-div (down e)) h)
+-- a zero is 0 units
+pub zero-units : (s : Bool) (e : ℤ) → mag (fin s 0 e) ≡ 0
+unfolding mag
+zero-units s e = ap (λ (n : ℕ). n * one / down e) (zero-mul (up e)) ∙ ap (λ (n : ℕ). n / down e) (zero-mul one) ∙ zero-div (down e)
 
+-- the root of a finite number above zero
 pub root-positive : {x : Float} → Finite x → negative x ≡ false → 0 < mag x → root x ≡ ofUnits false (rootUnits (mag x))
 unfolding root mag
 root-positive {x = nan} f s p = absurd (f .number)
 root-positive {x = inf t} f s p = absurd (f .number)
 root-positive {x = fin true m e} f s p = absurd (true≢false s)
-root-positive {x = fin false zero e} f s p = absurd (no-units e _ p)
+root-positive {x = fin false zero e} f s p = absurd (lt-irrefl 0 (subst (λ (n : ℕ). 0 < n) (zero-units false e) p))
 root-positive {x = fin false (suc m) e} f s p = refl
 
 -- ---- above zero

@@ -42,7 +42,7 @@ module _ (q : ℕ) (h : q < 2 ^ 53) where
   pub lower-fits : q % 2 ^ 27 * (q % 2 ^ 27) < 2 ^ 54
   lower-fits = omega (arith, below (q % 2 ^ 27) (q % 2 ^ 27) (2 ^ 27 - 1) (2 ^ 27 - 1) (omega arith) (omega arith))
 
--- What `weigh` gives is the square of q and m * 2^52, both less the same number;
+-- What `weigh` gives is the square of q and m * 2^52, both less the same number.
 pub balanced : (m q : ℕ) → q < 2 ^ 53 →
     let uu = q / 2 ^ 27 * (q / 2 ^ 27) in
     let ul = q / 2 ^ 27 * (q % 2 ^ 27) in
@@ -67,13 +67,6 @@ balanced m q h a b =
   where
     small : (d c k : ℕ) → d ≤ 2 → k < 2 ^ 54 → d * 2 ^ 54 % 2 ^ 64 + (c % 2 ^ 26 * 2 ^ 28 % 2 ^ 64 + k) < 2 ^ 57
     small d c k h g = omega arith
-
--- or nothing.
-pub too-far : (n s : ℕ) → Balanced n s 0 0
-too-far n s = record { left = omega arith; right = omega arith; level = λ h. absurd (none h) }
-  where
-    none : 0 < 0 → ⊥
-    none h = omega arith
 
 -- a and b are the square of q and n, less the same number
 module _ (n q a b : ℕ) (e : q * q + b ≡ n + a) where

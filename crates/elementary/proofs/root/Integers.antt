@@ -12,13 +12,11 @@ use Rattle.binary64.proofs.Naturals.{lt-or-ge}
 use Rattle.binary64.proofs.Units.{pow2-pos, pow2-split, same-float}
 use Rattle.binary64.proofs.Whole.{ofInt-finite, ofInt-mag, ofInt-sign, ofInt-pos, square-ofInt, add-ofInt}
 use Rattle.elementary.specs.Root.{root, hypot}
+use Rattle.elementary.proofs.root.Neighbours.{product}
 use Rattle.elementary.proofs.root.Squares.{root-most, root-least}
 use Rattle.elementary.proofs.root.Values.{root-finite, root-sign}
 
--- the squares, with the units taken out
-square-units : (c K : ℕ) → c * K * (c * K) ≡ c * c * (K * K)
-square-units c K = mul-mul-mul-comm c K c K
-
+-- the square of a whole number, with the units taken out
 whole-units : (n P K : ℕ) → n * (P * K) * (P * K) ≡ n * (P * P) * (K * K)
 whole-units n P K = mul-assoc n (P * K) (P * K) ∙ ap (λ (z : ℕ). n * z) (mul-mul-mul-comm P K P K) ∙ sym (mul-assoc n (P * P) (K * K))
 
@@ -50,14 +48,14 @@ module _ {x : Float} (f : Finite x) (m : minus x ≡ 0) (n : ℕ) (w : mag x ≡
   pub whole-le : (s : ℕ) → s ≤ 2 ^ 53 → n ≤ s * s → mag (root x) ≤ s * one
   whole-le s l h =
       root-most f m s 1074 l
-      (le-trans (le-of-eq (ap (λ (z : ℕ). z * one) w ∙ mul-assoc n one one)) (le-trans (mul-le-mul-right (one * one) h) (le-of-eq (sym (square-units s one)))))
+      (le-trans (le-of-eq (ap (λ (z : ℕ). z * one) w ∙ mul-assoc n one one)) (le-trans (mul-le-mul-right (one * one) h) (le-of-eq (sym (product s one)))))
       .bound
 
   -- and n from a square on a root from that of the square on.
   pub whole-ge : (s : ℕ) → s ≤ 2 ^ 53 → s * s ≤ n → s * one ≤ mag (root x)
   whole-ge s l h =
       root-least f m s 1074 l
-      (le-trans (le-of-eq (square-units s one)) (le-trans (mul-le-mul-right (one * one) h) (le-of-eq (sym (ap (λ (z : ℕ). z * one) w ∙ mul-assoc n one one)))))
+      (le-trans (le-of-eq (product s one)) (le-trans (mul-le-mul-right (one * one) h) (le-of-eq (sym (ap (λ (z : ℕ). z * one) w ∙ mul-assoc n one one)))))
       .bound
 
   -- Perfect squares are exact.
@@ -77,7 +75,7 @@ module _ {x : Float} (f : Finite x) (m : minus x ≡ 0) (n : ℕ) (w : mag x ≡
         let P = 2 ^ i in
         let K = pow2 k in
         le-trans (le-of-eq (ap (λ (z : ℕ). s * z + e * K) units-in ∙ ap (λ (z : ℕ). z + e * K) (sym (mul-assoc s P K)) ∙ sym (add-mul (s * P) e K)))
-        (root-least f m (s * P + e) k l (le-trans (le-of-eq (square-units (s * P + e) K)) (le-trans (mul-le-mul-right (K * K) (over n s e P h g)) (le-of-eq (sym radicand-in)))) .bound)
+        (root-least f m (s * P + e) k l (le-trans (le-of-eq (product (s * P + e) K)) (le-trans (mul-le-mul-right (K * K) (over n s e P h g)) (le-of-eq (sym radicand-in)))) .bound)
 
     -- An n short of the square of s has a root short of s by e / 2 ^ i, whenever 2 * s * e ≤ 2 ^ i.
     pub shortfall : s * 2 ^ i ≤ 2 ^ 53 → n + 1 ≤ s * s → 2 * s * e ≤ 2 ^ i → mag (root x) + e * pow2 k ≤ s * one
@@ -87,7 +85,7 @@ module _ {x : Float} (f : Finite x) (m : minus x ≡ 0) (n : ℕ) (w : mag x ≡
         let c = s * P - e in
         let q : s * P ≡ c + e = split n s e P h g in
         let r : mag (root x) ≤ c * K =
-        root-most f m c k (omega arith) (le-trans (le-of-eq radicand-in) (le-trans (mul-le-mul-right (K * K) (under n s e P c h g q)) (le-of-eq (sym (square-units c K))))) .bound in
+        root-most f m c k (omega arith) (le-trans (le-of-eq radicand-in) (le-trans (mul-le-mul-right (K * K) (under n s e P c h g q)) (le-of-eq (sym (product c K))))) .bound in
         let t : s * one ≡ (c + e) * K = ap (λ (z : ℕ). s * z) units-in ∙ sym (mul-assoc s P K) ∙ ap (λ (z : ℕ). z * K) q in
         let u = add-mul c e K in
         omega arith

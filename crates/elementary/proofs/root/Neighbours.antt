@@ -28,8 +28,8 @@ multiple u j d h = go (lt-or-ge (d .zeros) j)
         (lt-of-lt-of-le (subst (λ (z : ℕ). z < 2 ^ 53 * 2 ^ d .zeros) (sym (d .is)) (mul-lt-mul-of-pos-right (d .few) (pow-pos (d .zeros))))
         (le-trans (le-of-eq (sym (pow-add 2 53 (d .zeros)))) (le-trans (pow-mono {j = 52 + j} (omega arith)) (le-trans (le-of-eq (pow-add 2 52 j)) h)))))
 
--- k * U squared
-product : (k U : ℕ) → k * U * (k * U) ≡ k * k * (U * U)
+-- the square of k * U
+pub product : (k U : ℕ) → k * U * (k * U) ≡ k * k * (U * U)
 product k U = mul-mul-mul-comm k U k U
 
 square-le : (a b : ℕ) → a ≤ b → a * a ≤ b * b

@@ -33,10 +33,10 @@ not-larger {x} {r} {t} a b l = apart (mag r) (mag t) (mag x * one) (a .above t (
 
 nearest-only : {x r t : Float} → Nearest x r → Nearest x t → r ≡ t
 nearest-only {x} {r} {t} a b =
-    same-float (a .finite) (b .finite) (a .sign ∙ sym (b .sign)) (level (mag r) (mag t) (not-larger a b) (not-larger b a))
+    same-float (a .finite) (b .finite) (a .sign ∙ sym (b .sign)) (both (mag r) (mag t) (not-larger a b) (not-larger b a))
   where
-    level : (m n : ℕ) → (m < n → ⊥) → (n < m → ⊥) → m ≡ n
-    level m n h k = omega arith
+    both : (m n : ℕ) → (m < n → ⊥) → (n < m → ⊥) → m ≡ n
+    both m n h k = omega arith
 
 -- ---- the cases
 

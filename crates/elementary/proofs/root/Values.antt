@@ -2,19 +2,19 @@
 use mathlib.Core.Path.{_≡_, refl, sym, ap, _∙_, subst}
 use mathlib.Core.Logic.{_⊎_, inl, inr}
 use mathlib.Core.Bool.{Bool, true, false}
-use Prim.Native.Nat.{ℕ, zero, suc, _*_, _/_, _≤_, _<_}
-use native.Mathlib.Nat.{zero-mul, zero-div, mul-pos, zero-lt-suc}
+use Prim.Native.Nat.{ℕ, zero, suc, _≤_, _<_}
+use native.Mathlib.Nat.{mul-pos, zero-lt-suc}
 use native.Mathlib.Omega.{arith}
 use lib.Dec.{T}
 use lib.IntN.{ℤ}
-use lib.Ieee.{Float, nan, inf, fin, binary64, up, down, size, fits}
+use lib.Ieee.{Float, nan, inf, fin, binary64, down, size, fits}
 use lib.Ieee.Digits.{size-le}
 use lib.Ieee.Fits.{up-pos}
 use lib.Ieee.Positive.{first-pos}
-use Rattle.binary64.specs.Units.{one, limit, mag, negative, minus, Finite, Digits53}
+use Rattle.binary64.specs.Units.{limit, mag, negative, minus, Finite, Digits53}
 use Rattle.binary64.proofs.Units.{limit-pow, one-pos, mag-exact, mag-digits, mag-limit, ofUnits-mag, ofUnits-sign, ofUnits-finite, below-limit, plus-is, minus-is}
 use Rattle.elementary.specs.Root.{root, rootUnits, +0}
-use Rattle.elementary.proofs.root.Cases.{root-positive}
+use Rattle.elementary.proofs.root.Cases.{root-positive, zero-units}
 use Rattle.elementary.proofs.root.Neighbours.{root-digits, rootUnits-zero, by-zero}
 use Rattle.elementary.proofs.root.Scale.{scaled}
 
@@ -49,10 +49,6 @@ module _ {x : Float} (f : Finite x) (s : negative x ≡ false) (p : 0 < mag x) w
 pub zero-finite : Finite +0
 unfolding fits
 zero-finite = record { fit = tt; number = tt }
-
-zero-units : (s : Bool) (e : ℤ) → mag (fin s 0 e) ≡ 0
-unfolding mag
-zero-units s e = ap (λ (n : ℕ). n * one / down e) (zero-mul (up e)) ∙ ap (λ (n : ℕ). n / down e) (zero-mul one) ∙ zero-div (down e)
 
 some-units : (s : Bool) (m : ℕ) (e : ℤ) → T (fits binary64 (fin s (suc m) e)) → 0 < mag (fin s (suc m) e)
 some-units s m e f =
