@@ -8,3 +8,4 @@ pub mod Magnitude
 pub mod Error
 pub mod Whole
 pub mod Functions
+pub mod Remainder

@@ -1,16 +1,17 @@
 -- Laws of magnitudes: what +, -, *, / and negation make of bounds `Most` and `Least`. A bound j * 2 ^ a with j up to 2 ^ 53 is a float itself, so
 -- rounding never passes it; with a up to 2044 the result is finite. Rests on Operations.
-use mathlib.Core.Path.{_≡_, refl, sym, ap, _∙_, subst}
+use mathlib.Core.Path.{ap₂, _≡_, refl, sym, ap, _∙_, subst}
 use mathlib.Core.Logic.{_⊎_, inl, inr}
-use Prim.Native.Nat.{ℕ, _+_, _-_, _*_, _^_, _≤_, _<_}
+use Prim.Native.Nat.{ℕ, _+_, _-_, _*_, _^_, _≤_, _<_, zero-le}
 use native.Mathlib.Nat.{le-refl, le-trans, le-of-eq, lt-of-lt-of-le, mul-assoc, mul-pos, mul-le-mul, mul-le-mul-left, mul-le-mul-right, mul-mul-mul-comm}
 use native.Mathlib.Omega.{arith}
 use mathlib.Core.Bool.{Bool, true, false, cond}
 use lib.Ieee.{Float, binary64, add, sub, mul, div, neg, round, unlike}
 use Rattle.binary64.specs.Units.{pow2, one, limit, Finite, mag, negative, plus, minus, Digits53}
+use Rattle.binary64.specs.Constants.{zero64}
 use Rattle.binary64.specs.Rounding.{Result}
 use Rattle.binary64.specs.Magnitude.{Most, Least}
-use Rattle.binary64.proofs.Units.{pow2-is, pow2-pos, pow2-add, pow2-split, one-pos, digits53, below-limit, plus-minus, plus-is, minus-is, neg-finite, neg-mag}
+use Rattle.binary64.proofs.Units.{zero64-finite, zero64-plus, zero64-minus, one-sided, pow2-is, pow2-pos, pow2-add, pow2-split, one-pos, digits53, below-limit, plus-minus, plus-is, minus-is, neg-finite, neg-mag}
 use Rattle.binary64.proofs.Rounding.{rnd-le, rnd-ge, plus-ge, minus-ge}
 use Rattle.binary64.proofs.Operations.{round-finite, round-mag, mul-round, result-finite, result-le, result-rounded, add-result, sub-result, mul-mag, div-mag, div-round}
 
@@ -44,6 +45,9 @@ least-weaken {a = a} m h = record { finite = m .finite; bound = le-trans (mul-le
 
 pub least-finer : {j a : ℕ} {x : Float} (i : ℕ) → Least j (i + a) x → Least (j * 2 ^ i) a x
 least-finer {j} {a} i m = record { finite = m .finite; bound = le-trans (le-of-eq (mul-assoc j (2 ^ i) (pow2 a) ∙ ap (λ (n : ℕ). j * n) (sym (pow2-split i a)))) (m .bound) }
+
+pub most-zero : {j a : ℕ} → Most j a zero64
+most-zero {j} {a} = record { finite = zero64-finite; bound = le-trans (le-of-eq (sym (plus-minus zero64) ∙ ap₂ (λ (m n : ℕ). m + n) zero64-plus zero64-minus)) zero-le }
 
 -- One of two values, whichever a test picks.
 pub most-either : {j a : ℕ} {x y : Float} (b : Bool) → Most j a x → Most j a y → Most j a (cond b x y)
@@ -113,14 +117,6 @@ div-most {j} {k} {a} {b} {x} {y} m n i c e K g h l =
 result-least : {j a p n c : ℕ} {z : Float} → 0 < c → Result z p n c → Finite z → j ≤ 2 ^ 53 → (n + j * pow2 a * c ≤ p) ⊎ (p + j * pow2 a * c ≤ n) → Least j a z
 result-least {j} {a} {z = z} C r f h (inl l) = record { finite = f; bound = le-trans (plus-ge C (result-rounded C r f) (bound-digits a h) l) (omega (arith, plus-minus z)) }
 result-least {j} {a} {z = z} C r f h (inr l) = record { finite = f; bound = le-trans (minus-ge C (result-rounded C r f) (bound-digits a h) l) (omega (arith, plus-minus z)) }
-
--- x is all above zero, or all below
-pub one-sided : (x : Float) → ((plus x ≡ mag x) × (minus x ≡ 0)) ⊎ ((plus x ≡ 0) × (minus x ≡ mag x))
-one-sided x = go (negative x) refl
-  where
-    go : (s : Bool) → negative x ≡ s → ((plus x ≡ mag x) × (minus x ≡ 0)) ⊎ ((plus x ≡ 0) × (minus x ≡ mag x))
-    go false e = inl (plus-is x e)
-    go true e = inr (minus-is x e)
 
 -- a sum of two numbers of one sign
 pub add-least : {j k a : ℕ} {x y : Float} → Least j a x → Least k a y → negative x ≡ negative y → j + k ≤ 2 ^ 53 → Finite (add binary64 x y) → Least (j + k) a (add binary64 x y)

@@ -3,7 +3,7 @@
 use mathlib.Core.Path.{_≡_, refl, sym, ap, ap₂, _∙_, subst}
 use mathlib.Core.Logic.{_⊎_, inl, inr}
 use Prim.Native.Nat.{ℕ, zero, suc, _+_, _-_, _*_, _/_, _%_, _^_, _≤_, _<_}
-use native.Mathlib.Nat.{lt-irrefl, le-of-lt, le-trans, le-of-eq, lt-of-lt-of-le, lt-of-le-of-lt, eq-or-lt-of-le, add-comm, zero-add, add-zero, zero-mul, mul-one, one-mul, mul-assoc, mul-right-comm, mul-pos, mul-le-mul-right, mul-lt-mul-of-pos-right, lt-of-mul-lt-mul-right, mul-div-cancel, pow-succ'}
+use native.Mathlib.Nat.{lt-irrefl, le-of-lt, le-trans, le-of-eq, lt-of-lt-of-le, lt-of-le-of-lt, eq-or-lt-of-le, add-comm, zero-add, add-zero, zero-mul, div-one, mul-one, one-mul, mul-assoc, mul-right-comm, mul-pos, mul-le-mul-right, mul-lt-mul-of-pos-right, lt-of-mul-lt-mul-right, mul-div-cancel, pow-succ'}
 use native.Mathlib.Omega.{arith}
 use mathlib.Core.Bool.{Bool, true, false, not, _&&_, _||_, cond}
 use lib.IntN.{ℤ, pos, negsuc}
@@ -17,7 +17,8 @@ use lib.Ieee.Fits.{up-pos, down-pos, and-l, and-r, eq→eqb, round-fits, neg-fit
 use lib.Ieee.Bits.{ofBits-toBits, is-true, is-false}
 use Rattle.binary64.proofs.Naturals.{same-test, and-true, both-zero, not-ltb, pow-le-back}
 use Rattle.binary64.proofs.Values.{lt-values, eq-values}
-use Rattle.binary64.specs.Units.{pow2, one, limit, Finite, mag, negative, plus, minus, ofUnits, Digits53}
+use Rattle.binary64.specs.Constants.{zero64, zero64-is}
+use Rattle.binary64.specs.Units.{pow2, one, limit, Finite, mag, negative, plus, minus, ofUnits, signedZero, Digits53}
 
 -- ---- powers of two
 
@@ -224,6 +225,14 @@ pub minus-is : (x : Float) → negative x ≡ true → (plus x ≡ 0) × (minus 
 unfolding plus minus
 minus-is x h = (ap (λ (s : Bool). cond s 0 (mag x)) h, ap (λ (s : Bool). cond s (mag x) 0) h)
 
+-- x is all above zero, or all below
+pub one-sided : (x : Float) → ((plus x ≡ mag x) × (minus x ≡ 0)) ⊎ ((plus x ≡ 0) × (minus x ≡ mag x))
+one-sided x = go (negative x) refl
+  where
+    go : (s : Bool) → negative x ≡ s → ((plus x ≡ mag x) × (minus x ≡ 0)) ⊎ ((plus x ≡ 0) × (minus x ≡ mag x))
+    go false e = inl (plus-is x e)
+    go true e = inr (minus-is x e)
+
 -- what has a part above zero has not the sign bit, and what has one below has it
 pub plus-sign : (x : Float) → 0 < plus x → negative x ≡ false
 unfolding plus
@@ -240,6 +249,29 @@ minus-sign x = go (negative x)
     go : (s : Bool) → 0 < cond s (mag x) 0 → s ≡ true
     go true h = refl
     go false h = absurd (lt-irrefl 0 h)
+
+-- ---- zero
+
+pub zero-finite : (s : Bool) → Finite (signedZero s)
+unfolding fits
+zero-finite s = record { fit = tt; number = tt }
+
+pub zero-mag : (s : Bool) → mag (signedZero s) ≡ 0
+zero-mag s = mag-fin s 0 (pos 0) ∙ div-one (0 * 1 * one) ∙ zero-mul one
+
+pub zero-plus : (s : Bool) → plus (signedZero s) ≡ 0
+unfolding plus
+zero-plus true = refl
+zero-plus false = zero-mag false
+
+pub zero-minus : (s : Bool) → minus (signedZero s) ≡ 0
+unfolding minus
+zero-minus true = zero-mag true
+zero-minus false = refl
+
+-- What has no units is a zero.
+pub is-zero : {x : Float} → Finite x → mag x ≡ 0 → x ≡ signedZero (negative x)
+is-zero {x} h e = same-float h (zero-finite (negative x)) refl (e ∙ sym (zero-mag (negative x)))
 
 -- ---- the float -x
 
@@ -352,3 +384,48 @@ not-lt-of-units {x} {y} h k l = lt-units h k ∙ is-false (ltb (plus x + minus y
 -- among finite floats x ≤ y just where y < x fails
 pub le-not-lt : {x y : Float} → Finite x → Finite y → le x y ≡ not (lt y x)
 le-not-lt {x} {y} h k = le-units h k ∙ sym (not-ltb (plus y + minus x) (plus x + minus y)) ∙ ap not (sym (lt-units k h))
+
+-- ---- tests against zero
+
+pub zero64-finite : Finite zero64
+zero64-finite = subst (λ (x : Float). Finite x) (sym zero64-is) (zero-finite false)
+
+pub zero64-plus : plus zero64 ≡ 0
+zero64-plus = ap plus zero64-is ∙ zero-plus false
+
+pub zero64-minus : minus zero64 ≡ 0
+zero64-minus = ap minus zero64-is ∙ zero-minus false
+
+module _ {x : Float} (h : Finite x) where
+  -- one part of a float is 0, so an order between the two says which
+  only-minus : plus x < minus x → plus x ≡ 0
+  only-minus l = go (one-sided x)
+    where
+      go : ((plus x ≡ mag x) × (minus x ≡ 0)) ⊎ ((plus x ≡ 0) × (minus x ≡ mag x)) → plus x ≡ 0
+      go (inl s) = omega (arith, s)
+      go (inr s) = s .0
+
+  only-plus : minus x ≤ plus x → minus x ≡ 0
+  only-plus l = go (one-sided x)
+    where
+      go : ((plus x ≡ mag x) × (minus x ≡ 0)) ⊎ ((plus x ≡ 0) × (minus x ≡ mag x)) → minus x ≡ 0
+      go (inl s) = s .1
+      go (inr s) = omega (arith, s)
+
+  -- x < 0.0
+  pub below-zero : lt x zero64 ≡ true → (plus x ≡ 0) × (0 < minus x)
+  below-zero e = let l : plus x < minus x = omega (arith, units-of-lt h zero64-finite e, zero64-plus, zero64-minus) in (only-minus l, omega arith)
+
+  pub not-below-zero : lt x zero64 ≡ false → minus x ≡ 0
+  not-below-zero e = only-plus (omega (arith, units-of-not-lt h zero64-finite e, zero64-plus, zero64-minus))
+
+  -- 0.0 < x
+  pub above-zero : lt zero64 x ≡ true → (0 < plus x) × (minus x ≡ 0)
+  above-zero e = let l : minus x < plus x = omega (arith, units-of-lt zero64-finite h e, zero64-plus, zero64-minus) in (omega arith, only-plus (omega arith))
+
+  pub not-above-zero : lt zero64 x ≡ false → plus x ≡ 0
+  not-above-zero e = go (one-sided x) (omega (arith, units-of-not-lt zero64-finite h e, zero64-plus, zero64-minus))
+    where
+      go : ((plus x ≡ mag x) × (minus x ≡ 0)) ⊎ ((plus x ≡ 0) × (minus x ≡ mag x)) → plus x ≤ minus x → plus x ≡ 0
+      go (inl s) l = omega (arith, s)
+      go (inr s) l = s .0

@@ -60,7 +60,7 @@ level-same s t a b c A B d C D p q = rw (same a b c A B d C D p q, same a 0 c A 
 -- ---- the operations
 
 -- m / e is a / c: then m * d over e * d is too, either way round
-crossed : (m e d a c : ℕ) → m * c ≡ a * e → (m * d * c ≡ a * (e * d)) × (m * d * c ≡ a * (d * e))
+pub crossed : (m e d a c : ℕ) → m * c ≡ a * e → (m * d * c ≡ a * (e * d)) × (m * d * c ≡ a * (d * e))
 crossed m e d a c p =
     let h : m * d * c ≡ a * (e * d) = simp (mul-assoc, mul-comm, mul-left-comm) (simp (mul-assoc, mul-comm) at (ap (λ (z : ℕ). z * d) p)) in
     (h, h ∙ ap (λ (z : ℕ). a * z) (mul-comm e d))

@@ -3,6 +3,9 @@
 use mathlib.Core.Bool.{Bool, false, cond, _||_}
 use lib.IntN.{pos}
 use lib.Ieee.{Float, nan, inf, fin, binary64, isNan, lt, add, rem}
+use mathlib.Core.Path.{_≡_}
+use Prim.Native.Nat.{_≤_}
+use Rattle.binary64.specs.Units.{Finite, plus, minus}
 use Rattle.binary64.specs.Constants.{zero64}
 
 -- `x.abs()`: the sign bit cleared. A NaN stays a NaN.
@@ -35,3 +38,9 @@ smallerOf x y = cond (isNan x || lt y x) y x
 -- `x.rem_euclid(m)`: the float remainder, plus m if that is below 0. A zero m and an infinite x give a NaN.
 abbrev pub remEuclid : Float → Float → Float
 remEuclid x m = let r = rem binary64 x m in cond (lt r (zero64)) (add binary64 r m) r
+
+-- z is finite and lies from 0 to m, a -0 included.
+pub record FromZeroTo (z m : Float) : Type 0 where
+  pub finite : Finite z
+  pub above : minus z ≡ 0
+  pub below : plus z ≤ plus m
