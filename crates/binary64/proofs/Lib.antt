@@ -9,3 +9,5 @@ pub mod Error
 pub mod Whole
 pub mod Functions
 pub mod Remainder
+pub mod Constants
+mod Examples

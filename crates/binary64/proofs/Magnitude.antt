@@ -6,7 +6,10 @@ use Prim.Native.Nat.{ℕ, _+_, _-_, _*_, _^_, _≤_, _<_, zero-le}
 use native.Mathlib.Nat.{le-refl, le-trans, le-of-eq, lt-of-lt-of-le, mul-assoc, mul-pos, mul-le-mul, mul-le-mul-left, mul-le-mul-right, mul-mul-mul-comm}
 use native.Mathlib.Omega.{arith}
 use mathlib.Core.Bool.{Bool, true, false, cond}
-use lib.Ieee.{Float, binary64, add, sub, mul, div, neg, round, unlike}
+use lib.Dec.{T, leb, leb→le}
+use lib.Ieee.Bits.{ofBits-fits}
+use lib.Ieee.Scale.{finite}
+use lib.Ieee.{Float, binary64, ofBits, add, sub, mul, div, neg, round, unlike}
 use Rattle.binary64.specs.Units.{pow2, one, limit, Finite, mag, negative, plus, minus, Digits53}
 use Rattle.binary64.specs.Constants.{zero64}
 use Rattle.binary64.specs.Rounding.{Result}
@@ -45,6 +48,13 @@ least-weaken {a = a} m h = record { finite = m .finite; bound = le-trans (mul-le
 
 pub least-finer : {j a : ℕ} {x : Float} (i : ℕ) → Least j (i + a) x → Least (j * 2 ^ i) a x
 least-finer {j} {a} i m = record { finite = m .finite; bound = le-trans (le-of-eq (mul-assoc j (2 ^ i) (pow2 a) ∙ ap (λ (n : ℕ). j * n) (sym (pow2-split i a)))) (m .bound) }
+
+-- A literal of the code, by computing: with `unfolding ofBits mag pow2` both tests are closed by `tt`.
+pub literal-most : (b j a : ℕ) → T (finite (ofBits binary64 b)) → T (leb (mag (ofBits binary64 b)) (j * pow2 a)) → Most j a (ofBits binary64 b)
+literal-most b j a f h = record { finite = record { fit = ofBits-fits binary64 b; number = f }; bound = leb→le (mag (ofBits binary64 b)) (j * pow2 a) h }
+
+pub literal-least : (b j a : ℕ) → T (finite (ofBits binary64 b)) → T (leb (j * pow2 a) (mag (ofBits binary64 b))) → Least j a (ofBits binary64 b)
+literal-least b j a f h = record { finite = record { fit = ofBits-fits binary64 b; number = f }; bound = leb→le (j * pow2 a) (mag (ofBits binary64 b)) h }
 
 pub most-zero : {j a : ℕ} → Most j a zero64
 most-zero {j} {a} = record { finite = zero64-finite; bound = le-trans (le-of-eq (sym (plus-minus zero64) ∙ ap₂ (λ (m n : ℕ). m + n) zero64-plus zero64-minus)) zero-le }

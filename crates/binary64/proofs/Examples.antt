@@ -1,0 +1,57 @@
+-- Worked examples of the laws, one of each kind: a bound, an error, and a finiteness argument over a loop. They use nothing but the laws.
+use mathlib.Core.Path.{refl}
+use Prim.Native.Nat.{ℕ, zero, suc, _+_, _*_, _^_, _≤_, _<_}
+use native.Mathlib.Nat.{le-refl, le-trans}
+use native.Mathlib.Omega.{arith}
+use lib.Dec.{lit≤}
+use lib.IntN.{ℤ, natAbs}
+use lib.Ieee.{Float, binary64, add, mul, ofInt}
+use Rattle.binary64.specs.Units.{pow2, one, plus, minus}
+use Rattle.binary64.specs.Constants.{zero64, pi}
+use Rattle.binary64.specs.Rounding.{Near}
+use Rattle.binary64.specs.Magnitude.{Most}
+use Rattle.binary64.proofs.Constants.{pi-most}
+use Rattle.binary64.proofs.Magnitude.{most-weaken, most-zero, add-most, mul-most}
+use Rattle.binary64.proofs.Error.{add-near, mul-near, horner-near}
+use Rattle.binary64.proofs.Whole.{ofInt-most}
+
+-- ---- a bound: the area PI * r * r of a circle of whole radius up to 20000 is finite, and at most 1.6e9
+
+area : ℤ → Float
+area r = mul binary64 (mul binary64 pi (ofInt binary64 r)) (ofInt binary64 r)
+
+area-most : (r : ℤ) → natAbs r ≤ 20000 → Most 1600000000 1074 (area r)
+unfolding area
+area-most r h =
+    let m = ofInt-most r (le-trans h (lit≤ tt)) h in
+    mul-most (mul-most pi-most m 1074 refl (lit≤ tt) (lit≤ tt)) m 1074 refl (lit≤ tt) (lit≤ tt)
+
+-- ---- an error: one Horner step a + h * x, with |a| ≤ 2, |h| ≤ 2 and |x| ≤ 1, where h is already e units off
+
+-- The product is rounded by at most 2 ^ -53 (2 ^ 1021 units), since it is at most 2; the sum by 2 ^ -52, since it is at most 4.
+step : Float → Float → Float → Float
+step a h x = add binary64 a (mul binary64 h x)
+
+step-near : (a h x : Float) (p n c e : ℕ) → Most 2 1074 a → Most 2 1074 h → Most 1 1074 x → Near h p n c e
+    → Near (step a h x) (plus a * (c * one) + (p * plus x + n * minus x)) (minus a * (c * one) + (p * minus x + n * plus x)) (c * one) (e * 1 + pow2 1021 + pow2 1022)
+unfolding step
+step-near a h x p n c e A H X r =
+    let w = mul-most H X 1074 refl (lit≤ tt) (lit≤ tt) in
+    let z = add-most A w (lit≤ tt) (lit≤ tt) in
+    horner-near a r X (mul-near H X (w .finite) 1074 1 1021 refl (le-refl 2) refl) (add-near A w (z .finite) 2 1022 (le-refl 4) refl)
+
+-- ---- finiteness over a loop: a sum of n terms, each at most j, is finite and at most n * j; no bound doubles along the way
+
+sumTo : (ℕ → Float) → ℕ → Float
+sumTo f zero = zero64
+sumTo f (suc i) = add binary64 (sumTo f i) (f i)
+
+sum-most : (f : ℕ → Float) (j a n : ℕ) → ((i : ℕ) → i < n → Most j a (f i)) → n * j ≤ 2 ^ 53 → a ≤ 2044 → Most (n * j) a (sumTo f n)
+unfolding sumTo
+sum-most f j a zero m h l = most-zero
+sum-most f j a (suc n) m h l =
+    most-weaken (add-most (sum-most f j a n (λ i k. m i (omega arith)) (omega arith) l) (m n (omega arith)) (omega arith) l) (omega arith)
+
+-- 180 arcs of at most 8e9 each
+arcs-most : (f : ℕ → Float) → ((i : ℕ) → i < 180 → Most 8000000000 1074 (f i)) → Most 1440000000000 1074 (sumTo f 180)
+arcs-most f m = sum-most f 8000000000 1074 180 m (lit≤ tt) (lit≤ tt)
