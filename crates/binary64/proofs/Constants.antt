@@ -10,6 +10,10 @@ pub half64-mag : mag half64 ≡ pow2 1073
 unfolding ofBits mag pow2
 half64-mag = refl
 
+pub half64-most : Most 1 1073 half64
+unfolding ofBits mag pow2
+half64-most = literal-most 0x3FE0_0000_0000_0000 1 1073 tt tt
+
 pub one64-mag : mag one64 ≡ one
 unfolding ofBits mag pow2
 one64-mag = refl

@@ -2,13 +2,14 @@
 -- that carry errors on: through a negation, a sum, a product and a Horner step. Rests on Operations and Magnitude.
 use mathlib.Core.Path.{_≡_, refl, sym, ap, ap₂, _∙_, subst}
 use Prim.Native.Nat.{ℕ, zero, _+_, _-_, _*_, _^_, _≤_, _<_}
-use native.Mathlib.Nat.{zero-add, add-le-add, le-add-right, le-add-left, add-comm, le-refl, le-trans, le-of-eq, mul-le-mul, mul-le-mul-left, mul-le-mul-right}
+use native.Mathlib.Nat.{lt-of-mul-lt-mul-right, zero-add, add-le-add, le-add-right, le-add-left, add-comm, le-refl, le-trans, le-of-eq, mul-le-mul, mul-le-mul-left, mul-le-mul-right}
 use native.Mathlib.Omega.{arith}
-use lib.Ieee.{Float, binary64, add, sub, mul, div, neg}
+use mathlib.Core.Bool.{true}
+use lib.Ieee.{lt, Float, binary64, add, sub, mul, div, neg}
 use Rattle.binary64.specs.Units.{pow2, one, Finite, mag, plus, minus}
 use Rattle.binary64.specs.Rounding.{Near, Result}
 use Rattle.binary64.specs.Magnitude.{Most, Least}
-use Rattle.binary64.proofs.Units.{pow2-split, one-pos, plus-is, minus-is, plus-sign, minus-sign, plus-minus, neg-plus, neg-minus}
+use Rattle.binary64.proofs.Units.{lt-of-units, pow2-split, one-pos, plus-is, minus-is, plus-sign, minus-sign, plus-minus, neg-plus, neg-minus}
 use Rattle.binary64.proofs.Rounding.{rounded-near}
 use Rattle.binary64.proofs.Operations.{result-rounded, add-result, sub-result, mul-result, div-result, div-result-minus}
 use Rattle.binary64.proofs.Magnitude.{exponents, crosswise}
@@ -111,6 +112,10 @@ near-sub {c = c} r s t = record {
   over = omega (arith, r .over, s .under, mul-le-mul-right c (t .over));
   under = omega (arith, r .under, s .over, mul-le-mul-right c (t .under));
 }
+
+-- Two results whose exact values are further apart than their errors compare as these do.
+pub near-lt : {w z : Float} {p n q m c h k : ℕ} → Finite w → Finite z → Near w q m c k → Near z p n c h → q + n + (k + h) * c < p + m → lt w z ≡ true
+near-lt {w} {z} {c = c} f g r s l = lt-of-units f g (lt-of-mul-lt-mul-right c (omega (arith, r .over, s .under)))
 
 -- one side of `near-mul`, with plain numbers for the parts of x, y and z: x * y against (p - n) / c * y, then the rounding, then both together
 module _ (px mx py my p n c h : ℕ) (a : px * c + n ≤ mx * c + p + h * c) (b : mx * c + p ≤ px * c + n + h * c) where

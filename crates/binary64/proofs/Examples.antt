@@ -1,18 +1,21 @@
--- Worked examples of the laws, one of each kind: a bound, an error, and a finiteness argument over a loop. They use nothing but the laws.
-use mathlib.Core.Path.{refl}
+-- Worked examples of the laws, one of each kind: a bound, an error, a decision from an error, and a finiteness argument over a loop.
+-- They use nothing but the laws.
+use mathlib.Core.Path.{_≡_, refl}
 use Prim.Native.Nat.{ℕ, zero, suc, _+_, _*_, _^_, _≤_, _<_}
 use native.Mathlib.Nat.{le-refl, le-trans}
 use native.Mathlib.Omega.{arith}
 use lib.Dec.{lit≤}
 use lib.IntN.{ℤ, natAbs}
-use lib.Ieee.{Float, binary64, add, mul, ofInt}
+use mathlib.Core.Bool.{true}
+use lib.Ieee.{Float, binary64, add, sub, mul, lt, ofInt}
 use Rattle.binary64.specs.Units.{pow2, one, plus, minus}
-use Rattle.binary64.specs.Constants.{zero64, pi}
+use Rattle.binary64.specs.Constants.{zero64, half64, pi}
 use Rattle.binary64.specs.Rounding.{Near}
 use Rattle.binary64.specs.Magnitude.{Most}
-use Rattle.binary64.proofs.Constants.{pi-most}
-use Rattle.binary64.proofs.Magnitude.{most-weaken, most-zero, add-most, mul-most}
-use Rattle.binary64.proofs.Error.{add-near, mul-near, horner-near}
+use Rattle.binary64.proofs.Units.{plus-minus, pow2-pos, pow2-split, lt-of-units}
+use Rattle.binary64.proofs.Constants.{half64-mag, half64-most, pi-most}
+use Rattle.binary64.proofs.Magnitude.{most-weaken, most-zero, add-most, sub-most, mul-most}
+use Rattle.binary64.proofs.Error.{add-near, sub-near, mul-near, horner-near}
 use Rattle.binary64.proofs.Whole.{ofInt-most}
 
 -- ---- a bound: the area PI * r * r of a circle of whole radius up to 20000 is finite, and at most 1.6e9
@@ -39,6 +42,17 @@ step-near a h x p n c e A H X r =
     let w = mul-most H X 1074 refl (lit≤ tt) (lit≤ tt) in
     let z = add-most A w (lit≤ tt) (lit≤ tt) in
     horner-near a r X (mul-near H X (w .finite) 1074 1 1021 refl (le-refl 2) refl) (add-near A w (z .finite) 2 1022 (le-refl 4) refl)
+
+-- ---- a decision: x - y is above 0.5 for 5 ≤ x and y ≤ 4, since both are at most 1000 and so the difference is off by 2 ^ -43 (2 ^ 1031 units) at most
+
+-- To `omega` each `pow2` at a number is one unknown; `pow2-split` says how two of them compare.
+apart : (x y : Float) → Most 1000 1074 x → Most 1000 1074 y → minus x ≡ 0 → minus y ≡ 0 → 5 * one ≤ plus x → plus y ≤ 4 * one → lt half64 (sub binary64 x y) ≡ true
+apart x y X Y a b h k =
+    let z = sub-most X Y (lit≤ tt) (lit≤ tt) in
+    let near = sub-near X Y (z .finite) 11 1031 (lit≤ tt) refl in
+    let half = half64-most in
+    let parts = plus-minus half64 in
+    lt-of-units (half .finite) (z .finite) (omega (arith, near, half64-mag, pow2-split 1 1073, pow2-split 42 1031, pow2-pos 1031))
 
 -- ---- finiteness over a loop: a sum of n terms, each at most j, is finite and at most n * j; no bound doubles along the way
 

@@ -1,13 +1,13 @@
 -- A finite f64 in units of 2^-1074: that the division in `mag` is exact, which numbers of units are magnitudes, that sign and magnitude
 -- determine a float, and comparisons as comparisons of natural numbers. Rests on lib.Ieee.{Exact, Fits, Bits}.
 use mathlib.Core.Path.{_≡_, refl, sym, ap, ap₂, _∙_, subst}
-use mathlib.Core.Logic.{_⊎_, inl, inr}
-use Prim.Native.Nat.{ℕ, zero, suc, _+_, _-_, _*_, _/_, _%_, _^_, _≤_, _<_}
-use native.Mathlib.Nat.{lt-irrefl, le-of-lt, le-trans, le-of-eq, lt-of-lt-of-le, lt-of-le-of-lt, eq-or-lt-of-le, add-comm, zero-add, add-zero, zero-mul, div-one, mul-one, one-mul, mul-assoc, mul-right-comm, mul-pos, mul-le-mul-right, mul-lt-mul-of-pos-right, lt-of-mul-lt-mul-right, mul-div-cancel, pow-succ'}
+use mathlib.Core.Logic.{_⊎_, inl, inr, ⊎-elim}
+use Prim.Native.Nat.{ℕ, zero, suc, _+_, _-_, _*_, _/_, _%_, _^_, _≤_, _<_, zero-le}
+use native.Mathlib.Nat.{lt-irrefl, le-trans, le-of-eq, lt-of-lt-of-le, lt-of-le-of-lt, eq-or-lt-of-le, add-comm, zero-add, add-zero, zero-mul, div-one, mul-one, one-mul, mul-assoc, mul-right-comm, mul-pos, mul-le-mul-right, mul-lt-mul-of-pos-right, lt-of-mul-lt-mul-right, mul-div-cancel, pow-succ'}
 use native.Mathlib.Omega.{arith}
-use mathlib.Core.Bool.{Bool, true, false, not, _&&_, _||_, cond}
+use mathlib.Core.Bool.{Bool, true, false, not, _&&_, cond}
 use lib.IntN.{ℤ, pos, negsuc}
-use lib.Dec.{T, not-T, leb, ltb, eqb, leb→le, le→leb, ltb→lt, lt→ltb, nltb→le, eqb→eq, lit<}
+use lib.Dec.{T, not-T, leb, ltb, eqb, leb→le, ltb→lt, lt→ltb, nltb→le, eqb→eq, lit<}
 use lib.Arith.{le→nltb}
 use lib.Pow.{pow-add, pow-pos, pow-mono, shl-lt}
 use lib.Ieee.{Float, nan, inf, fin, binary64, up, down, size, below, level, fits, isNan, ofBits, toBits, lt, le, eq, neg}
@@ -15,7 +15,7 @@ use lib.Ieee.Digits.{back}
 use lib.Ieee.Exact.{HasValue, round-exact}
 use lib.Ieee.Fits.{up-pos, down-pos, and-l, and-r, eq→eqb, round-fits, neg-fits}
 use lib.Ieee.Bits.{ofBits-toBits, is-true, is-false}
-use Rattle.binary64.proofs.Naturals.{same-test, and-true, both-zero, not-ltb, pow-le-back}
+use Rattle.binary64.proofs.Naturals.{same-test, lt-or-eq, and-true, both-zero, not-ltb, pow-le-back}
 use Rattle.binary64.proofs.Values.{lt-values, eq-values}
 use Rattle.binary64.specs.Constants.{zero64, zero64-is}
 use Rattle.binary64.specs.Units.{pow2, one, limit, Finite, mag, negative, plus, minus, ofUnits, signedZero, Digits53}
@@ -109,7 +109,7 @@ mag-value {x = nan} h = absurd (h .number)
 mag-value {x = inf s} h = absurd (h .number)
 mag-value {x = fin s m e} h = (refl, sym (mag-exact s m e (h .fit)))
 
--- What has the value ±a units is finite, and has that sign and that magnitude.
+-- What has the value ±a units has that magnitude and that sign, and is finite.
 pub value-mag : (x : Float) (s : Bool) (a : ℕ) → HasValue x s a one → mag x ≡ a
 value-mag nan s a h = absurd h
 value-mag (inf t) s a h = absurd h
@@ -273,6 +273,12 @@ zero-minus false = refl
 pub is-zero : {x : Float} → Finite x → mag x ≡ 0 → x ≡ signedZero (negative x)
 is-zero {x} h e = same-float h (zero-finite (negative x)) refl (e ∙ sym (zero-mag (negative x)))
 
+pub ofUnits-zero : (s : Bool) → ofUnits s 0 ≡ signedZero s
+ofUnits-zero s =
+    let d = digits53 0 0 zero-le in
+    let l = below-limit 0 0 zero-le zero-le in
+    is-zero (ofUnits-finite s 0 d l) (ofUnits-mag s 0 d l) ∙ ap signedZero (ofUnits-sign s 0 d l)
+
 -- ---- the float -x
 
 pub neg-mag : (x : Float) → mag (neg x) ≡ mag x
@@ -293,21 +299,17 @@ neg-finite {x = nan} h = absurd (h .number)
 neg-finite {x = inf s} h = absurd (h .number)
 neg-finite {x = fin s m e} h = record { fit = neg-fits binary64 (fin s m e) (h .fit); number = tt }
 
+cond-not : (s : Bool) (m n : ℕ) → cond (not s) m n ≡ cond s n m
+cond-not true m n = refl
+cond-not false m n = refl
+
 pub neg-plus : {x : Float} → Finite x → plus (neg x) ≡ minus x
 unfolding plus minus
-neg-plus {x} h = ap₂ (λ (s : Bool) (n : ℕ). cond s 0 n) (neg-sign h) (neg-mag x) ∙ turned (negative x) (mag x)
-  where
-    turned : (s : Bool) (n : ℕ) → cond (not s) 0 n ≡ cond s n 0
-    turned true n = refl
-    turned false n = refl
+neg-plus {x} h = ap₂ (λ (s : Bool) (n : ℕ). cond s 0 n) (neg-sign h) (neg-mag x) ∙ cond-not (negative x) 0 (mag x)
 
 pub neg-minus : {x : Float} → Finite x → minus (neg x) ≡ plus x
 unfolding plus minus
-neg-minus {x} h = ap₂ (λ (s : Bool) (n : ℕ). cond s n 0) (neg-sign h) (neg-mag x) ∙ turned (negative x) (mag x)
-  where
-    turned : (s : Bool) (n : ℕ) → cond (not s) n 0 ≡ cond s 0 n
-    turned true n = refl
-    turned false n = refl
+neg-minus {x} h = ap₂ (λ (s : Bool) (n : ℕ). cond s n 0) (neg-sign h) (neg-mag x) ∙ cond-not (negative x) (mag x) 0
 
 -- ---- comparisons
 
@@ -341,32 +343,7 @@ eq-units {x} {y} h k = eq-values x y (negative x) (negative y) (mag x) (mag y) o
 
 pub le-units : {x y : Float} → Finite x → Finite y → le x y ≡ leb (plus x + minus y) (plus y + minus x)
 unfolding le
-le-units {x} {y} h k = rw (lt-units h k, eq-units h k) (either (plus x + minus y) (plus y + minus x))
-  where
-    or-l : (a b : Bool) → T a → T (a || b)
-    or-l true b t = tt
-    or-l false b t = absurd t
-
-    weak : (a b : Bool) (p : Type 0) → (T a → p) → (T b → p) → T (a || b) → p
-    weak true b p f g t = f tt
-    weak false b p f g t = g t
-
-    more : (a b : ℕ) → (ltb a b ≡ true) ⊎ (ltb a b ≡ false) → a ≤ b → T (ltb a b || eqb a b)
-    more a b (inl e) l = subst (λ (z : Bool). T (z || eqb a b)) (sym e) tt
-    more a b (inr e) l = subst (λ (z : Bool). T (z || eqb a b)) (sym e) (eq→eqb (same a b l (nltb→le a b (subst (λ (z : Bool). T (not z)) (sym e) tt))))
-      where
-        same : (a b : ℕ) → a ≤ b → b ≤ a → a ≡ b
-        same a b p q = omega arith
-
-    dec : (b : Bool) → (b ≡ true) ⊎ (b ≡ false)
-    dec true = inl refl
-    dec false = inr refl
-
-    either : (a b : ℕ) → (ltb a b || eqb a b) ≡ leb a b
-    either a b =
-        same-test (ltb a b || eqb a b) (leb a b)
-        (weak (ltb a b) (eqb a b) (T (leb a b)) (λ t. le→leb a b (le-of-lt (ltb→lt a b t))) (λ t. le→leb a b (le-of-eq (eqb→eq a b t))))
-        (λ t. more a b (dec (ltb a b)) (leb→le a b t))
+le-units {x} {y} h k = rw (lt-units h k, eq-units h k) (lt-or-eq (plus x + minus y) (plus y + minus x))
 
 -- what a test of the code says, and what it takes to pass or fail it
 pub units-of-lt : {x y : Float} → Finite x → Finite y → lt x y ≡ true → plus x + minus y < plus y + minus x
@@ -396,36 +373,24 @@ zero64-plus = ap plus zero64-is ∙ zero-plus false
 pub zero64-minus : minus zero64 ≡ 0
 zero64-minus = ap minus zero64-is ∙ zero-minus false
 
+-- one part of a float is 0: the smaller one
+no-plus : (x : Float) → plus x ≤ minus x → plus x ≡ 0
+no-plus x l = ⊎-elim (λ s. omega (arith, s)) (λ s. s .0) (one-sided x)
+
+no-minus : (x : Float) → minus x ≤ plus x → minus x ≡ 0
+no-minus x l = ⊎-elim (λ s. s .1) (λ s. omega (arith, s)) (one-sided x)
+
 module _ {x : Float} (h : Finite x) where
-  -- one part of a float is 0, so an order between the two says which
-  only-minus : plus x < minus x → plus x ≡ 0
-  only-minus l = go (one-sided x)
-    where
-      go : ((plus x ≡ mag x) × (minus x ≡ 0)) ⊎ ((plus x ≡ 0) × (minus x ≡ mag x)) → plus x ≡ 0
-      go (inl s) = omega (arith, s)
-      go (inr s) = s .0
-
-  only-plus : minus x ≤ plus x → minus x ≡ 0
-  only-plus l = go (one-sided x)
-    where
-      go : ((plus x ≡ mag x) × (minus x ≡ 0)) ⊎ ((plus x ≡ 0) × (minus x ≡ mag x)) → minus x ≡ 0
-      go (inl s) = s .1
-      go (inr s) = omega (arith, s)
-
   -- x < 0.0
   pub below-zero : lt x zero64 ≡ true → (plus x ≡ 0) × (0 < minus x)
-  below-zero e = let l : plus x < minus x = omega (arith, units-of-lt h zero64-finite e, zero64-plus, zero64-minus) in (only-minus l, omega arith)
+  below-zero e = let l : plus x < minus x = omega (arith, units-of-lt h zero64-finite e, zero64-plus, zero64-minus) in (no-plus x (omega arith), omega arith)
 
   pub not-below-zero : lt x zero64 ≡ false → minus x ≡ 0
-  not-below-zero e = only-plus (omega (arith, units-of-not-lt h zero64-finite e, zero64-plus, zero64-minus))
+  not-below-zero e = no-minus x (omega (arith, units-of-not-lt h zero64-finite e, zero64-plus, zero64-minus))
 
   -- 0.0 < x
   pub above-zero : lt zero64 x ≡ true → (0 < plus x) × (minus x ≡ 0)
-  above-zero e = let l : minus x < plus x = omega (arith, units-of-lt zero64-finite h e, zero64-plus, zero64-minus) in (omega arith, only-plus (omega arith))
+  above-zero e = let l : minus x < plus x = omega (arith, units-of-lt zero64-finite h e, zero64-plus, zero64-minus) in (omega arith, no-minus x (omega arith))
 
   pub not-above-zero : lt zero64 x ≡ false → plus x ≡ 0
-  not-above-zero e = go (one-sided x) (omega (arith, units-of-not-lt zero64-finite h e, zero64-plus, zero64-minus))
-    where
-      go : ((plus x ≡ mag x) × (minus x ≡ 0)) ⊎ ((plus x ≡ 0) × (minus x ≡ mag x)) → plus x ≤ minus x → plus x ≡ 0
-      go (inl s) l = omega (arith, s)
-      go (inr s) l = s .0
+  not-above-zero e = no-plus x (omega (arith, units-of-not-lt zero64-finite h e, zero64-plus, zero64-minus))
