@@ -14,7 +14,7 @@ use Rattle.binary64.specs.Rounding.{Near}
 use Rattle.binary64.specs.Magnitude.{Most}
 use Rattle.binary64.proofs.Units.{plus-minus, pow2-pos, pow2-split, lt-of-units}
 use Rattle.binary64.proofs.Constants.{half64-mag, half64-most, pi-most}
-use Rattle.binary64.proofs.Magnitude.{most-weaken, most-zero, add-most, sub-most, mul-most}
+use Rattle.binary64.proofs.Magnitude.{most-zero, loop-most, add-most, sub-most, mul-most}
 use Rattle.binary64.proofs.Error.{add-near, sub-near, mul-near, horner-near}
 use Rattle.binary64.proofs.Whole.{ofInt-most}
 
@@ -60,11 +60,9 @@ sumTo : (ℕ → Float) → ℕ → Float
 sumTo f zero = zero64
 sumTo f (suc i) = add binary64 (sumTo f i) (f i)
 
-sum-most : (f : ℕ → Float) (j a n : ℕ) → ((i : ℕ) → i < n → Most j a (f i)) → n * j ≤ 2 ^ 53 → a ≤ 2044 → Most (n * j) a (sumTo f n)
+sum-most : (f : ℕ → Float) (j a n : ℕ) → ((i : ℕ) → i < n → Most j a (f i)) → n * j ≤ 2 ^ 53 → a ≤ 2044 → Most (0 + n * j) a (sumTo f n)
 unfolding sumTo
-sum-most f j a zero m h l = most-zero
-sum-most f j a (suc n) m h l =
-    most-weaken (add-most (sum-most f j a n (λ i k. m i (omega arith)) (omega arith) l) (m n (omega arith)) (omega arith) l) (omega arith)
+sum-most f j a n m h l = loop-most (sumTo f) j n most-zero (λ i k u v w. add-most w (m i u) v l) (omega arith)
 
 -- 180 arcs of at most 8e9 each
 arcs-most : (f : ℕ → Float) → ((i : ℕ) → i < 180 → Most 8000000000 1074 (f i)) → Most 1440000000000 1074 (sumTo f 180)

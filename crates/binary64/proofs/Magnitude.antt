@@ -2,19 +2,19 @@
 -- rounding never passes it; with a up to 2044 the result is finite. Rests on Operations.
 use mathlib.Core.Path.{ap₂, _≡_, refl, sym, ap, _∙_, subst}
 use mathlib.Core.Logic.{_⊎_, inl, inr}
-use Prim.Native.Nat.{ℕ, _+_, _-_, _*_, _^_, _≤_, _<_, zero-le}
+use Prim.Native.Nat.{zero, suc, ℕ, _+_, _-_, _*_, _^_, _≤_, _<_, zero-le}
 use native.Mathlib.Nat.{le-refl, le-trans, le-of-eq, lt-of-lt-of-le, mul-assoc, mul-pos, mul-le-mul, mul-le-mul-left, mul-le-mul-right, mul-mul-mul-comm}
 use native.Mathlib.Omega.{arith}
-use mathlib.Core.Bool.{Bool, true, false, cond}
+use mathlib.Core.Bool.{false≢true, Bool, true, false, cond}
 use lib.Dec.{T, leb, leb→le}
 use lib.Ieee.Bits.{ofBits-fits}
 use lib.Ieee.Scale.{finite}
-use lib.Ieee.{Float, binary64, ofBits, add, sub, mul, div, neg, round, unlike}
+use lib.Ieee.{nan, inf, fin, fits, le, Float, binary64, ofBits, add, sub, mul, div, neg, round, unlike}
 use Rattle.binary64.specs.Units.{pow2, one, limit, Finite, mag, negative, plus, minus, Digits53}
 use Rattle.binary64.specs.Constants.{zero64}
 use Rattle.binary64.specs.Rounding.{Result}
 use Rattle.binary64.specs.Magnitude.{Most, Least}
-use Rattle.binary64.proofs.Units.{zero64-finite, zero64-plus, zero64-minus, one-sided, pow2-is, pow2-pos, pow2-add, pow2-split, one-pos, digits53, below-limit, plus-minus, plus-is, minus-is, neg-finite, neg-mag}
+use Rattle.binary64.proofs.Units.{units-of-le, neg-plus, neg-minus, zero64-finite, zero64-plus, zero64-minus, one-sided, pow2-is, pow2-pos, pow2-add, pow2-split, one-pos, digits53, below-limit, plus-minus, plus-is, minus-is, neg-finite, neg-mag}
 use Rattle.binary64.proofs.Rounding.{rnd-le, rnd-ge, plus-ge, minus-ge}
 use Rattle.binary64.proofs.Operations.{round-finite, round-mag, mul-round, result-finite, result-le, result-rounded, add-result, sub-result, mul-mag, div-mag, div-round}
 
@@ -59,10 +59,39 @@ literal-least b j a f h = record { finite = record { fit = ofBits-fits binary64 
 pub most-zero : {j a : ℕ} → Most j a zero64
 most-zero {j} {a} = record { finite = zero64-finite; bound = le-trans (le-of-eq (sym (plus-minus zero64) ∙ ap₂ (λ (m n : ℕ). m + n) zero64-plus zero64-minus)) zero-le }
 
+-- neither a NaN nor an infinity lies between two finite floats
+between-finite : (x y : Float) → T (fits binary64 x) → Finite y → le (neg y) x ≡ true → le x y ≡ true → Finite x
+unfolding le neg
+between-finite nan y t k d e = absurd (false≢true e)
+between-finite (inf s) nan t k d e = absurd (k .number)
+between-finite (inf s) (inf u) t k d e = absurd (k .number)
+between-finite (inf true) (fin u n q) t k d e = absurd (false≢true d)
+between-finite (inf false) (fin u n q) t k d e = absurd (false≢true e)
+between-finite (fin s m p) y t k d e = record { fit = t; number = tt }
+
 -- One of two values, whichever a test picks.
 pub most-either : {j a : ℕ} {x y : Float} (b : Bool) → Most j a x → Most j a y → Most j a (cond b x y)
 most-either true m n = m
 most-either false m n = n
+
+-- x lies from -y to y, by the code's tests: then x is finite, and at most as large.
+pub most-between : {j a : ℕ} {x y : Float} → T (fits binary64 x) → Most j a y → le (neg y) x ≡ true → le x y ≡ true → Most j a x
+most-between {j} {a} {x} {y} t m d e =
+    let k = m .finite in
+    let h = between-finite x y t k d e in
+    let u = units-of-le h k e in
+    let v = units-of-le (neg-finite k) h d in
+    record { finite = h; bound = go (one-sided x) (omega (arith, u)) (omega (arith, v, neg-plus k, neg-minus k)) }
+  where
+    go : ((plus x ≡ mag x) × (minus x ≡ 0)) ⊎ ((plus x ≡ 0) × (minus x ≡ mag x)) → plus x + minus y ≤ plus y + minus x → minus y + minus x ≤ plus x + plus y → mag x ≤ j * pow2 a
+    go (inl s) u v = omega (arith, s, plus-minus y, m .bound)
+    go (inr s) u v = omega (arith, s, plus-minus y, m .bound)
+
+-- ---- along a loop: n steps, each of which adds at most j, lead from k to k + n * j
+pub loop-most : (s : ℕ → Float) (j n : ℕ) {k a : ℕ} → Most k a (s 0) → ((i m : ℕ) → i < n → m + j ≤ 2 ^ 53 → Most m a (s i) → Most (m + j) a (s (suc i))) → k + n * j ≤ 2 ^ 53 → Most (k + n * j) a (s n)
+loop-most s j zero z f h = most-weaken z (omega arith)
+loop-most s j (suc n) {k} z f h =
+    most-weaken (f n (k + n * j) (omega arith) (omega arith) (loop-most s j n z (λ i m l. f i m (omega arith)) (omega arith))) (omega arith)
 
 -- ---- negation, sums and differences
 

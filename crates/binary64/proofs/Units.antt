@@ -7,7 +7,7 @@ use native.Mathlib.Nat.{lt-irrefl, le-trans, le-of-eq, lt-of-lt-of-le, lt-of-le-
 use native.Mathlib.Omega.{arith}
 use mathlib.Core.Bool.{Bool, true, false, not, _&&_, cond}
 use lib.IntN.{ℤ, pos, negsuc}
-use lib.Dec.{T, not-T, leb, ltb, eqb, leb→le, ltb→lt, lt→ltb, nltb→le, eqb→eq, lit<}
+use lib.Dec.{T, not-T, leb, ltb, eqb, leb→le, le→leb, ltb→lt, lt→ltb, nltb→le, eqb→eq, lit<}
 use lib.Arith.{le→nltb}
 use lib.Pow.{pow-add, pow-pos, pow-mono, shl-lt}
 use lib.Ieee.{Float, nan, inf, fin, binary64, up, down, size, below, level, fits, isNan, ofBits, toBits, lt, le, eq, neg}
@@ -357,6 +357,21 @@ lt-of-units {x} {y} h k l = lt-units h k ∙ is-true (ltb (plus x + minus y) (pl
 
 pub not-lt-of-units : {x y : Float} → Finite x → Finite y → plus y + minus x ≤ plus x + minus y → lt x y ≡ false
 not-lt-of-units {x} {y} h k l = lt-units h k ∙ is-false (ltb (plus x + minus y) (plus y + minus x)) (le→nltb (plus x + minus y) (plus y + minus x) l)
+
+pub units-of-le : {x y : Float} → Finite x → Finite y → le x y ≡ true → plus x + minus y ≤ plus y + minus x
+units-of-le {x} {y} h k e = leb→le (plus x + minus y) (plus y + minus x) (subst (λ (b : Bool). T b) (sym e ∙ le-units h k) tt)
+
+pub le-of-units : {x y : Float} → Finite x → Finite y → plus x + minus y ≤ plus y + minus x → le x y ≡ true
+le-of-units {x} {y} h k l = le-units h k ∙ is-true (leb (plus x + minus y) (plus y + minus x)) (le→leb (plus x + minus y) (plus y + minus x) l)
+
+pub eq-of-units : {x y : Float} → Finite x → Finite y → plus x + minus y ≡ plus y + minus x → eq x y ≡ true
+eq-of-units {x} {y} h k e = eq-units h k ∙ is-true (eqb (plus x + minus y) (plus y + minus x)) (eq→eqb e)
+
+-- what is below is not equal
+pub lt-not-eq : {x y : Float} → Finite x → Finite y → lt x y ≡ true → eq x y ≡ false
+lt-not-eq {x} {y} h k e =
+    let l = units-of-lt h k e in
+    eq-units h k ∙ is-false (eqb (plus x + minus y) (plus y + minus x)) (not-T (eqb (plus x + minus y) (plus y + minus x)) (λ t. let q = eqb→eq (plus x + minus y) (plus y + minus x) t in omega arith))
 
 -- among finite floats x ≤ y just where y < x fails
 pub le-not-lt : {x y : Float} → Finite x → Finite y → le x y ≡ not (lt y x)
