@@ -32,6 +32,7 @@ add-near {j} {k} {a} {x} {y} m n f i e h l =
     let q = plus-minus y in
     result-near (le-refl 1) (add-result (m .finite) (n .finite)) f e (omega (arith, m .bound, n .bound)) (omega (arith, m .bound, n .bound))
 
+-- The same of a difference.
 pub sub-near : {j k a : ℕ} {x y : Float} → Most j a x → Most k a y → Finite (sub binary64 x y) → (i e : ℕ) → j + k ≤ 2 ^ i → i + a ≡ 54 + e → Near (sub binary64 x y) (plus x + minus y) (minus x + plus y) 1 (pow2 e)
 sub-near {j} {k} {a} {x} {y} m n f i e h l =
     let w = within (j + k) a i e h l in
@@ -86,6 +87,7 @@ module _ {j k a b : ℕ} {x y : Float} (m : Most j a x) (n : Least k b y) (c i e
 pub near-itself : (x : Float) (c : ℕ) → Near x (plus x * c) (minus x * c) c 0
 near-itself x c = record { over = omega arith; under = omega arith }
 
+-- A larger error holds too.
 pub near-weaken : {z : Float} {p n c h k : ℕ} → Near z p n c h → h ≤ k → Near z p n c k
 near-weaken {c = c} r l = let g = mul-le-mul-right c l in record { over = omega (arith, r .over); under = omega (arith, r .under) }
 
@@ -97,6 +99,7 @@ near-shift r e = record { over = omega (arith, r .over); under = omega (arith, r
 pub near-scale : {z : Float} {p n c h : ℕ} (k : ℕ) → Near z p n c h → Near z (p * k) (n * k) (c * k) h
 near-scale k r = record { over = omega (arith, mul-le-mul-right k (r .over)); under = omega (arith, mul-le-mul-right k (r .under)) }
 
+-- Negation turns the value round, and keeps the error.
 pub near-neg : {x : Float} {p n c h : ℕ} → Finite x → Near x p n c h → Near (neg x) n p c h
 near-neg f r = record { over = rw (neg-plus f, neg-minus f) (r .under); under = rw (neg-plus f, neg-minus f) (r .over) }
 
@@ -107,6 +110,7 @@ near-add {c = c} r s t = record {
   under = omega (arith, r .under, s .under, mul-le-mul-right c (t .under));
 }
 
+-- So do those of a difference.
 pub near-sub : {x y z : Float} {p n q m c g h k : ℕ} → Near x p n c g → Near y q m c h → Near z (plus x + minus y) (minus x + plus y) 1 k → Near z (p + m) (n + q) c (g + h + k)
 near-sub {c = c} r s t = record {
   over = omega (arith, r .over, s .under, mul-le-mul-right c (t .over));

@@ -22,12 +22,14 @@ use Rattle.binary64.proofs.Patterns.{pattern-sign}
 
 -- ---- x == x fails just for a NaN
 
+-- what passes the test is no NaN
 pub equals-itself : (x : Float) → eq x x ≡ true → isNan x ≡ false
 unfolding eq isNan
 equals-itself nan e = sym e
 equals-itself (inf s) e = refl
 equals-itself (fin s m e) h = refl
 
+-- what fails it is a NaN
 pub only-nan : (x : Float) → eq x x ≡ false → x ≡ nan
 unfolding ne
 only-nan x e = differs-from-itself x (subst (λ (b : Bool). T (not b)) (sym e) tt)
@@ -38,11 +40,13 @@ is-nan x e = ap isNan (only-nan x e)
 
 -- ---- the sign bit
 
+-- A number's bits reach 2 ^ 63 just where its sign bit is set.
 pub sign-of-bits : (x : Float) → T (fits binary64 x) → isNan x ≡ false → leb (2 ^ 63) (toBits binary64 x) ≡ negative x
 sign-of-bits x f n =
     let e = ofBits-toBits binary64 x f in
     sym (pattern-sign (toBits binary64 x) (subst (λ (y : Float). T (not (isNan y))) (sym e) (subst (λ (b : Bool). T (not b)) (sym n) tt))) ∙ ap negative e
 
+-- With the sign bit set |x| is -x, and otherwise x.
 pub absolute-of-negative : (x : Float) → negative x ≡ true → neg x ≡ absolute x
 unfolding neg
 absolute-of-negative nan e = refl
@@ -54,6 +58,7 @@ absolute-of-other nan e = refl
 absolute-of-other (inf s) e = ap inf e
 absolute-of-other (fin s m d) e = ap (λ (b : Bool). fin b m d) e
 
+-- The signum of a number is 1 or -1 by the sign bit.
 pub signum-of-number : (x : Float) (s : Bool) → isNan x ≡ false → negative x ≡ s → signumOf x ≡ unit s
 unfolding isNan
 signum-of-number nan s n e = absurd (true≢false n)
@@ -66,6 +71,7 @@ number {x} h = is-false (isNan x) (not-nan h)
 
 -- ---- abs
 
+-- |x| has no sign bit, and x's magnitude.
 pub absolute-sign : (x : Float) → negative (absolute x) ≡ false
 absolute-sign nan = refl
 absolute-sign (inf s) = refl
@@ -91,6 +97,7 @@ absolute-most {x = x} m = record { finite = absolute-finite (m .finite); bound =
 pub absolute-least : {j a : ℕ} {x : Float} → Least j a x → Least j a (absolute x)
 absolute-least {x = x} m = record { finite = absolute-finite (m .finite); bound = le-trans (m .bound) (le-of-eq (sym (absolute-mag x))) }
 
+-- All of |x| is above zero.
 pub absolute-parts : (x : Float) → (plus (absolute x) ≡ mag x) × (minus (absolute x) ≡ 0)
 absolute-parts x = let w = plus-is (absolute x) (absolute-sign x) in (w .0 ∙ absolute-mag x, w .1)
 
@@ -113,6 +120,7 @@ clamp-sign x = go (lt zero64 x) refl
     go true e = above-sign x (ap (λ (z : Float). lt z x) (sym zero64-is) ∙ e)
     go false e = (ap negative zero64-is, number zero64-finite)
 
+-- It is no larger than x.
 pub clamp-most : {j a : ℕ} {x : Float} → Most j a x → Most j a (clampToZero x)
 clamp-most {x = x} m = most-either (lt zero64 x) m most-zero
 
@@ -126,12 +134,14 @@ clamp-parts {x} h = go (lt zero64 x) refl
 
 -- ---- larger and smaller
 
+-- Of numbers they are picked by one test.
 pub larger-is : (x y : Float) → isNan x ≡ false → largerOf x y ≡ cond (lt x y) y x
 larger-is x y e = rw e
 
 pub smaller-is : (x y : Float) → isNan x ≡ false → smallerOf x y ≡ cond (lt y x) y x
 smaller-is x y e = rw e
 
+-- They are bounded as both are.
 pub larger-most : {j a : ℕ} {x y : Float} → Most j a x → Most j a y → Most j a (largerOf x y)
 larger-most {x = x} {y = y} m n = most-either (isNan x || lt x y) n m
 
@@ -144,6 +154,7 @@ picked false a b = refl
 
 -- of whole numbers
 module _ (a b : ℤ) (h : natAbs a ≤ 2 ^ 53) (k : natAbs b ≤ 2 ^ 53) where
+  -- They are the larger and the smaller whole number.
   pub larger-ofInt : largerOf (ofInt binary64 a) (ofInt binary64 b) ≡ ofInt binary64 (cond (ltZ a b) b a)
   larger-ofInt = larger-is (ofInt binary64 a) (ofInt binary64 b) (number (ofInt-finite a h)) ∙ rw (lt-ofInt a b h k) (picked (ltZ a b) b a)
 

@@ -20,6 +20,7 @@ use Rattle.binary64.proofs.Operations.{round-finite, round-mag, mul-rou
 
 -- ---- a bound is a float itself
 
+-- j * 2 ^ a has 53 digits for j up to 2 ^ 53, and is below the limit for a up to 2044.
 pub bound-digits : {j : ℕ} (a : ℕ) → j ≤ 2 ^ 53 → Digits53 (j * pow2 a)
 unfolding pow2
 bound-digits {j} a h = digits53 j a h
@@ -29,6 +30,7 @@ bound-limit {j} {a} h k = subst (λ (n : ℕ). j * n < limit) (sym (pow2-is a)) 
 
 -- ---- looser bounds, and other exponents
 
+-- A larger bound holds too.
 pub most-weaken : {j k a : ℕ} {x : Float} → Most j a x → j ≤ k → Most k a x
 most-weaken {a = a} m h = record { finite = m .finite; bound = le-trans (m .bound) (mul-le-mul-right (pow2 a) h) }
 
@@ -43,9 +45,11 @@ most-coarser {j} {a} m i k h = record {
 pub most-finer : {j a : ℕ} {x : Float} (i : ℕ) → Most j (i + a) x → Most (j * 2 ^ i) a x
 most-finer {j} {a} i m = record { finite = m .finite; bound = le-trans (m .bound) (le-of-eq (ap (λ (n : ℕ). j * n) (pow2-split i a) ∙ sym (mul-assoc j (2 ^ i) (pow2 a)))) }
 
+-- A smaller lower bound holds too.
 pub least-weaken : {j k a : ℕ} {x : Float} → Least k a x → j ≤ k → Least j a x
 least-weaken {a = a} m h = record { finite = m .finite; bound = le-trans (mul-le-mul-right (pow2 a) h) (m .bound) }
 
+-- a lower bound with a finer exponent
 pub least-finer : {j a : ℕ} {x : Float} (i : ℕ) → Least j (i + a) x → Least (j * 2 ^ i) a x
 least-finer {j} {a} i m = record { finite = m .finite; bound = le-trans (le-of-eq (mul-assoc j (2 ^ i) (pow2 a) ∙ ap (λ (n : ℕ). j * n) (sym (pow2-split i a)))) (m .bound) }
 
@@ -56,6 +60,7 @@ literal-most b j a f h = record { finite = record { fit = ofBits-fits binary64 b
 pub literal-least : (b j a : ℕ) → T (finite (ofBits binary64 b)) → T (leb (j * pow2 a) (mag (ofBits binary64 b))) → Least j a (ofBits binary64 b)
 literal-least b j a f h = record { finite = record { fit = ofBits-fits binary64 b; number = f }; bound = leb→le (j * pow2 a) (mag (ofBits binary64 b)) h }
 
+-- Zero is within any bound.
 pub most-zero : {j a : ℕ} → Most j a zero64
 most-zero {j} {a} = record { finite = zero64-finite; bound = le-trans (le-of-eq (sym (plus-minus zero64) ∙ ap₂ (λ (m n : ℕ). m + n) zero64-plus zero64-minus)) zero-le }
 
@@ -95,6 +100,7 @@ loop-most s j (suc n) {k} z f h =
 
 -- ---- negation, sums and differences
 
+-- -x is as large as x.
 pub neg-most : {j a : ℕ} {x : Float} → Most j a x → Most j a (neg x)
 neg-most {x = x} m = record { finite = neg-finite (m .finite); bound = le-trans (le-of-eq (neg-mag x)) (m .bound) }
 
@@ -107,6 +113,7 @@ result-most {a = a} C r h k p n =
     let f = result-finite C r (bound-digits a h) p n (bound-limit h k) in
     record { finite = f; bound = result-le C r (bound-digits a h) p n f }
 
+-- The bounds of a sum and of a difference add up, and rounding adds nothing.
 pub add-most : {j k a : ℕ} {x y : Float} → Most j a x → Most k a y → j + k ≤ 2 ^ 53 → a ≤ 2044 → Most (j + k) a (add binary64 x y)
 add-most {x = x} {y = y} m n h l =
     let p = plus-minus x in
@@ -176,6 +183,7 @@ add-least-most {j} {k} {a} {x} {y} m n i g h f = result-least {a = a} (le-refl 1
     go (inl u) = inl (omega (arith, u, room, plus-minus y, m .bound, n .bound))
     go (inr u) = inr (omega (arith, u, room, plus-minus y, m .bound, n .bound))
 
+-- The lower bound of a product, and of a quotient by a divisor of at most k * 2 ^ b units.
 pub mul-least : {j k a b : ℕ} {x y : Float} → Least j a x → Least k b y → (c : ℕ) → a + b ≡ c + 1074 → j * k ≤ 2 ^ 53 → Finite (mul binary64 x y) → Least (j * k) c (mul binary64 x y)
 mul-least {j} {k} {a} {b} {x} {y} m n c e h f = record {
   finite = f;

@@ -57,6 +57,7 @@ module _ (s : Bool) (a c : ℕ) where
   pub round-finite : {w : ℕ} → 0 < c → Digits53 w → w < limit → a * one ≤ w * c → Finite (round binary64 s a c)
   round-finite C d l h = value-finite (round binary64 s a c) s (rnd (a * one) c) one (round-fits binary64 s a c) (round-value (lt-of-le-of-lt (rnd-le (a * one) c C d h) l))
 
+  -- Finite, it has that magnitude and the sign s.
   pub round-mag : Finite (round binary64 s a c) → mag (round binary64 s a c) ≡ rnd (a * one) c
   round-mag f = value-mag (round binary64 s a c) s (rnd (a * one) c) (round-value (round-below (f .number)))
 
@@ -84,6 +85,7 @@ module _ {z : Float} {p n c : ℕ} (C : 0 < c) (r : Result z p n c) where
   pub result-mag : Finite z → mag z ≡ rnd (r .size) c
   result-mag f = value-mag z (r .minus?) (rnd (r .size) c) (value (below f))
 
+  -- z is (p - n) / c, rounded, by its parts above and below zero.
   pub result-rounded : Finite z → Rounded z p n c
   result-rounded f = go (r .minus?) (result-sign f) (r .above) (r .below)
     where
@@ -164,6 +166,7 @@ pub sub-is : (x y : Float) → sub binary64 x y ≡ add binary64 x (neg y)
 unfolding sub
 sub-is x y = refl
 
+-- x - y is (plus x + minus y) - (minus x + plus y), rounded.
 pub sub-result : {x y : Float} → Finite x → Finite y → Result (sub binary64 x y) (plus x + minus y) (minus x + plus y) 1
 sub-result {x} {y} h k = rw (sub-is x y) (rw (neg-plus k, neg-minus k) at (add-result h (neg-finite k)))
 
@@ -196,6 +199,7 @@ sum-zero true true A B e = let h : A + B ≡ 0 = omega arith in ap (λ (n : ℕ)
 sum-zero false true A B e = rw (not-less A B (omega arith)) (ap (λ (n : ℕ). ofUnits false n) (sub-eq-zero-of-le (le-of-eq (sym (add-zero A) ∙ e ∙ zero-add B))))
 sum-zero true false A B e = rw (not-less A B (omega arith), not-less B A (omega arith)) (ap (λ (n : ℕ). ofUnits false n) (sub-eq-zero-of-le (le-of-eq (sym (add-zero A) ∙ sym e ∙ zero-add B))))
 
+-- So x + y, where it is exactly zero, is the zero with that sign.
 pub add-zero-sum : {x y : Float} → Finite x → Finite y → plus x + plus y ≡ minus x + minus y → add binary64 x y ≡ signedZero (negative x && negative y)
 unfolding plus minus
 add-zero-sum {x} {y} h k e =
@@ -255,6 +259,7 @@ div-result-minus {x} {y} h k Y =
 -- ---- magnitude and sign of a product and a quotient, that of a zero included
 
 module _ {x y : Float} (h : Finite x) (k : Finite y) where
+  -- A product has the sign of unlike factors, and the rounded product of the magnitudes.
   pub mul-sign : Finite (mul binary64 x y) → negative (mul binary64 x y) ≡ unlike (negative x) (negative y)
   mul-sign = subst (λ (z : Float). Finite z → negative z ≡ unlike (negative x) (negative y)) (sym (mul-round h k)) (round-sign (unlike (negative x) (negative y)) (mag x * mag y) (one * one))
 
@@ -265,6 +270,7 @@ module _ {x y : Float} (h : Finite x) (k : Finite y) where
       round-mag (unlike (negative x) (negative y)) (mag x * mag y) (one * one) f
       ∙ rnd-same (mag x * mag y * one) (one * one) (mag x * mag y) one (mul-pos one-pos one-pos) one-pos (mul-assoc (mag x * mag y) one one))
 
+  -- A quotient has the sign of unlike operands, and the rounded quotient of the magnitudes.
   pub div-sign : 0 < mag y → Finite (div binary64 x y) → negative (div binary64 x y) ≡ unlike (negative x) (negative y)
   div-sign Y = subst (λ (z : Float). Finite z → negative z ≡ unlike (negative x) (negative y)) (sym (div-round h k Y)) (round-sign (unlike (negative x) (negative y)) (mag x) (mag y))
 

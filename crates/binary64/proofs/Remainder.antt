@@ -83,6 +83,7 @@ mod-digits a b B d e = go (lt-or-ge (d .zeros) (e .zeros))
 -- ---- x % y
 
 module _ {x y : Float} (h : Finite x) (k : Finite y) (Y : 0 < mag y) where
+  -- x % y is exactly the remainder of the magnitudes, with the sign of x.
   pub rem-is : rem binary64 x y ≡ ofUnits (negative x) (mag x % mag y)
   rem-is = rem-values x y (negative x) (negative y) (mag x) (mag y) one Y one-pos (mag-value h) (mag-value k)
 

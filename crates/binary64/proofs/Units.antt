@@ -22,6 +22,7 @@ use Rattle.binary64.specs.Units.{pow2, one, limit, Finite, mag, negative
 
 -- ---- powers of two
 
+-- what `pow2` is; it is above 0, turns sums into products, and grows
 pub pow2-is : (k : ℕ) → pow2 k ≡ 2 ^ k
 unfolding pow2
 pow2-is k = refl
@@ -43,6 +44,7 @@ pub pow2-mono : {i k : ℕ} → i ≤ k → pow2 i ≤ pow2 k
 unfolding pow2
 pow2-mono h = pow-mono h
 
+-- The number 1 is 2 ^ 1074 units, and all finite floats lie below 2 ^ 2098 units, which is the number 2 ^ 1024.
 pub one-is : one ≡ 2 ^ 1074
 one-is = pow2-is 1074
 
@@ -104,6 +106,7 @@ place-mag s m e t =
 pub mag-exact : (s : Bool) (m : ℕ) (e : ℤ) → T (fits binary64 (fin s m e)) → mag (fin s m e) * down e ≡ m * up e * one
 mag-exact s m e t = let p = place-mag s m e t in ap (λ (x : ℕ). x * down e) (p .1) ∙ sym (p .2)
 
+-- A finite float is ±mag x / one.
 pub mag-value : {x : Float} → Finite x → HasValue x (negative x) (mag x) one
 mag-value {x = nan} h = absurd (h .number)
 mag-value {x = inf s} h = absurd (h .number)
@@ -127,6 +130,7 @@ value-finite (fin u m e) s a c t h = record { fit = t; number = tt }
 
 -- ---- which numbers of units are magnitudes: those of at most 53 digits before their closing zeros, below `limit`
 
+-- A magnitude has 53 digits, and is below the limit.
 pub mag-digits : {x : Float} → Finite x → Digits53 (mag x)
 mag-digits {x = nan} h = absurd (h .number)
 mag-digits {x = inf s} h = absurd (h .number)
@@ -185,6 +189,7 @@ bits-mag {x = nan} h = absurd (h .number)
 bits-mag {x = inf s} h = absurd (h .number)
 bits-mag {x = fin s m e} h = unfold toBits mag pow2 in refl
 
+-- Two finite floats with the same sign and the same magnitude are the same float.
 pub same-float : {x y : Float} → Finite x → Finite y → negative x ≡ negative y → mag x ≡ mag y → x ≡ y
 same-float {x} {y} h k s n =
     sym (ofBits-toBits binary64 x (h .fit))
@@ -207,6 +212,7 @@ not-nan {x = fin s m e} h = tt
 
 -- ---- plus and minus
 
+-- The two parts make up the magnitude.
 pub plus-minus : (x : Float) → plus x + minus x ≡ mag x
 unfolding plus minus
 plus-minus x = go (negative x) (mag x)
@@ -252,6 +258,7 @@ minus-sign x = go (negative x)
 
 -- ---- zero
 
+-- A zero of either sign is finite and has no units.
 pub zero-finite : (s : Bool) → Finite (signedZero s)
 unfolding fits
 zero-finite s = record { fit = tt; number = tt }
@@ -273,6 +280,7 @@ zero-minus false = refl
 pub is-zero : {x : Float} → Finite x → mag x ≡ 0 → x ≡ signedZero (negative x)
 is-zero {x} h e = same-float h (zero-finite (negative x)) refl (e ∙ sym (zero-mag (negative x)))
 
+-- No units, with a sign, are the zero with that sign.
 pub ofUnits-zero : (s : Bool) → ofUnits s 0 ≡ signedZero s
 ofUnits-zero s =
     let d = digits53 0 0 zero-le in
@@ -281,6 +289,7 @@ ofUnits-zero s =
 
 -- ---- the float -x
 
+-- It has the magnitude of x and the other sign, so its parts are those of x the other way round.
 pub neg-mag : (x : Float) → mag (neg x) ≡ mag x
 unfolding neg mag
 neg-mag nan = refl
@@ -337,6 +346,7 @@ pub lt-units : {x y : Float} → Finite x → Finite y → lt x y ≡ ltb (plus 
 unfolding plus minus
 lt-units {x} {y} h k = lt-values x y (negative x) (negative y) (mag x) (mag y) one one-pos (mag-value h) (mag-value k) ∙ below-parts (negative x) (negative y) (mag x) (mag y)
 
+-- x = y: -0 equals +0
 pub eq-units : {x y : Float} → Finite x → Finite y → eq x y ≡ eqb (plus x + minus y) (plus y + minus x)
 unfolding plus minus
 eq-units {x} {y} h k = eq-values x y (negative x) (negative y) (mag x) (mag y) one one-pos (mag-value h) (mag-value k) ∙ level-parts (negative x) (negative y) (mag x) (mag y)
@@ -379,6 +389,7 @@ le-not-lt {x} {y} h k = le-units h k ∙ sym (not-ltb (plus y + minus x) (plus x
 
 -- ---- tests against zero
 
+-- the literal 0.0
 pub zero64-finite : Finite zero64
 zero64-finite = subst (λ (x : Float). Finite x) (sym zero64-is) (zero-finite false)
 
@@ -400,6 +411,7 @@ module _ {x : Float} (h : Finite x) where
   pub below-zero : lt x zero64 ≡ true → (plus x ≡ 0) × (0 < minus x)
   below-zero e = let l : plus x < minus x = omega (arith, units-of-lt h zero64-finite e, zero64-plus, zero64-minus) in (no-plus x (omega arith), omega arith)
 
+  -- x < 0.0 fails: x is a zero or above
   pub not-below-zero : lt x zero64 ≡ false → minus x ≡ 0
   not-below-zero e = no-minus x (omega (arith, units-of-not-lt h zero64-finite e, zero64-plus, zero64-minus))
 
@@ -407,5 +419,6 @@ module _ {x : Float} (h : Finite x) where
   pub above-zero : lt zero64 x ≡ true → (0 < plus x) × (minus x ≡ 0)
   above-zero e = let l : minus x < plus x = omega (arith, units-of-lt zero64-finite h e, zero64-plus, zero64-minus) in (omega arith, no-minus x (omega arith))
 
+  -- 0.0 < x fails: x is a zero or below
   pub not-above-zero : lt zero64 x ≡ false → plus x ≡ 0
   not-above-zero e = no-plus x (omega (arith, units-of-not-lt zero64-finite h e, zero64-plus, zero64-minus))
