@@ -2,13 +2,14 @@
 -- that carry errors on: through a negation, a sum, a product and a Horner step. Rests on Operations and Magnitude.
 use mathlib.Core.Path.{_≡_, refl, sym, ap, ap₂, _∙_, subst}
 use Prim.Native.Nat.{ℕ, zero, _+_, _-_, _*_, _^_, _≤_, _<_}
-use native.Mathlib.Nat.{zero-add, add-le-add, le-add-right, le-add-left, add-comm, le-refl, le-trans, le-of-eq, mul-le-mul, mul-le-mul-left, mul-le-mul-right}
+use native.Mathlib.Nat.{lt-of-mul-lt-mul-right, zero-add, add-le-add, le-add-right, le-add-left, add-comm, le-refl, le-trans, le-of-eq, mul-le-mul, mul-le-mul-left, mul-le-mul-right}
 use native.Mathlib.Omega.{arith}
-use lib.Ieee.{Float, binary64, add, sub, mul, div, neg}
+use mathlib.Core.Bool.{true}
+use lib.Ieee.{lt, Float, binary64, add, sub, mul, div, neg}
 use Rattle.binary64.specs.Units.{pow2, one, Finite, mag, plus, minus}
 use Rattle.binary64.specs.Rounding.{Near, Result}
 use Rattle.binary64.specs.Magnitude.{Most, Least}
-use Rattle.binary64.proofs.Units.{pow2-split, one-pos, plus-is, minus-is, plus-sign, minus-sign, plus-minus, neg-plus, neg-minus}
+use Rattle.binary64.proofs.Units.{lt-of-units, pow2-split, one-pos, plus-is, minus-is, plus-sign, minus-sign, plus-minus, neg-plus, neg-minus}
 use Rattle.binary64.proofs.Rounding.{rounded-near}
 use Rattle.binary64.proofs.Operations.{result-rounded, add-result, sub-result, mul-result, div-result, div-result-minus}
 use Rattle.binary64.proofs.Magnitude.{exponents, crosswise}
@@ -31,6 +32,7 @@ add-near {j} {k} {a} {x} {y} m n f i e h l =
     let q = plus-minus y in
     result-near (le-refl 1) (add-result (m .finite) (n .finite)) f e (omega (arith, m .bound, n .bound)) (omega (arith, m .bound, n .bound))
 
+-- The same of a difference.
 pub sub-near : {j k a : ℕ} {x y : Float} → Most j a x → Most k a y → Finite (sub binary64 x y) → (i e : ℕ) → j + k ≤ 2 ^ i → i + a ≡ 54 + e → Near (sub binary64 x y) (plus x + minus y) (minus x + plus y) 1 (pow2 e)
 sub-near {j} {k} {a} {x} {y} m n f i e h l =
     let w = within (j + k) a i e h l in
@@ -85,6 +87,7 @@ module _ {j k a b : ℕ} {x y : Float} (m : Most j a x) (n : Least k b y) (c i e
 pub near-itself : (x : Float) (c : ℕ) → Near x (plus x * c) (minus x * c) c 0
 near-itself x c = record { over = omega arith; under = omega arith }
 
+-- A larger error holds too.
 pub near-weaken : {z : Float} {p n c h k : ℕ} → Near z p n c h → h ≤ k → Near z p n c k
 near-weaken {c = c} r l = let g = mul-le-mul-right c l in record { over = omega (arith, r .over); under = omega (arith, r .under) }
 
@@ -96,6 +99,7 @@ near-shift r e = record { over = omega (arith, r .over); under = omega (arith, r
 pub near-scale : {z : Float} {p n c h : ℕ} (k : ℕ) → Near z p n c h → Near z (p * k) (n * k) (c * k) h
 near-scale k r = record { over = omega (arith, mul-le-mul-right k (r .over)); under = omega (arith, mul-le-mul-right k (r .under)) }
 
+-- Negation turns the value round, and keeps the error.
 pub near-neg : {x : Float} {p n c h : ℕ} → Finite x → Near x p n c h → Near (neg x) n p c h
 near-neg f r = record { over = rw (neg-plus f, neg-minus f) (r .under); under = rw (neg-plus f, neg-minus f) (r .over) }
 
@@ -106,11 +110,16 @@ near-add {c = c} r s t = record {
   under = omega (arith, r .under, s .under, mul-le-mul-right c (t .under));
 }
 
+-- So do those of a difference.
 pub near-sub : {x y z : Float} {p n q m c g h k : ℕ} → Near x p n c g → Near y q m c h → Near z (plus x + minus y) (minus x + plus y) 1 k → Near z (p + m) (n + q) c (g + h + k)
 near-sub {c = c} r s t = record {
   over = omega (arith, r .over, s .under, mul-le-mul-right c (t .over));
   under = omega (arith, r .under, s .over, mul-le-mul-right c (t .under));
 }
+
+-- Two results whose exact values are further apart than their errors compare as these do.
+pub near-lt : {w z : Float} {p n q m c h k : ℕ} → Finite w → Finite z → Near w q m c k → Near z p n c h → q + n + (k + h) * c < p + m → lt w z ≡ true
+near-lt {w} {z} {c = c} f g r s l = lt-of-units f g (lt-of-mul-lt-mul-right c (omega (arith, r .over, s .under)))
 
 -- one side of `near-mul`, with plain numbers for the parts of x, y and z: x * y against (p - n) / c * y, then the rounding, then both together
 module _ (px mx py my p n c h : ℕ) (a : px * c + n ≤ mx * c + p + h * c) (b : mx * c + p ≤ px * c + n + h * c) where

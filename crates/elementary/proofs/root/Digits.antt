@@ -1,14 +1,14 @@
 -- The root digit by digit: what holds after each pair of the radicand's digits, and that the end is the nearest whole number.
-use mathlib.Core.Path.{_≡_, refl, sym, ap, _∙_, subst}
-use Prim.Native.Nat.{ℕ, zero, suc, _+_, _-_, _*_, _/_, _%_, _^_, _≤_, _<_}
+use mathlib.Core.Path.{_≡_, sym, ap, _∙_, subst}
+use Prim.Native.Nat.{ℕ, suc, _+_, _-_, _*_, _/_, _%_, _^_, _≤_, _<_}
 use native.Mathlib.Nat.{mul-assoc, mul-le-mul-left, mul-le-mul-right, pow-suc, pow-succ'}
 use native.Mathlib.Numerals.{sub-one}
 use native.Mathlib.Omega.{arith}
 use lib.Arith.{le-zero}
 use lib.Pow.{pow-pos}
 use Rattle.elementary.specs.Root.{nearestRoot}
-use Rattle.elementary.specs.Steps.{Near}
-use Rattle.elementary.proofs.Whole.{near, near-unique}
+use Rattle.elementary.specs.RootSteps.{Near}
+use Rattle.elementary.proofs.root.Whole.{Floor, floor-down, floor-up, near, near-unique}
 
 -- With `left` pairs of digits of m * 2^52 to come, which stand at the head of the 64-bit word `digits`:
 -- `root` is the whole part of the root of the pairs taken, and `rest` what its square leaves.
@@ -79,27 +79,25 @@ all m digits root rest t =
     let e : m * 2 ^ 116 ≡ ((root * root + rest) * 2 ^ 64 + digits) * 1 = t .whole in
     omega arith
 
-nearest-is : (m q : ℕ) → 2 ^ 52 ≤ m → m < 2 ^ 54 → Near (m * 2 ^ 52) q → q ≡ nearestRoot 53 (m * 2 ^ 52)
+-- what is nearest is the definition's number
+pub nearest-is : (m q : ℕ) → 2 ^ 52 ≤ m → m < 2 ^ 54 → Near (m * 2 ^ 52) q → q ≡ nearestRoot 53 (m * 2 ^ 52)
 nearest-is m q l h n = near-unique (m * 2 ^ 52) q (nearestRoot 53 (m * 2 ^ 52)) n (near 53 (m * 2 ^ 52) (omega arith) (omega arith))
-
-near-down : (n r rest : ℕ) → 0 < n → n ≡ r * r + rest → rest ≤ r → Near n r
-near-down n zero rest p e h = absurd (none n rest p e h)
-  where
-    none : (n rest : ℕ) → 0 < n → n ≡ 0 * 0 + rest → rest ≤ 0 → ⊥
-    none n rest p e h = omega arith
-near-down n (suc r) rest p e h = record { above = omega arith; below = omega arith }
-
-near-up : (n r rest : ℕ) → n ≡ r * r + rest → r < rest → rest ≤ 2 * r → Near n (r + 1)
-near-up n r rest e h l = record { above = omega arith; below = omega arith }
 
 module _ (m digits root rest left : ℕ) (l : 2 ^ 52 ≤ m) (h : m < 2 ^ 54) (t : Taken m digits root rest left) (z : left ≤ 0) where
   sum : m * 2 ^ 52 ≡ root * root + rest
   sum = all m digits root rest (subst (λ (k : ℕ). Taken m digits root rest k) (le-zero z) t)
 
+  -- the root is the whole part
+  part : Floor (m * 2 ^ 52) root
+  part = floor-of (m * 2 ^ 52) sum
+    where
+      floor-of : (n : ℕ) → n ≡ root * root + rest → Floor n root
+      floor-of n e = let k = t .least in record { least = omega arith; most = omega arith }
+
   -- the rest is below the middle
   pub taken-down : rest ≤ root → root ≡ nearestRoot 53 (m * 2 ^ 52)
-  taken-down g = nearest-is m root l h (near-down (m * 2 ^ 52) root rest (omega arith) sum g)
+  taken-down g = let e = sum in nearest-is m root l h (floor-down (m * 2 ^ 52) root (omega arith) part (omega arith))
 
   -- the rest is past the middle
   pub taken-up : root < rest → root + 1 ≡ nearestRoot 53 (m * 2 ^ 52)
-  taken-up g = nearest-is m (root + 1) l h (near-up (m * 2 ^ 52) root rest sum g (t .least))
+  taken-up g = let e = sum in nearest-is m (root + 1) l h (floor-up (m * 2 ^ 52) root part (omega arith))

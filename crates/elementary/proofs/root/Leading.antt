@@ -1,27 +1,27 @@
 -- From bits to the radicand and back: the leading digits of a positive float as its bits have them, the radicand that they give,
 -- and the bits of the root.
-use mathlib.Core.Path.{_≡_, refl, sym, ap, ap₂, _∙_, subst}
-use mathlib.Core.Logic.{_⊎_, inl, inr}
-use mathlib.Core.Bool.{Bool, false, not}
-use Prim.Native.Nat.{ℕ, zero, suc, _+_, _-_, _*_, _/_, _%_, _^_, _≤_, _<_}
+use mathlib.Core.Path.{_≡_, sym, ap, ap₂, _∙_, subst}
+use mathlib.Core.Logic.{inr}
+use mathlib.Core.Bool.{false, not}
+use Prim.Native.Nat.{ℕ, suc, _+_, _-_, _*_, _/_, _%_, _^_, _≤_, _<_}
 use native.Mathlib.Nat.{le-trans, le-of-eq, lt-of-lt-of-le, mul-assoc, mul-comm, mul-right-comm, mul-le-mul-left, mul-le-mul-right, mul-div-cancel, mul-pos, mul-lt-mul-of-pos-right, lt-of-mul-lt-mul-right, le-of-mul-le-mul-right, mod-eq-of-lt, add-comm, lt-of-not-le, not-le-of-lt}
 use native.Mathlib.Omega.{arith}
-use lib.Arith.{lt→nleb, le→nltb}
+use lib.Arith.{lt→nleb}
 use lib.Dec.{T, leb, lit<, lit≤}
 use lib.Pow.{pow-add, pow-pos, pow-mono}
 use lib.Count.{leadingZeros, leading-top}
 use lib.Ieee.{binary64, size, ofBits, nanBits}
-use lib.Ieee.Bits.{is-false, nanBits-above}
+use lib.Ieee.Bits.{is-false}
 use lib.Ieee.Digits.{size-lt, size-le}
 use lib.Ieee.Positive.{first-pos}
 use Rattle.binary64.specs.Units.{mag, negative, ofUnits, Finite}
 use Rattle.binary64.proofs.Patterns.{normal-mag, subnormal-mag, pattern-units, pattern-sign, finite-pattern}
 use Rattle.binary64.proofs.Units.{not-nan}
-use Rattle.elementary.specs.Root.{root, nearestRoot, rootUnits}
-use Rattle.elementary.specs.Steps.{Near, Leading}
-use Rattle.elementary.proofs.Cases.{root-positive}
-use Rattle.elementary.proofs.Scale.{half, radicand, four-pow, four-pos, near-least, rootUnits-is}
-use Rattle.elementary.proofs.Whole.{near}
+use Rattle.elementary.specs.Root.{root, nearestRoot}
+use Rattle.elementary.specs.RootSteps.{Near, Leading}
+use Rattle.elementary.proofs.root.Cases.{root-positive, number-bits}
+use Rattle.elementary.proofs.root.Scale.{half, radicand, four-pow, four-pos, rootUnits-is}
+use Rattle.elementary.proofs.root.Whole.{near, near-over, near-under}
 
 -- a normal number: its 53 digits stand in the bits, the first of them unwritten
 pub leading-normal : (b : ℕ) → 2 ^ 52 ≤ b → b < 2047 * 2 ^ 52 → Leading (mag (ofBits binary64 b)) (b % 2 ^ 52 + 2 ^ 52) (b / 2 ^ 52 + 51)
@@ -129,24 +129,12 @@ radicand-digits m lead l h = go (2 ^ (lead % 2)) (pow-pos (lead % 2)) (pow-mono 
         let d = mul-le-mul-left m b in
         (omega arith, omega arith, omega arith)
 
-near-short : (m q : ℕ) → Near (m * 2 ^ 52) q → m + 1 < 2 ^ 54 → q < 2 ^ 53
-near-short m q n h = lt-of-not-le (at-least (2 ^ 53) (omega arith))
-  where
-    long : (p k x : ℕ) → x + p ≤ p * p → (p + k) * (p + k) < x + (p + k) → ⊥
-    long p zero x h l = omega arith
-    long p (suc k) x h l = omega arith
-
-    at-least : (p : ℕ) → m * 2 ^ 52 + p ≤ p * p → p ≤ q → ⊥
-    at-least p h g =
-        let e : q ≡ p + (q - p) = omega arith in
-        long p (q - p) (m * 2 ^ 52) h (subst (λ (z : ℕ). z * z < m * 2 ^ 52 + z) e (n .above))
-
 -- the nearest whole root has 53 digits
 pub nearest-digits : (m : ℕ) → 2 ^ 52 ≤ m → m + 1 < 2 ^ 54 → (2 ^ 52 ≤ nearestRoot 53 (m * 2 ^ 52)) × (nearestRoot 53 (m * 2 ^ 52) < 2 ^ 53)
 nearest-digits m l h =
     let q = nearestRoot 53 (m * 2 ^ 52) in
     let n : Near (m * 2 ^ 52) q = near 53 (m * 2 ^ 52) (omega arith) (omega arith) in
-    (near-least (m * 2 ^ 52) q n (omega arith), near-short m q n h)
+    (near-over (m * 2 ^ 52) q (2 ^ 52) n (omega arith), near-under (m * 2 ^ 52) q (2 ^ 53) n (omega arith))
 
 -- a pattern of digits below the infinity's is a finite number not below zero
 module _ (b m lead : ℕ) (h : b < 2047 * 2 ^ 52) (l : Leading (mag (ofBits binary64 b)) m lead) where
@@ -173,10 +161,7 @@ module _ (b m lead : ℕ) (h : b < 2047 * 2 ^ 52) (l : Leading (mag (ofBits bina
     root-bits-fit = omega (arith, l .range, digits-53)
 
     pub root-bits-number : T (not (nanBits binary64 ((lead / 2 + 485) * 2 ^ 52 % 2 ^ 64 + q)))
-    root-bits-number =
-        let n = (lead / 2 + 485) * 2 ^ 52 % 2 ^ 64 + q in
-        let g = root-bits-fit in
-        subst (λ (t : Bool). T (not t)) (sym (nanBits-above binary64 n)) (le→nltb (2047 * 2 ^ 52) (n % 2 ^ 63) (omega arith))
+    root-bits-number = number-bits _ (omega (arith, root-bits-fit))
 
     pub root-bits : ofBits binary64 ((lead / 2 + 485) * 2 ^ 52 % 2 ^ 64 + q) ≡ root (ofBits binary64 b)
     root-bits =

@@ -1,16 +1,17 @@
 -- The root of a float by the cases that the program tells apart: above zero and finite, above zero and infinite, a zero, anything else.
 use mathlib.Core.Path.{_≡_, refl, sym, ap, ap₂, _∙_, subst, subst₂}
-use mathlib.Core.Bool.{Bool, true, false, not, _&&_, _||_, cond, true≢false, false≢true}
-use Prim.Native.Nat.{ℕ, zero, suc, _+_, _-_, _*_, _/_, _%_, _^_, _≤_, _<_}
-use native.Mathlib.Nat.{lt-irrefl, zero-mul, mul-one, mul-pos, zero-lt-suc, zero-div, lt-of-lt-of-le, not-le-of-lt}
+use mathlib.Core.Bool.{Bool, true, false, not, true≢false, false≢true}
+use Prim.Native.Nat.{ℕ, zero, suc, _*_, _/_, _%_, _^_, _≤_, _<_}
+use native.Mathlib.Nat.{lt-irrefl, zero-mul, mul-one, mul-pos, zero-lt-suc, zero-div}
 use native.Mathlib.Omega.{arith}
-use lib.Dec.{T, leb, ltb, eqb, ltb→lt, lt→ltb, eqb→eq, T-not, nleb→lt}
-use lib.IntN.{ℤ, pos, negsuc}
-use lib.Ieee.{Float, nan, inf, fin, binary64, up, down, level, lt, eq, fits, isNan, ofBits, toBits}
-use lib.Ieee.Bits.{ofBits-toBits, toBits-lt, is-true}
-use lib.Ieee.Fits.{up-pos, down-pos, and-l, eq→eqb}
+use lib.Arith.{le→nltb}
+use lib.Dec.{T, ltb, eqb, lt→ltb, eqb→eq, T-not, nleb→lt}
+use lib.IntN.{ℤ}
+use lib.Ieee.{Float, nan, inf, fin, binary64, up, down, level, lt, eq, fits, isNan, nanBits, ofBits, toBits}
+use lib.Ieee.Bits.{ofBits-toBits, nanBits-above, is-true}
+use lib.Ieee.Fits.{up-pos, and-l, eq→eqb}
 use lib.Ieee.Scale.{finite}
-use Rattle.binary64.specs.Units.{mag, negative, ofUnits, Finite}
+use Rattle.binary64.specs.Units.{one, mag, negative, ofUnits, Finite}
 use Rattle.binary64.proofs.Patterns.{pattern-finite, pattern-sign}
 use Rattle.elementary.specs.Root.{root, rootUnits}
 
@@ -21,18 +22,25 @@ passes e = subst (λ (t : Bool). T t) (sym e) tt
 fails : {b : Bool} → b ≡ false → T (not b)
 fails e = subst (λ (t : Bool). T (not t)) (sym e) tt
 
-no-units : (e : ℤ) (c : ℕ) → 0 < 0 * up e * c / down e → ⊥
-no-units e c h = lt-irrefl 0 (subst (λ (n : ℕ). 0 < n) (ap (λ (n : ℕ). n * c / down e) (zero-mul (up e)) ∙ ap (λ (n : ℕ). n / down e) (zero-mul c) ∙ zero-div (down e)) h)
+-- a zero is 0 units
+pub zero-units : (s : Bool) (e : ℤ) → mag (fin s 0 e) ≡ 0
+unfolding mag
+zero-units s e = ap (λ (n : ℕ). n * one / down e) (zero-mul (up e)) ∙ ap (λ (n : ℕ). n / down e) (zero-mul one) ∙ zero-div (down e)
 
+-- the root of a finite number above zero
 pub root-positive : {x : Float} → Finite x → negative x ≡ false → 0 < mag x → root x ≡ ofUnits false (rootUnits (mag x))
 unfolding root mag
 root-positive {x = nan} f s p = absurd (f .number)
 root-positive {x = inf t} f s p = absurd (f .number)
 root-positive {x = fin true m e} f s p = absurd (true≢false s)
-root-positive {x = fin false zero e} f s p = absurd (no-units e _ p)
+root-positive {x = fin false zero e} f s p = absurd (lt-irrefl 0 (subst (λ (n : ℕ). 0 < n) (zero-units false e) p))
 root-positive {x = fin false (suc m) e} f s p = refl
 
 -- ---- above zero
+
+-- patterns below the infinity's are numbers
+pub number-bits : (b : ℕ) → b < 2047 * 2 ^ 52 → T (not (nanBits binary64 b))
+number-bits b h = subst (λ (t : Bool). T (not t)) (sym (nanBits-above binary64 b)) (le→nltb (2047 * 2 ^ 52) (b % 2 ^ 63) (omega arith))
 
 pub above-number : (x : Float) → lt (ofBits binary64 0) x ≡ true → T (not (isNan x))
 unfolding lt isNan ofBits

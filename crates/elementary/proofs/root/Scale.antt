@@ -1,9 +1,8 @@
 -- `rootUnits` by scale: n units are X * 4 ^ h of 2 ^ -104 units, so the root of n units is that of X times U = 2 ^ (485 + h) units,
 -- where X has 105 or 106 digits and its nearest whole root q has 53.
 use mathlib.Core.Path.{_≡_, refl, sym, ap, _∙_, subst}
-use mathlib.Core.Logic.{_⊎_, inl, inr}
-use Prim.Native.Nat.{ℕ, zero, suc, _+_, _-_, _*_, _/_, _%_, _^_, _≤_, _<_}
-use native.Mathlib.Nat.{le-trans, le-of-eq, lt-of-lt-of-le, lt-of-le-of-lt, mul-one, mul-assoc, mul-comm, mul-left-comm, mul-mul-mul-comm, mul-le-mul-right, mul-div-cancel, mul-lt-mul-of-pos-right, lt-of-mul-lt-mul-right, le-of-mul-le-mul-right, le-of-suc-le-suc, lt-of-not-le, mul-le-mul, pow-succ'}
+use Prim.Native.Nat.{ℕ, zero, suc, _+_, _-_, _*_, _/_, _^_, _≤_, _<_}
+use native.Mathlib.Nat.{le-trans, le-of-eq, lt-of-lt-of-le, mul-assoc, mul-comm, mul-le-mul-right, mul-div-cancel, mul-lt-mul-of-pos-right, lt-of-mul-lt-mul-right, le-of-mul-le-mul-right, le-of-suc-le-suc, pow-succ'}
 use native.Mathlib.Omega.{arith}
 use lib.Pow.{pow-add, pow-pos, pow-mono, shl-lt}
 use lib.Ieee.{size}
@@ -11,8 +10,8 @@ use lib.Ieee.Digits.{size-lt, size-reaches, size-le}
 use Rattle.binary64.specs.Units.{one, Digits53}
 use Rattle.binary64.proofs.Units.{one-is}
 use Rattle.elementary.specs.Root.{nearestRoot, rootUnits}
-use Rattle.elementary.specs.Steps.{Near}
-use Rattle.elementary.proofs.Whole.{near}
+use Rattle.elementary.specs.RootSteps.{Near}
+use Rattle.elementary.proofs.root.Whole.{near, near-over, near-under}
 
 -- half the exponent of n's leading digit
 abbrev pub half : ℕ → ℕ
@@ -43,7 +42,7 @@ radicand-exact n d =
     ∙ ap (λ (z : ℕ). z * 4 ^ h) (mul-div-cancel (d .digits * 2 ^ k) (four-pos h))
     ∙ sym is
 
--- the leading digit of n
+-- a number above 0 has a digit
 size-pos : (n : ℕ) → 0 < n → 0 < size n
 size-pos n p = go (size n) (size-lt n)
   where
@@ -75,24 +74,6 @@ module _ (n : ℕ) (p : 0 < n) (d : Digits53 n) where
       (mul-lt-mul-of-pos-right {k = 2 ^ 104}
       (lt-of-lt-of-le (size-lt n) (le-trans (pow-mono {j = 2 + (h + h)} (omega arith)) (le-of-eq (pow-add 2 2 (h + h) ∙ ap (λ (y : ℕ). 2 ^ 2 * y) (sym (four-pow h))))))
       (pow-pos 104))))
-
--- so its nearest whole root has 53 digits, or is 2 ^ 53
-pub near-least : (x q : ℕ) → Near x q → 2 ^ 104 ≤ x → 2 ^ 52 ≤ q
-near-least x q n h = lt-of-not-le {n = q} {m = 2 ^ 52 - 1} (λ g. short g (n .below) (mul-le-mul g g))
-  where
-    short : q ≤ 2 ^ 52 - 1 → x ≤ q * q + q → q * q ≤ (2 ^ 52 - 1) * (2 ^ 52 - 1) → ⊥
-    short g k l = omega arith
-
-near-most : (x q : ℕ) → Near x q → x < 2 ^ 106 → q ≤ 2 ^ 53
-near-most x q n h = le-of-suc-le-suc (lt-of-not-le {n = suc (2 ^ 53)} {m = q} (at-least (2 ^ 53) h))
-  where
-    long : (p k x : ℕ) → x < p * p → (p + 1 + k) * (p + 1 + k) < x + (p + 1 + k) → ⊥
-    long p k x h l = omega arith
-
-    at-least : (p : ℕ) → x < p * p → suc p ≤ q → ⊥
-    at-least p h g =
-        let e : q ≡ p + 1 + (q - (p + 1)) = omega arith in
-        long p (q - (p + 1)) x h (subst (λ (z : ℕ). z * z < x + z) e (n .above))
 
 -- n * one is X times the square of U
 unit-square : (h : ℕ) → 2 ^ (485 + h) * 2 ^ (485 + h) ≡ 4 ^ h * 2 ^ 970
@@ -143,6 +124,6 @@ scaled n p d =
       whole = radicand-scale n d;
       nearest = a;
       long = l;
-      least = near-least x (nearestRoot 53 x) a l;
-      most = near-most x (nearestRoot 53 x) a m;
+      least = near-over x (nearestRoot 53 x) (2 ^ 52) a l;
+      most = le-of-suc-le-suc (near-under x (nearestRoot 53 x) (suc (2 ^ 53)) a (omega arith));
     }

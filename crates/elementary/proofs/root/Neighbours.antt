@@ -2,8 +2,8 @@
 -- From this the root against any such number by squares, both ways, and that it is monotone.
 use mathlib.Core.Path.{_≡_, refl, sym, ap, _∙_, subst, subst₂}
 use mathlib.Core.Logic.{_⊎_, inl, inr}
-use Prim.Native.Nat.{ℕ, zero, suc, _+_, _-_, _*_, _/_, _%_, _^_, _≤_, _<_, zero-le}
-use native.Mathlib.Nat.{le-trans, le-of-eq, le-of-lt, lt-of-lt-of-le, lt-of-le-of-lt, lt-irrefl, mul-assoc, mul-comm, mul-mul-mul-comm, mul-le-mul, mul-le-mul-left, mul-le-mul-right, mul-lt-mul-of-pos-right, mul-pos, lt-of-mul-lt-mul-right, suc-mul}
+use Prim.Native.Nat.{ℕ, zero, suc, _+_, _-_, _*_, _^_, _≤_, _<_, zero-le}
+use native.Mathlib.Nat.{le-trans, le-of-eq, le-of-lt, lt-of-lt-of-le, lt-of-le-of-lt, lt-irrefl, mul-assoc, mul-mul-mul-comm, mul-le-mul, mul-le-mul-left, mul-le-mul-right, mul-lt-mul-of-pos-right, mul-pos, lt-of-mul-lt-mul-right, suc-mul}
 use native.Mathlib.Numerals.{add-one}
 use native.Mathlib.Omega.{arith}
 use lib.Pow.{pow-add, pow-pos, pow-mono}
@@ -11,8 +11,8 @@ use Rattle.binary64.specs.Units.{one, Digits53}
 use Rattle.binary64.proofs.Naturals.{lt-or-ge}
 use Rattle.binary64.proofs.Units.{digits53}
 use Rattle.elementary.specs.Root.{rootUnits}
-use Rattle.elementary.specs.Steps.{Near}
-use Rattle.elementary.proofs.Scale.{Scaled, scaled}
+use Rattle.elementary.specs.RootSteps.{Near}
+use Rattle.elementary.proofs.root.Scale.{scaled}
 
 -- A number of at most 53 digits that reaches 2 ^ 52 * 2 ^ j is a multiple of 2 ^ j.
 multiple : (u j : ℕ) → Digits53 u → 2 ^ 52 * 2 ^ j ≤ u → (c : ℕ) × (u ≡ c * 2 ^ j)
@@ -28,8 +28,8 @@ multiple u j d h = go (lt-or-ge (d .zeros) j)
         (lt-of-lt-of-le (subst (λ (z : ℕ). z < 2 ^ 53 * 2 ^ d .zeros) (sym (d .is)) (mul-lt-mul-of-pos-right (d .few) (pow-pos (d .zeros))))
         (le-trans (le-of-eq (sym (pow-add 2 53 (d .zeros)))) (le-trans (pow-mono {j = 52 + j} (omega arith)) (le-trans (le-of-eq (pow-add 2 52 j)) h)))))
 
--- k * U squared
-product : (k U : ℕ) → k * U * (k * U) ≡ k * k * (U * U)
+-- the square of k * U
+pub product : (k U : ℕ) → k * U * (k * U) ≡ k * k * (U * U)
 product k U = mul-mul-mul-comm k U k U
 
 square-le : (a b : ℕ) → a ≤ b → a * a ≤ b * b
@@ -122,12 +122,12 @@ module _ (n : ℕ) (p : 0 < n) (d : Digits53 n) (u : ℕ) (g : Digits53 u) where
 
 -- ---- the root against any v of at most 53 digits, by squares
 
-rootUnits-zero : rootUnits 0 ≡ 0
+pub rootUnits-zero : rootUnits 0 ≡ 0
 unfolding rootUnits
 rootUnits-zero = refl
 
 -- what is not 0 is above it
-by-zero : (n : ℕ) → (n ≡ 0) ⊎ (0 < n)
+pub by-zero : (n : ℕ) → (n ≡ 0) ⊎ (0 < n)
 by-zero zero = inl refl
 by-zero (suc n) = inr (omega arith)
 
