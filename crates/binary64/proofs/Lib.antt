@@ -1,0 +1,8 @@
+pub mod Naturals
+pub mod Values
+pub mod Units
+pub mod Patterns
+pub mod Rounding
+pub mod Operations
+pub mod Magnitude
+pub mod Error

@@ -1,0 +1,43 @@
+-- Facts about natural numbers and tests that the other files share. Nothing here is about floats.
+use mathlib.Core.Path.{_≡_, refl, sym, ap, _∙_}
+use mathlib.Core.Logic.{_⊎_, inl, inr}
+use Prim.Native.Nat.{ℕ, _*_, _^_, _≤_, _<_}
+use native.Mathlib.Nat.{lt-of-mul-lt-mul-right, mul-lt-mul-of-pos-right, eq-of-mul-eq-mul-right, le-of-suc-le-suc, lt-of-not-le, not-le-of-lt}
+use mathlib.Core.Bool.{Bool, true, false, not}
+use lib.Dec.{T, eqb, eqb→eq, lt→ltb, ltb, ltb→lt, nltb→le}
+use lib.Ieee.Fits.{eq→eqb}
+use lib.Pow.{pow-lt, pow-mono}
+
+-- of two numbers one is below the other or not: not truncated, so a proof may go by cases on it
+pub lt-or-ge : (a b : ℕ) → (a < b) ⊎ (b ≤ a)
+lt-or-ge a b = go (ltb a b) (ltb→lt a b) (nltb→le a b)
+  where
+    go : (t : Bool) → (T t → a < b) → (T (not t) → b ≤ a) → (a < b) ⊎ (b ≤ a)
+    go true f g = inl (f tt)
+    go false f g = inr (g tt)
+
+-- two tests that pass together are one
+pub same-test : (p q : Bool) → (T p → T q) → (T q → T p) → p ≡ q
+same-test true true f g = refl
+same-test true false f g = absurd (f tt)
+same-test false true f g = absurd (g tt)
+same-test false false f g = refl
+
+pub pow-le-back : (a l : ℕ) → 2 ^ a ≤ 2 ^ l → a ≤ l
+pow-le-back a l h = le-of-suc-le-suc (lt-of-not-le (λ (g : l < a). not-le-of-lt (pow-lt g) h))
+
+pub pow-lt-back : (a l : ℕ) → 2 ^ a < 2 ^ l → a < l
+pow-lt-back a l h = lt-of-not-le (λ (g : l ≤ a). not-le-of-lt h (pow-mono g))
+
+-- a / x and b / y are both c / k: then a and b compare as x and y do
+pub scaled-lt : (x y a b k c : ℕ) → 0 < k → 0 < c → a * k ≡ x * c → b * k ≡ y * c → ltb x y ≡ ltb a b
+scaled-lt x y a b k c K C p q =
+    same-test (ltb x y) (ltb a b)
+    (λ t. lt→ltb a b (lt-of-mul-lt-mul-right k (rw (p, q) (mul-lt-mul-of-pos-right (ltb→lt x y t) C))))
+    (λ t. lt→ltb x y (lt-of-mul-lt-mul-right c (rw (← p, ← q) (mul-lt-mul-of-pos-right (ltb→lt a b t) K))))
+
+pub scaled-eq : (x y a b k c : ℕ) → 0 < k → 0 < c → a * k ≡ x * c → b * k ≡ y * c → eqb x y ≡ eqb a b
+scaled-eq x y a b k c K C p q =
+    same-test (eqb x y) (eqb a b)
+    (λ t. eq→eqb (eq-of-mul-eq-mul-right k K a b (p ∙ ap (λ (z : ℕ). z * c) (eqb→eq x y t) ∙ sym q)))
+    (λ t. eq→eqb (eq-of-mul-eq-mul-right c C x y (sym p ∙ ap (λ (z : ℕ). z * k) (eqb→eq a b t) ∙ q)))
