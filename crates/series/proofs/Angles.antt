@@ -87,7 +87,7 @@ unit-scale : unit * 2 ^ 61 ≡ scale * spread
 unfolding unit grain factorial
 unit-scale = refl
 
-signed-scale : (s : Bool) (n q : ℕ) → pos n *ℤ signed s q ≡ signed s (n * q)
+pub signed-scale : (s : Bool) (n q : ℕ) → pos n *ℤ signed s q ≡ signed s (n * q)
 signed-scale true n q = *ℤ-neg (pos n) (pos q)
 signed-scale false n q = refl
 

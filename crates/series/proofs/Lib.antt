@@ -5,3 +5,4 @@ pub mod Sums
 pub mod Tests
 pub mod Quarter
 pub mod Angles
+pub mod Fractions

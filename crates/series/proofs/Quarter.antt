@@ -449,7 +449,7 @@ reduced-small w = go (eqb (w / quarter % 2) 0) (w % quarter) (mod-lt w (leb→le
     go false r l = sub-le quarter r
 
 -- signed numbers are as far apart as the numbers
-dist-signed : (s : Bool) (a b e : ℕ) → a ≤ b + e → b ≤ a + e → dist (signed s a) (signed s b) ≤ e
+pub dist-signed : (s : Bool) (a b e : ℕ) → a ≤ b + e → b ≤ a + e → dist (signed s a) (signed s b) ≤ e
 dist-signed true a b e h k = simp (neg-pos-⊖, dist-⊖) (omega arith)
 dist-signed false a b e h k = simp (pos-⊖, dist-⊖) (omega arith)
 

@@ -75,13 +75,13 @@ one-sided x = go (negative x) refl
 
 module _ {v : Float} (f : Finite v) where
   -- v below zero, and not below it, in units
-  below-units : lt v +0 ≡ true → plus v < minus v
+  pub below-units : lt v +0 ≡ true → plus v < minus v
   below-units e = drop (plus v) (minus v) (plus +0) (minus +0) (constant-units +0 0 zero-value .0) (constant-units +0 0 zero-value .1) (units-of-lt f zero-finite e)
     where
       drop : (p m a b : ℕ) → a ≡ 0 * one → b ≡ 0 → p + b < a + m → p < m
       drop p m a b h k l = omega arith
 
-  above-units : lt v +0 ≡ false → minus v ≤ plus v
+  pub above-units : lt v +0 ≡ false → minus v ≤ plus v
   above-units e = drop (plus v) (minus v) (plus +0) (minus +0) (constant-units +0 0 zero-value .0) (constant-units +0 0 zero-value .1) (units-of-not-lt f zero-finite e)
     where
       drop : (p m a b : ℕ) → a ≡ 0 * one → b ≡ 0 → a + m ≤ p + b → m ≤ p
@@ -244,7 +244,7 @@ module _ {v : Float} (f : Finite v) (small : mag v ≤ 16 * one) where
 
 -- ---- the domain: finite and at most 16
 
-is-true : {b : Bool} → T b → b ≡ true
+pub is-true : {b : Bool} → T b → b ≡ true
 is-true {b = true} t = refl
 is-true {b = false} t = absurd t
 
@@ -268,3 +268,6 @@ module _ (v x : Float) (t : T (fits binary64 v)) (inside : le (magnitude v) sixt
   cut-gives r e =
       let same : r ≡ angle v = e ∙ ap (λ (y : Float). toUnsigned 64 (mul binary64 y angleScale)) is in
       (same, le-trans (le-of-eq same) (angle-small (domain .finite) (domain .bound)))
+
+pub zero-most : Most 1 1074 +0
+zero-most = record { finite = zero-finite; bound = le-trans (le-of-eq (value-mag +0 false (0 * one) (in-units +0 false 0 zero-value) ∙ zero-mul one)) zero-le }
