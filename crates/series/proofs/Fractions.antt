@@ -1,11 +1,11 @@
 -- Laws of `Within`: distances of fractions add up, and a bound may be weakened.
-use mathlib.Core.Path.{_≡_, refl, sym, ap, ap₂, _∙_, subst}
+use mathlib.Core.Path.{_≡_, sym, ap, ap₂, _∙_}
 use Prim.Native.Nat.{ℕ, _+_, _*_, _^_, _≤_, _<_}
-use native.Mathlib.Nat.{le-trans, le-of-eq, add-le-add, mul-le-mul-left, mul-le-mul-right, mul-comm, le-of-mul-le-mul-right}
+use native.Mathlib.Nat.{le-trans, le-of-eq, mul-le-mul-left, mul-le-mul-right, le-of-mul-le-mul-right}
 use native.Mathlib.Omega.{arith}
-use lib.IntN.{ℤ, pos, _-ℤ_, _*ℤ_, natAbs, *ℤ-comm}
+use lib.IntN.{ℤ, pos, _*ℤ_, *ℤ-comm}
 use Rattle.series.specs.Fraction.{Fraction, Within}
-use Rattle.series.proofs.Integers.{dist, dist-trans, dist-scale, *ℤ-assoc, *ℤ-left-comm}
+use Rattle.series.proofs.Integers.{dist, dist-trans, dist-scale, *ℤ-left-comm}
 
 module _ (f g h : Fraction) where
   abbrev apart : Fraction → Fraction → ℕ

@@ -1,22 +1,21 @@
 -- What the recipe's fixed-point sine is worth: its distance from the sums, in units of 2^-61, at every angle.
 use mathlib.Core.Path.{_≡_, refl, sym, ap, ap₂, _∙_, subst, subst₂}
-use mathlib.Core.List.{List, [], _∷_}
+use mathlib.Core.List.{List, _∷_}
 use mathlib.Core.Bool.{Bool, true, false, cond}
-use mathlib.Core.Logic.{_⊎_, inl, inr}
 use Prim.Native.Nat.{ℕ, zero, suc, _+_, _-_, _*_, _/_, _%_, _^_, _≤_, _<_, min, zero-le}
-use native.Mathlib.Nat.{le-refl, le-trans, le-of-eq, le-of-lt, add-le-add, mul-le-mul, mul-le-mul-left, mul-le-mul-right, pow-suc, pow-succ', mul-zero, mul-one, one-mul, mul-comm, mul-assoc, add-zero, zero-add, sub-le, le-of-mul-le-mul-right, mul-pos, div-add-mod', mod-lt}
+use native.Mathlib.Nat.{le-trans, le-of-eq, le-of-lt, mul-le-mul, mul-le-mul-left, mul-le-mul-right, pow-suc, mul-one, one-mul, zero-add, sub-le, le-of-mul-le-mul-right, div-add-mod', mod-lt}
 use native.Mathlib.Omega.{arith}
 use lib.ListN.{length, replicate}
-use lib.Dec.{T, leb, ltb, eqb, leb→le, ltb→lt, eqb→eq}
+use lib.Dec.{T, eqb, leb→le, eqb→eq}
 use lib.Pow.{pow-pos}
-use lib.IntN.{ℤ, pos, negsuc, negℤ, _+ℤ_, _-ℤ_, _*ℤ_, natAbs, negℤ-negℤ, *ℤ-zero, zero-*ℤ, +ℤ-idl, +ℤ-idr, *ℤ-comm}
+use lib.IntN.{ℤ, pos, negℤ, _+ℤ_, _-ℤ_, _*ℤ_, natAbs, negℤ-negℤ, *ℤ-zero, zero-*ℤ, +ℤ-idl}
 use Rattle.series.specs.Kernel.{quarter, firstCoefficient, coefficients, mulhi, horner, rawSine, quarterSine, reduced, halfTurned}
 use Rattle.series.specs.Fraction.{signed}
-use Rattle.series.specs.Taylor.{factorial, sign}
-use Rattle.series.proofs.Integers.{_⊖_, neg-pos-⊖, parts, pos-⊖, ⊖-add, ⊖-mul, ⊖-neg, ⊖-eq, differences, dist, dist-⊖, dist-trans, dist-neg, dist-comm, abs-⊖, abs-negℤ, neg-*ℤ}
-use Rattle.series.proofs.Polynomial.{hval, nval, step, shift, shift-value, length-shift, dists, length-dists, sizes, length-sizes, slope, values-near, values-follow, nval-units, slope-units, one-pow, finer}
+use Rattle.series.specs.Taylor.{factorial}
+use Rattle.series.proofs.Integers.{_⊖_, neg-pos-⊖, parts, pos-⊖, ⊖-eq, differences, dist, dist-⊖, dist-trans, dist-neg, dist-comm, abs-⊖, abs-negℤ, neg-*ℤ}
+use Rattle.series.proofs.Polynomial.{hval, nval, shift, shift-value, length-shift, dists, length-dists, sizes, length-sizes, slope, values-near, values-follow, nval-units, slope-units, one-pow, finer}
 use Rattle.series.proofs.Alternating.{negated, negated-value, length-negated, alternating, exactSum, falling, alternating-value, Stands, horner-stands, quotient-above, quotient-below}
-use Rattle.series.proofs.Sums.{sinFrom, cosFrom, sin79, cos79}
+use Rattle.series.proofs.Sums.{sinFrom, sin79}
 use Rattle.series.proofs.Tests.{alternatingPart, grain, unit, recipe, summit, turned, near, recipe-slope, sine, sine-nears, sine-summit, cosine, cosine-nears, nears-at, summitFirst, summitCoefficients, summitRest}
 
 -- ---- the recipe against its own exact polynomial

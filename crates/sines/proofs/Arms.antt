@@ -1,12 +1,12 @@
 -- The arms of the branches in the fixed-point part: what each gives is what the definition says.
-use mathlib.Core.Path.{_≡_, refl, sym, ap, _∙_, subst}
+use mathlib.Core.Path.{_≡_, refl, sym, ap, _∙_}
 use mathlib.Core.Bool.{Bool, true, false, cond}
 use Prim.Native.Nat.{ℕ, zero, suc, _+_, _-_, _*_, _/_, _%_, _^_, _≤_, _<_, min}
-use native.Mathlib.Nat.{le-of-lt, mod-lt, sub-le}
+use native.Mathlib.Nat.{le-of-lt, mod-lt}
 use native.Mathlib.Omega.{arith}
 use lib.IntN.{pos}
-use lib.Ieee.{Float, binary64, ofBits, neg, mul, lt, le, ofInt, unlike}
-use lib.Dec.{T, eqb, eqb·suc-zero, leb→le}
+use lib.Ieee.{Float, binary64, neg, mul, lt, le, ofInt, unlike}
+use lib.Dec.{eqb, eqb·suc-zero, leb→le}
 use Rattle.series.specs.Kernel.{quarter, mulhi, horner, firstCoefficient, coefficients, rawSine, quarterSine, reduced, halfTurned}
 use Rattle.sines.specs.Recipe.{fixedSine, sineScale, sixteen, +0, magnitude, angle, sine, cosine}
 

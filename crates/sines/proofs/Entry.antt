@@ -2,21 +2,21 @@
 -- Rests on the crate binary64, which speaks of a float in units of 2^-1074.
 use mathlib.Core.Path.{_≡_, refl, sym, ap, ap₂, _∙_, subst}
 use mathlib.Core.Logic.{_⊎_, inl, inr}
-use mathlib.Core.Bool.{Bool, true, false, not, cond}
-use Prim.Native.Nat.{ℕ, zero, suc, _+_, _-_, _*_, _/_, _%_, _^_, _≤_, _<_, min, zero-le}
-use native.Mathlib.Nat.{le-refl, le-trans, le-of-eq, lt-of-le-of-lt, lt-of-lt-of-le, mul-le-mul-left, mul-le-mul-right, mul-one, add-zero, mul-comm, mul-assoc, zero-div, zero-mul, le-of-mul-le-mul-right, div-mul-le-self}
+use mathlib.Core.Bool.{Bool, true, false, cond}
+use Prim.Native.Nat.{ℕ, suc, _+_, _-_, _*_, _/_, _^_, _≤_, _<_, min, zero-le}
+use native.Mathlib.Nat.{le-trans, le-of-eq, mul-le-mul-right, mul-one, add-zero, mul-assoc, zero-div, zero-mul, le-of-mul-le-mul-right, div-mul-le-self}
 use native.Mathlib.Omega.{arith}
-use lib.Dec.{T, leb, ltb, leb→le, le→leb, ltb→lt, lt→ltb, lit<}
+use lib.Dec.{T, leb, leb→le, le→leb, lt→ltb, lit<}
 use lib.Pow.{pow-add}
-use lib.IntN.{ℤ, pos, negsuc}
+use lib.IntN.{pos}
 use lib.Ieee.{Float, nan, inf, fin, binary64, up, down, fits, round, ofBits, neg, mul, lt, le, eq, toUnsigned, unlike, below}
 use lib.Ieee.Exact.{HasValue}
-use lib.Ieee.Fits.{round-fits, neg-fits, down-pos}
+use lib.Ieee.Fits.{round-fits, down-pos}
 use lib.Ieee.Nearest.{div-same}
 use lib.Ieee.Scale.{finite}
-use Rattle.binary64.specs.Units.{pow2, one, limit, Finite, mag, negative, plus, minus, ofUnits, Digits53}
+use Rattle.binary64.specs.Units.{one, limit, Finite, mag, negative, plus, minus, ofUnits, Digits53}
 use Rattle.binary64.specs.Magnitude.{Most}
-use Rattle.binary64.proofs.Units.{pow2-is, pow2-pos, one-pos, limit-is, mag-value, value-mag, value-finite, value-sign, mag-digits, ofUnits-value, neg-mag, neg-finite, neg-sign, neg-minus, plus-is, minus-is, plus-minus, le-units, lt-units, units-of-lt, units-of-not-lt, lt-of-units}
+use Rattle.binary64.proofs.Units.{one-pos, limit-is, mag-value, value-mag, value-finite, value-sign, mag-digits, ofUnits-value, neg-mag, neg-finite, neg-minus, plus-is, minus-is, plus-minus, le-units, units-of-lt, units-of-not-lt}
 use Rattle.binary64.proofs.Values.{mul-values, lt-values}
 use Rattle.sines.specs.Recipe.{sixteen, angleScale, +0, magnitude, angle}
 

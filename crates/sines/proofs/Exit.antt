@@ -2,22 +2,21 @@
 -- (two roundings, each of half a unit of the 53rd digit). Rests on the crate binary64.
 use mathlib.Core.Path.{_≡_, refl, sym, ap, ap₂, _∙_, subst, subst₂}
 use mathlib.Core.Bool.{Bool, true, false, not, cond}
-use Prim.Native.Nat.{ℕ, zero, suc, _+_, _-_, _*_, _/_, _%_, _^_, _≤_, _<_}
-use native.Mathlib.Nat.{le-refl, le-trans, le-of-eq, mul-le-mul, mul-le-mul-left, mul-le-mul-right, mul-one, one-mul, mul-comm, mul-assoc, le-of-mul-le-mul-right}
+use Prim.Native.Nat.{ℕ, _+_, _*_, _^_, _≤_}
+use native.Mathlib.Nat.{le-trans, le-of-eq, mul-le-mul-left, mul-le-mul-right, mul-one, one-mul, le-of-mul-le-mul-right}
 use native.Mathlib.Omega.{arith}
-use lib.Dec.{T, leb→le, lit≤, lit<}
-use lib.IntN.{ℤ, pos, negℤ, _-ℤ_, _*ℤ_, natAbs, *ℤ-comm}
+use lib.Dec.{lit≤, lit<}
+use lib.IntN.{ℤ, pos, _*ℤ_, *ℤ-comm}
 use lib.Ieee.{Float, nan, inf, fin, binary64, up, down, fits, round, ofBits, neg, mul, ofInt, unlike}
 use lib.Ieee.Exact.{HasValue}
-use lib.Ieee.Fits.{down-pos}
-use Rattle.binary64.specs.Units.{pow2, one, limit, Finite, mag, negative, Digits53}
+use Rattle.binary64.specs.Units.{pow2, one, Finite, mag, negative}
 use Rattle.binary64.specs.Magnitude.{Most}
 use Rattle.binary64.specs.Rounding.{rnd}
 use Rattle.binary64.proofs.Units.{pow2-pos, pow2-split, one-pos, mag-value, value-mag, value-sign, neg-mag, neg-finite, neg-sign}
 use Rattle.binary64.proofs.Rounding.{rnd-le, rnd-near}
 use Rattle.binary64.proofs.Magnitude.{bound-digits, bound-limit, mul-most, neg-most}
 use Rattle.binary64.proofs.Operations.{round-finite, round-mag, round-sign, mul-mag, mul-sign}
-use Rattle.series.specs.Fraction.{Fraction, Within, signed, exact}
+use Rattle.series.specs.Fraction.{Within, signed, exact}
 use Rattle.series.proofs.Integers.{dist}
 use Rattle.series.proofs.Quarter.{dist-signed}
 use Rattle.series.proofs.Angles.{fraction, signed-scale}

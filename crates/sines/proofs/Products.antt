@@ -1,8 +1,8 @@
 -- The upper half of a product of two 64-bit numbers, from the four products of their 32-bit halves: that nothing wraps on the way, and
 -- that the sum is the upper half.
-use mathlib.Core.Path.{_≡_, refl, sym, ap, ap₂, _∙_, subst}
-use Prim.Native.Nat.{ℕ, zero, suc, _+_, _-_, _*_, _/_, _%_, _^_, _≤_, _<_}
-use native.Mathlib.Nat.{le-trans, le-of-eq, mul-le-mul, mul-le-mul-right, div-add-mod', mod-lt, div-mul-le-self}
+use mathlib.Core.Path.{_≡_, sym, ap, ap₂, _∙_}
+use Prim.Native.Nat.{ℕ, _+_, _*_, _/_, _%_, _^_, _≤_, _<_}
+use native.Mathlib.Nat.{le-trans, le-of-eq, mul-le-mul, mul-le-mul-right, div-add-mod', div-mul-le-self}
 use native.Mathlib.Omega.{arith}
 use lib.Arith.{digits-div}
 

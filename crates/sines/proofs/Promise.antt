@@ -1,17 +1,16 @@
 -- The promises of sine and cosine: the angle is exact up to its cut (Entry), the fixed-point part is within 442 units of 2^-61 of the sums (crate
 -- series), the float within 256 more (Exit): 698 units, less than 2^-40.
-use mathlib.Core.Path.{_≡_, refl, sym, ap, ap₂, _∙_, subst, subst₂}
-use mathlib.Core.Logic.{_⊎_, inl, inr}
-use mathlib.Core.Bool.{Bool, true, false, not, cond}
-use Prim.Native.Nat.{ℕ, zero, suc, _+_, _-_, _*_, _/_, _%_, _^_, _≤_, _<_, min}
+use mathlib.Core.Path.{_≡_, refl, sym, ap, _∙_, subst, subst₂}
+use mathlib.Core.Bool.{Bool, true, false}
+use Prim.Native.Nat.{ℕ, zero, suc, _+_, _*_, _/_, _^_, _≤_, _<_, min}
 use native.Mathlib.Nat.{le-trans, le-of-eq, zero-mul}
 use native.Mathlib.Omega.{arith}
 use lib.Dec.{T, leb→le}
-use lib.IntN.{ℤ, pos, negℤ}
+use lib.IntN.{ℤ}
 use lib.Ieee.{Float, nan, inf, fin, binary64, up, down, fits, lt, le, unlike}
 use lib.Ieee.Fits.{down-pos}
 use lib.Ieee.Nearest.{div-same}
-use Rattle.binary64.specs.Units.{one, Finite, mag, negative, plus, minus}
+use Rattle.binary64.specs.Units.{one, Finite, mag, plus, minus}
 use Rattle.binary64.specs.Magnitude.{Most}
 use Rattle.binary64.proofs.Units.{one-pos, mag-exact, plus-is, minus-is}
 use Rattle.series.specs.Fraction.{Fraction, Within, signed, exact}
@@ -20,9 +19,9 @@ use Rattle.series.specs.Kernel.{quarter, rawSine, quarterSine, reduced, halfTur
 use Rattle.series.proofs.Angles.{fraction, sine-within, cosine-within}
 use Rattle.series.proofs.Fractions.{within-trans, within-weaken}
 use Rattle.sines.specs.Recipe.{sine, cosine, fixedSine, sixteen, magnitude, angle, +0}
-use Rattle.sines.specs.Promise.{Domain, Promise, SinePromise, CosinePromise}
+use Rattle.sines.specs.Promise.{Domain, SinePromise, CosinePromise}
 use Rattle.sines.proofs.Arms.{sine-inside, sine-outside, cosine-inside, cosine-outside}
-use Rattle.sines.proofs.Entry.{angle-is, angle-small, inside-domain, domain-inside, below-units, above-units, is-true, zero-most}
+use Rattle.sines.proofs.Entry.{angle-is, angle-small, inside-domain, domain-inside, below-units, above-units, zero-most}
 use Rattle.sines.proofs.Exit.{made-most, made-within}
 
 -- ---- the entry, as a fraction

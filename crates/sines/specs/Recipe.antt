@@ -1,7 +1,7 @@
 -- The recipe of sine and cosine, step by step: the float v is cut to a whole number of units of 2^-59, the sine is worked out in whole numbers
 -- (crate series, Kernel), and made a float. So the bits of every answer are fixed.
 use Prim.Native.Nat.{ℕ, _+_}
-use mathlib.Core.Bool.{Bool, true, false, cond}
+use mathlib.Core.Bool.{Bool, false, cond}
 use lib.IntN.{pos}
 use lib.Ieee.{Float, binary64, ofBits, neg, mul, lt, le, ofInt, toUnsigned, unlike}
 use Rattle.series.specs.Kernel.{quarter, quarterSine, reduced, halfTurned}

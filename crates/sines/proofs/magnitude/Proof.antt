@@ -1,5 +1,4 @@
 -- `magnitude` meets its contract: the two arms are those of the definition.
-use lib.Ieee.{lt, neg}
 use Rattle.sines.proofs.magnitude.Statement.{statement}
 use Rattle.sines.proofs.magnitude.Tie as tie
 

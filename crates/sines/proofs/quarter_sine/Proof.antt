@@ -1,7 +1,5 @@
 -- `quarter_sine` meets its contract.
 use borrow.Author.Needs.{needs}
-use native.Mathlib.Omega.{arith}
-use Rattle.series.specs.Kernel.{rawSine}
 use Rattle.sines.proofs.Arms.{under-cap, at-cap, raw-is}
 use Rattle.sines.proofs.quarter_sine.Statement.{statement}
 use Rattle.sines.proofs.quarter_sine.Tie as tie
