@@ -16,7 +16,9 @@ use Rattle.series.proofs.Integers.{parts, ⊖-eq, differences, dist, di
 use Rattle.series.proofs.Polynomial.{hval, finer, finer-value}
 use Rattle.series.proofs.Sums.{rising, sinFrom, cosFrom, sin79, cos79, scale, sin40-value, cos40-value}
 use Rattle.series.proofs.Tests.{sine, cosine, unit, grain}
-use Rattle.series.proofs.Quarter.{Waves, sine-waves, cosine-waves, recipe-near, length-sine, unit-pos}
+use Rattle.series.proofs.Turns.{Waves, sine-waves, cosine-waves}
+use Rattle.series.proofs.Cap.{unit-pos, length-sine}
+use Rattle.series.proofs.Quarter.{recipe-near}
 
 -- ---- the sine is odd, the cosine even
 

@@ -1,5 +1,5 @@
 -- The arms of the branches in the fixed-point part: what each gives is what the definition says.
-use mathlib.Core.Path.{_≡_, refl, sym, ap, _∙_}
+use mathlib.Core.Path.{_≡_, refl, sym, ap, ap₂, _∙_}
 use mathlib.Core.Bool.{Bool, true, false, cond}
 use Prim.Native.Nat.{ℕ, zero, suc, _+_, _-_, _*_, _/_, _%_, _^_, _≤_, _<_, min}
 use native.Mathlib.Nat.{le-of-lt, mod-lt}
@@ -50,18 +50,18 @@ pub raw-is : (n s h z : ℕ) → s ≡ mulhi (16 * n) h → h ≡ horner firstCo
 unfolding rawSine
 raw-is n s h z p q r = p ∙ ap (mulhi (16 * n)) (q ∙ ap (horner firstCoefficient coefficients) r)
 
+-- a whole number of units of 2^-61 as a float
+abbrev pub sized : Float → Float
+sized x = mul binary64 x sineScale
+
 -- the float of a fixed-point sine, by the code's steps
-module _ (negative turned : Bool) (w n q : ℕ) (x : Float) (is-turned : turned ≡ halfTurned w) (is-reduced : n ≡ reduced w) (is-sine : q ≡ quarterSine n) (is-float : x ≡ ofInt binary64 (pos q)) where
-  sized : mul binary64 x sineScale ≡ mul binary64 (ofInt binary64 (pos (quarterSine (reduced w)))) sineScale
-  sized = ap (λ (y : Float). mul binary64 y sineScale) (is-float ∙ ap (λ (k : ℕ). ofInt binary64 (pos k)) (is-sine ∙ ap quarterSine is-reduced))
-
-  pub minus-sine : unlike negative turned ≡ true → neg (mul binary64 x sineScale) ≡ fixedSine negative w
-  unfolding fixedSine
-  minus-sine e = rw (← is-turned, e) (ap neg sized)
-
-  pub plus-sine : unlike negative turned ≡ false → mul binary64 x sineScale ≡ fixedSine negative w
-  unfolding fixedSine
-  plus-sine e = rw (← is-turned, e) sized
+pub fixed-is : (negative turned : Bool) (w n q : ℕ) (x : Float) → turned ≡ halfTurned w → n ≡ reduced w → q ≡ quarterSine n → x ≡ ofInt binary64 (pos q) →
+    (t : Bool) → unlike negative turned ≡ t → cond t (neg (sized x)) (sized x) ≡ fixedSine negative w
+unfolding fixedSine
+fixed-is negative turned w n q x is-turned is-reduced is-sine is-float t e =
+    ap₂ (λ (y : Float) (b : Bool). cond b (neg (sized y)) (sized y))
+    (is-float ∙ ap (λ (k : ℕ). ofInt binary64 (pos k)) (is-sine ∙ ap quarterSine is-reduced))
+    (sym e ∙ ap (unlike negative) is-turned)
 
 -- the two arms of sine and of cosine: inside the domain and outside
 pub sine-inside : (v : Float) → le (magnitude v) sixteen ≡ true → sine v ≡ fixedSine (lt v +0) (angle v)

@@ -1,4 +1,4 @@
--- `cos` meets its contract.
+-- `cos` meets its contract: the two arms are those of the definition.
 use borrow.Author.Needs.{needs}
 use mathlib.Core.Path.{sym, ap, _∙_}
 use mathlib.Core.Bool.{false}

@@ -1,4 +1,4 @@
--- `sin` meets its contract.
+-- `sin` meets its contract: the two arms are those of the definition.
 use borrow.Author.Needs.{needs}
 use mathlib.Core.Path.{sym, ap, _∙_}
 use lib.Ieee.{lt}
