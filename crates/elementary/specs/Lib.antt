@@ -2,3 +2,5 @@
 pub mod Root
 pub mod RootPromise
 pub mod RootSteps
+pub mod Sine
+pub mod SinePromise

@@ -1,2 +1,0 @@
-pub mod Recipe
-pub mod Promise
