@@ -2,10 +2,10 @@
 use mathlib.Core.Bool.{Bool, _&&_, _||_, cond}
 use mathlib.Core.List.{List, []}
 use lib.Ieee.{Float, neg}
-use Rattle.binary64.specs.Small.{absolute}
+use Rattle.binary64.specs.Functions.{absolute}
 use Rattle.elementary.specs.Root.{root}
-use Rattle.geometry.specs.Floats.{_+ᶠ_, _-ᶠ_, _*ᶠ_, _/ᶠ_, _<ᶠ_, _≤ᶠ_, _=ᶠ_, two}
-use Rattle.geometry.specs.Tolerances.{pi}
+use Rattle.geometry.specs.Floats.{_+ᶠ_, _-ᶠ_, _*ᶠ_, _/ᶠ_, _<ᶠ_, _≤ᶠ_, _=ᶠ_}
+use Rattle.binary64.specs.Constants.{pi, two64}
 use Rattle.geometry.specs.Point.{at, distance}
 use Rattle.geometry.specs.Meeting.{distinct}
 use Rattle.geometry.specs.declared.point.Point.{Point}
@@ -43,7 +43,7 @@ apart a b d = (a .radius +ᶠ b .radius <ᶠ d) || (d <ᶠ absolute (a .radius -
 -- the second, the points `across` from the foot, the first to the left.
 abbrev pub crossing : Circle → Circle → Float → List Point
 crossing a b d =
-    let along = (a .radius *ᶠ a .radius -ᶠ b .radius *ᶠ b .radius +ᶠ d *ᶠ d) /ᶠ (two *ᶠ d) in
+    let along = (a .radius *ᶠ a .radius -ᶠ b .radius *ᶠ b .radius +ᶠ d *ᶠ d) /ᶠ (two64 *ᶠ d) in
     let across = root (a .radius *ᶠ a .radius -ᶠ along *ᶠ along) in
     let dx = b .center .x -ᶠ a .center .x in
     let dy = b .center .y -ᶠ a .center .y in

@@ -3,9 +3,9 @@
 ghost use mathlib.Core.Path.{_≡_};
 ghost use Rattle.geometry.specs.Circle as spec;
 ghost use Rattle.geometry.specs.Meeting.{points};
-use binary64::abs;
 use crate::meeting::Meeting;
 use crate::point::Point;
+use binary64::abs;
 use elementary::root::root;
 
 pub struct Circle {
@@ -18,12 +18,15 @@ impl Circle {
     pub const ARC_EPS: f64 = 1e-9;
     // Outlines so near to each other coincide: a distance, and the least share of the squared radius.
     pub const BOUNDARY_COINCIDENCE_GEOM_TOL: f64 = 1e-7;
+
     pub const IMPLICIT_VALUE_FP_TOL: f64 = 1e-12;
     // At the box: an angle so near to the end of an arc is the end, a point so near to the box is in it.
     pub const CLIP_ANGLE_TOL: f64 = 1e-12;
+
     pub const CLIP_BOX_TOL: f64 = 1e-9;
     // Areas up to this count as none.
     pub const EPSILON: f64 = 1e-10;
+
     pub const PI: f64 = 3.14159265358979323846264338327950288;
 
     pub fn new(center: Point, radius: f64) -> Self

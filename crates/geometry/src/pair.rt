@@ -15,12 +15,10 @@ pub struct Pair {
 impl Pair {
     // The heads `first` and `second`, which are the circles a and b.
     pub fn new(first: usize, second: usize, a: Circle, b: Circle) -> Self
-        ensures {
-            λ r.
+        ensures { λ r.
             ⌜ (r .first ≡ first) ×
-              (r .second ≡ second) ×
-              (points (r .meeting) ≡ intersectionPoints a b) ⌝
-        }
+            (r .second ≡ second) ×
+            (points (r .meeting) ≡ intersectionPoints a b) ⌝ }
     {
         let meeting = a.intersection_points(b);
         Pair {

@@ -88,30 +88,24 @@ pub extern "C" fn probe_circle_area(x: f64, y: f64, radius: f64) -> f64
 
 #[no_mangle]
 pub extern "C" fn probe_contains(x1: f64, y1: f64, r1: f64, x2: f64, y2: f64, r2: f64) -> bool
-    ensures {
-        λ r.
-        ⌜ r ≡ circle.contains (circle.around (point.at x1 y1) r1) (circle.around (point.at x2 y2) r2) ⌝
-    }
+    ensures { λ r.
+        ⌜ r ≡ circle.contains (circle.around (point.at x1 y1) r1) (circle.around (point.at x2 y2) r2) ⌝ }
 {
     around(x1, y1, r1).contains(around(x2, y2, r2))
 }
 
 #[no_mangle]
 pub extern "C" fn probe_contains_point(x1: f64, y1: f64, r1: f64, x2: f64, y2: f64) -> bool
-    ensures {
-        λ r.
-        ⌜ r ≡ circle.containsPoint (circle.around (point.at x1 y1) r1) (point.at x2 y2) ⌝
-    }
+    ensures { λ r.
+        ⌜ r ≡ circle.containsPoint (circle.around (point.at x1 y1) r1) (point.at x2 y2) ⌝ }
 {
     around(x1, y1, r1).contains_point(Point::new(x2, y2))
 }
 
 #[no_mangle]
 pub extern "C" fn probe_intersects(x1: f64, y1: f64, r1: f64, x2: f64, y2: f64, r2: f64) -> bool
-    ensures {
-        λ r.
-        ⌜ r ≡ circle.intersects (circle.around (point.at x1 y1) r1) (circle.around (point.at x2 y2) r2) ⌝
-    }
+    ensures { λ r.
+        ⌜ r ≡ circle.intersects (circle.around (point.at x1 y1) r1) (circle.around (point.at x2 y2) r2) ⌝ }
 {
     around(x1, y1, r1).intersects(around(x2, y2, r2))
 }
@@ -125,10 +119,8 @@ pub extern "C" fn probe_intersection_points(
     y2: f64,
     r2: f64,
 ) -> Points
-    ensures {
-        λ r.
-        ⌜ r ≡ spec.told (circle.intersectionPoints (circle.around (point.at x1 y1) r1) (circle.around (point.at x2 y2) r2)) ⌝
-    }
+    ensures { λ r.
+        ⌜ r ≡ spec.told (circle.intersectionPoints (circle.around (point.at x1 y1) r1) (circle.around (point.at x2 y2) r2)) ⌝ }
 {
     told(around(x1, y1, r1).intersection_points(around(x2, y2, r2)))
 }

@@ -20,4 +20,3 @@ returns c = rw (c .new2 .ensures, c .before .new .ensures)
 
 pub around-spec : {M : Type 1} → statement M
 around-spec = tie.close (tie.spec new-requires new-requires-2 returns)
-

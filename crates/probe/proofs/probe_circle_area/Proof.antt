@@ -20,4 +20,3 @@ returns c = rw (c .area .ensures, c .before .around .ensures)
 
 pub probe-circle-area-spec : {M : Type 1} → statement M
 probe-circle-area-spec = tie.close (tie.spec around-requires area-requires returns)
-

@@ -25,4 +25,3 @@ returns c = rw (c .contains .ensures, c .before .around2 .ensures, c .before .be
 pub probe-contains-spec : {M : Type 1} → statement M
 probe-contains-spec =
     tie.close (tie.spec around-requires around-requires-2 contains-requires returns)
-

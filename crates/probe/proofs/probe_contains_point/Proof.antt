@@ -26,4 +26,3 @@ returns c = rw (c .contains-point .ensures, c .before .new .ensures, c .before .
 pub probe-contains-point-spec : {M : Type 1} → statement M
 probe-contains-point-spec =
     tie.close (tie.spec around-requires new-requires contains-point-requires returns)
-

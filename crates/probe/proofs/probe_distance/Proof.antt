@@ -24,4 +24,3 @@ returns c = rw (c .distance .ensures, c .before .new2 .ensures, c .before .befor
 
 pub probe-distance-spec : {M : Type 1} → statement M
 probe-distance-spec = tie.close (tie.spec new-requires new-requires-2 distance-requires returns)
-

@@ -31,4 +31,3 @@ pub probe-intersection-points-spec : {M : Type 1} → statement M
 probe-intersection-points-spec =
     tie.close
     (tie.spec around-requires around-requires-2 intersection-points-requires told-requires returns)
-

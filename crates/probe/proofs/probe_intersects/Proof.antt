@@ -25,4 +25,3 @@ returns c = rw (c .intersects .ensures, c .before .around2 .ensures, c .before .
 pub probe-intersects-spec : {M : Type 1} → statement M
 probe-intersects-spec =
     tie.close (tie.spec around-requires around-requires-2 intersects-requires returns)
-

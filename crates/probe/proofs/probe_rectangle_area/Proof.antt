@@ -25,4 +25,3 @@ returns c = rw (c .area .ensures, c .before .new2 .ensures)
 
 pub probe-rectangle-area-spec : {M : Type 1} → statement M
 probe-rectangle-area-spec = tie.close (tie.spec new-requires new-requires-2 area-requires returns)
-

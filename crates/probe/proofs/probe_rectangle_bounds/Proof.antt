@@ -26,4 +26,3 @@ returns c = rw (c .bounds .ensures, c .before .new2 .ensures, c .before .before 
 pub probe-rectangle-bounds-spec : {M : Type 1} → statement M
 probe-rectangle-bounds-spec =
     tie.close (tie.spec new-requires new-requires-2 bounds-requires returns)
-

@@ -32,4 +32,3 @@ pub told-spec : {M : Type 1} → statement M
 told-spec =
     tie.close
     (tie.spec enum-told enum-known-meeting enum-known-meeting-2 returns returns-2 returns-3)
-

@@ -19,4 +19,3 @@ returns-2 c = rw (c .before .before .before .if1 .left, c .abs .ensures)
 
 pub apart-spec : {M : Type 1} → statement M
 apart-spec = tie.close (tie.spec abs-requires returns returns-2)
-

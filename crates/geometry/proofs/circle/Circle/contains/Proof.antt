@@ -15,4 +15,3 @@ returns c = rw (c .before .before .distance .ensures)
 
 pub contains-spec : {M : Type 1} → statement M
 contains-spec = tie.close (tie.spec distance-requires returns)
-

@@ -15,4 +15,3 @@ returns c = rw (c .before .distance .ensures)
 
 pub contains-point-spec : {M : Type 1} → statement M
 contains-point-spec = tie.close (tie.spec distance-requires returns)
-

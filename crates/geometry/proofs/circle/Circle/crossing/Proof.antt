@@ -29,4 +29,3 @@ returns c = rw (c .of .ensures, c .before .new2 .ensures, c .before .before .new
 
 pub crossing-spec : {M : Type 1} → statement M
 crossing-spec = tie.close (tie.spec root-requires new-requires new-requires-2 of-requires returns)
-

@@ -18,4 +18,3 @@ returns-3 c = rw (c .if1 .left)
 
 pub identical-spec : {M : Type 1} → statement M
 identical-spec = tie.close (tie.spec returns returns-2 returns-3)
-

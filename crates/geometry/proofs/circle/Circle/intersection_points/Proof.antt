@@ -47,4 +47,3 @@ intersection-points-spec =
     returns-2
     crossing-requires
     returns-3)
-

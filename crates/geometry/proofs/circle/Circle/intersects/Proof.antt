@@ -24,4 +24,3 @@ returns-2 c = rw (← c .before .before .before .distance .ensures, c .if1 .left
 
 pub intersects-spec : {M : Type 1} → statement M
 intersects-spec = tie.close (tie.spec distance-requires abs-requires returns returns-2)
-
