@@ -114,8 +114,8 @@ pub fn compare(count: u64, tally: &mut Tally) {
     }
 }
 
-// The Rust's answers as lines of words in hexadecimal, for the crate `replay`, which says how a line reads. Circles that are
-// identical and pairs with a NaN have no line.
+// The Rust's answers as lines for the crate `replay`, whose file pair.rt says how a line reads. Circles that are identical, and
+// pairs with a NaN or an infinity, have no line.
 pub fn list(count: u64) {
     let mut random = Random(0xD1B5_4A32_D192_ED03);
     for category in &CATEGORIES {
@@ -139,7 +139,7 @@ fn list_pair(a: Head, b: Head) {
     let mut numbers = vec![a.x, a.y, a.r, b.x, b.y, b.r];
     numbers.extend([first.center().distance(second.center()), first.area(), bounds.area(), x_min, x_max, y_min, y_max]);
     numbers.extend(coordinates);
-    if a == b || numbers.iter().any(|n| n.is_nan()) {
+    if a == b || numbers.iter().any(|n| !n.is_finite()) {
         return;
     }
     let answers = [
@@ -149,5 +149,5 @@ fn list_pair(a: Head, b: Head) {
         first.intersects(&second) as usize,
     ];
     let whole: String = answers.iter().map(|n| format!(" {n}")).collect();
-    println!("{}{}", words(&numbers).trim_start(), whole);
+    println!("P{}{}", words(&numbers), whole);
 }
