@@ -30,9 +30,10 @@ fn digit(b: u8) -> u64 {
     b as u64
 }
 
-// Whether every answer on the line that was read is ours. Its letter stands in the first place.
-fn agrees(words: &[u64; 32]) -> bool {
-    if words[0] == 80 {
+// Whether every answer on the line that was read is ours. Its letter stands in the first place, and
+// `last` is the place of its last number.
+fn agrees(words: &[u64; 32], last: usize) -> bool {
+    if words[0] == 80 && last == 21 {
         return pair::agrees(words);
     }
     false
@@ -41,7 +42,7 @@ fn agrees(words: &[u64; 32]) -> bool {
 fn line_ended(words: &mut [u64; 32], r: Reading) -> Reading {
     let lines = std::num::wrapping_add_u64(r.lines, 1);
     let mut differing = r.differing;
-    if !agrees(words) {
+    if !agrees(words, r.at) {
         io::write_all(STDOUT_FILENO, b"differs: line ");
         io::print_decimal(STDOUT_FILENO, lines);
         io::write_all(STDOUT_FILENO, b"\n");
