@@ -1,3 +1,5 @@
 pub mod Naturals
 pub mod Units
 pub mod Patterns
+pub mod Rounding
+pub mod Operations

@@ -5,7 +5,7 @@ use Prim.Native.Nat.{ℕ, _-_, _^_, _≤_, _<_}
 use native.Mathlib.Nat.{le-of-suc-le-suc, lt-of-not-le, not-le-of-lt}
 use mathlib.Core.Bool.{Bool, true, false, not}
 use lib.Dec.{T, ltb, ltb→lt, nltb→le}
-use lib.Pow.{pow-lt}
+use lib.Pow.{pow-lt, pow-mono}
 
 -- of two numbers one is below the other or not: not truncated, so a proof may go by cases on it
 pub lt-or-ge : (a b : ℕ) → (a < b) ⊎ (b ≤ a)
@@ -24,3 +24,6 @@ same-test false false f g = refl
 
 pub pow-le-back : (a l : ℕ) → 2 ^ a ≤ 2 ^ l → a ≤ l
 pow-le-back a l h = le-of-suc-le-suc (lt-of-not-le (λ (g : l < a). not-le-of-lt (pow-lt g) h))
+
+pub pow-lt-back : (a l : ℕ) → 2 ^ a < 2 ^ l → a < l
+pow-lt-back a l h = lt-of-not-le (λ (g : l ≤ a). not-le-of-lt h (pow-mono g))

@@ -3,7 +3,7 @@
 use mathlib.Core.Path.{_≡_, refl, sym, ap, ap₂, _∙_, subst}
 use mathlib.Core.Logic.{_⊎_, inl, inr}
 use Prim.Native.Nat.{ℕ, zero, suc, _+_, _-_, _*_, _/_, _%_, _^_, _≤_, _<_}
-use native.Mathlib.Nat.{le-of-lt, le-trans, le-of-eq, lt-of-lt-of-le, lt-of-le-of-lt, eq-or-lt-of-le, add-comm, zero-add, add-zero, add-mul, zero-mul, mul-one, one-mul, mul-comm, mul-assoc, mul-left-comm, mul-right-comm, mul-pos, mul-le-mul-right, mul-lt-mul-of-pos-right, lt-of-mul-lt-mul-right, eq-of-mul-eq-mul-right, mul-div-cancel, pow-succ'}
+use native.Mathlib.Nat.{lt-irrefl, le-of-lt, le-trans, le-of-eq, lt-of-lt-of-le, lt-of-le-of-lt, eq-or-lt-of-le, add-comm, zero-add, add-zero, add-mul, zero-mul, mul-one, one-mul, mul-comm, mul-assoc, mul-left-comm, mul-right-comm, mul-pos, mul-le-mul-right, mul-lt-mul-of-pos-right, lt-of-mul-lt-mul-right, eq-of-mul-eq-mul-right, mul-div-cancel, pow-succ'}
 use native.Mathlib.Omega.{arith}
 use mathlib.Core.Bool.{Bool, true, false, not, _&&_, _||_, Bool·beq, cond}
 use lib.IntN.{ℤ, pos, negsuc}
@@ -223,6 +223,23 @@ pub minus-is : (x : Float) → negative x ≡ true → (plus x ≡ 0) × (minus 
 unfolding plus minus
 minus-is x h = (ap (λ (s : Bool). cond s 0 (mag x)) h, ap (λ (s : Bool). cond s (mag x) 0) h)
 
+-- what has a part above zero has not the sign bit, and what has one below has it
+pub plus-sign : (x : Float) → 0 < plus x → negative x ≡ false
+unfolding plus
+plus-sign x = go (negative x)
+  where
+    go : (s : Bool) → 0 < cond s 0 (mag x) → s ≡ false
+    go true h = absurd (lt-irrefl 0 h)
+    go false h = refl
+
+pub minus-sign : (x : Float) → 0 < minus x → negative x ≡ true
+unfolding minus
+minus-sign x = go (negative x)
+  where
+    go : (s : Bool) → 0 < cond s (mag x) 0 → s ≡ true
+    go true h = refl
+    go false h = absurd (lt-irrefl 0 h)
+
 -- ---- the float -x
 
 pub neg-mag : (x : Float) → mag (neg x) ≡ mag x
@@ -319,7 +336,7 @@ module _ (x y a b k c : ℕ) (K : 0 < k) (C : 0 < c) (p : a * k ≡ x * c) (q : 
       go true true = rw (zero-add a, zero-add b) (and-true (eqb a b) ∙ eqb-sym a b)
 
 -- m / e is a / u, so m * d is to e * d as a is to u
-crossed : (m e d a u : ℕ) → a * e ≡ m * u → a * (e * d) ≡ m * d * u
+pub crossed : (m e d a u : ℕ) → a * e ≡ m * u → a * (e * d) ≡ m * d * u
 crossed m e d a u p = simp (mul-assoc, mul-comm, mul-left-comm) (simp (mul-assoc, mul-comm) at (ap (λ (z : ℕ). z * d) p))
 
 -- x < y, x = y, x ≤ y: as comparisons of whole numbers of units

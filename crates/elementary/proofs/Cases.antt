@@ -4,10 +4,11 @@ use mathlib.Core.Bool.{Bool, true, false, not, _&&_, _||_, cond, true≢false, f
 use Prim.Native.Nat.{ℕ, zero, suc, _+_, _-_, _*_, _/_, _%_, _^_, _≤_, _<_}
 use native.Mathlib.Nat.{lt-irrefl, zero-mul, mul-one, mul-pos, zero-lt-suc, zero-div, lt-of-lt-of-le, not-le-of-lt}
 use native.Mathlib.Omega.{arith}
+use lib.Arith.{le→nltb}
 use lib.Dec.{T, leb, ltb, eqb, ltb→lt, lt→ltb, eqb→eq, T-not, nleb→lt}
 use lib.IntN.{ℤ, pos, negsuc}
-use lib.Ieee.{Float, nan, inf, fin, binary64, up, down, level, lt, eq, fits, isNan, ofBits, toBits}
-use lib.Ieee.Bits.{ofBits-toBits, toBits-lt, is-true}
+use lib.Ieee.{Float, nan, inf, fin, binary64, up, down, level, lt, eq, fits, isNan, nanBits, ofBits, toBits}
+use lib.Ieee.Bits.{ofBits-toBits, nanBits-above, is-true}
 use lib.Ieee.Fits.{up-pos, down-pos, and-l, eq→eqb}
 use lib.Ieee.Scale.{finite}
 use Rattle.binary64.specs.Units.{mag, negative, ofUnits, Finite}
@@ -33,6 +34,10 @@ root-positive {x = fin false zero e} f s p = absurd (no-units e _ p)
 root-positive {x = fin false (suc m) e} f s p = refl
 
 -- ---- above zero
+
+-- patterns below the infinity's are numbers
+pub number-bits : (b : ℕ) → b < 2047 * 2 ^ 52 → T (not (nanBits binary64 b))
+number-bits b h = subst (λ (t : Bool). T (not t)) (sym (nanBits-above binary64 b)) (le→nltb (2047 * 2 ^ 52) (b % 2 ^ 63) (omega arith))
 
 pub above-number : (x : Float) → lt (ofBits binary64 0) x ≡ true → T (not (isNan x))
 unfolding lt isNan ofBits

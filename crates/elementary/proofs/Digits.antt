@@ -79,7 +79,8 @@ all m digits root rest t =
     let e : m * 2 ^ 116 ≡ ((root * root + rest) * 2 ^ 64 + digits) * 1 = t .whole in
     omega arith
 
-nearest-is : (m q : ℕ) → 2 ^ 52 ≤ m → m < 2 ^ 54 → Near (m * 2 ^ 52) q → q ≡ nearestRoot 53 (m * 2 ^ 52)
+-- what is nearest is the definition's number
+pub nearest-is : (m q : ℕ) → 2 ^ 52 ≤ m → m < 2 ^ 54 → Near (m * 2 ^ 52) q → q ≡ nearestRoot 53 (m * 2 ^ 52)
 nearest-is m q l h n = near-unique (m * 2 ^ 52) q (nearestRoot 53 (m * 2 ^ 52)) n (near 53 (m * 2 ^ 52) (omega arith) (omega arith))
 
 near-down : (n r rest : ℕ) → 0 < n → n ≡ r * r + rest → rest ≤ r → Near n r

@@ -6,12 +6,12 @@ use mathlib.Core.Bool.{Bool, false, not}
 use Prim.Native.Nat.{ℕ, zero, suc, _+_, _-_, _*_, _/_, _%_, _^_, _≤_, _<_}
 use native.Mathlib.Nat.{le-trans, le-of-eq, lt-of-lt-of-le, mul-assoc, mul-comm, mul-right-comm, mul-le-mul-left, mul-le-mul-right, mul-div-cancel, mul-pos, mul-lt-mul-of-pos-right, lt-of-mul-lt-mul-right, le-of-mul-le-mul-right, mod-eq-of-lt, add-comm, lt-of-not-le, not-le-of-lt}
 use native.Mathlib.Omega.{arith}
-use lib.Arith.{lt→nleb, le→nltb}
+use lib.Arith.{lt→nleb}
 use lib.Dec.{T, leb, lit<, lit≤}
 use lib.Pow.{pow-add, pow-pos, pow-mono}
 use lib.Count.{leadingZeros, leading-top}
 use lib.Ieee.{binary64, size, ofBits, nanBits}
-use lib.Ieee.Bits.{is-false, nanBits-above}
+use lib.Ieee.Bits.{is-false}
 use lib.Ieee.Digits.{size-lt, size-le}
 use lib.Ieee.Positive.{first-pos}
 use Rattle.binary64.specs.Units.{mag, negative, ofUnits, Finite}
@@ -19,7 +19,7 @@ use Rattle.binary64.proofs.Patterns.{normal-mag, subnormal-mag, pattern-units, 
 use Rattle.binary64.proofs.Units.{not-nan}
 use Rattle.elementary.specs.Root.{root, nearestRoot, rootUnits}
 use Rattle.elementary.specs.Steps.{Near, Leading}
-use Rattle.elementary.proofs.Cases.{root-positive}
+use Rattle.elementary.proofs.Cases.{root-positive, number-bits}
 use Rattle.elementary.proofs.Scale.{half, radicand, four-pow, four-pos, near-least, rootUnits-is}
 use Rattle.elementary.proofs.Whole.{near}
 
@@ -173,10 +173,7 @@ module _ (b m lead : ℕ) (h : b < 2047 * 2 ^ 52) (l : Leading (mag (ofBits bina
     root-bits-fit = omega (arith, l .range, digits-53)
 
     pub root-bits-number : T (not (nanBits binary64 ((lead / 2 + 485) * 2 ^ 52 % 2 ^ 64 + q)))
-    root-bits-number =
-        let n = (lead / 2 + 485) * 2 ^ 52 % 2 ^ 64 + q in
-        let g = root-bits-fit in
-        subst (λ (t : Bool). T (not t)) (sym (nanBits-above binary64 n)) (le→nltb (2047 * 2 ^ 52) (n % 2 ^ 63) (omega arith))
+    root-bits-number = number-bits _ (omega (arith, root-bits-fit))
 
     pub root-bits : ofBits binary64 ((lead / 2 + 485) * 2 ^ 52 % 2 ^ 64 + q) ≡ root (ofBits binary64 b)
     root-bits =

@@ -7,3 +7,5 @@ pub mod Neighbours
 pub mod Cases
 pub mod Leading
 pub mod Promise
+pub mod Squares
+pub mod Integers

@@ -122,12 +122,12 @@ module _ (n : ℕ) (p : 0 < n) (d : Digits53 n) (u : ℕ) (g : Digits53 u) where
 
 -- ---- the root against any v of at most 53 digits, by squares
 
-rootUnits-zero : rootUnits 0 ≡ 0
+pub rootUnits-zero : rootUnits 0 ≡ 0
 unfolding rootUnits
 rootUnits-zero = refl
 
 -- what is not 0 is above it
-by-zero : (n : ℕ) → (n ≡ 0) ⊎ (0 < n)
+pub by-zero : (n : ℕ) → (n ≡ 0) ⊎ (0 < n)
 by-zero zero = inl refl
 by-zero (suc n) = inr (omega arith)
 

@@ -34,10 +34,10 @@ module _ {x : Float} (f : Finite x) (s : negative x ≡ false) (p : 0 < mag x) w
   pub positive-mag : mag (root x) ≡ rootUnits (mag x)
   positive-mag = ap mag (root-positive f s p) ∙ ofUnits-mag false (rootUnits (mag x)) digits above
 
-  positive-sign : negative (root x) ≡ false
+  pub positive-sign : negative (root x) ≡ false
   positive-sign = ap negative (root-positive f s p) ∙ ofUnits-sign false (rootUnits (mag x)) digits above
 
-  positive-finite : Finite (root x)
+  pub positive-finite : Finite (root x)
   positive-finite = subst (λ (r : Float). Finite r) (sym (root-positive f s p)) (ofUnits-finite false (rootUnits (mag x)) digits above)
 
   positive-nearest : Nearest x (root x)
@@ -52,11 +52,11 @@ module _ {x : Float} (f : Finite x) (s : negative x ≡ false) (p : 0 < mag x) w
 
 -- ---- the cases
 
-plus-zero : plus +0 + minus +0 ≡ 0
+pub plus-zero : plus +0 + minus +0 ≡ 0
 unfolding plus minus mag pow2
 plus-zero = refl
 
-zero-finite : Finite +0
+pub zero-finite : Finite +0
 unfolding fits
 zero-finite = record { fit = tt; number = tt }
 

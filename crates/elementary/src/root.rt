@@ -1,14 +1,13 @@
 // The square root of an f64, correctly rounded, and hypot. The 53 digits of the root are the whole
 // number nearest to the root of a whole number of 105 or 106 digits (specs/Root.antt).
 ghost use mathlib.Core.Path.{_≡_};
-ghost use mathlib.Core.Bool.{true};
 ghost use Prim.Native.Nat.{_*_, _^_, _≤_, _<_};
 ghost use lib.Ieee.{binary64, ofBits};
 ghost use Rattle.binary64.specs.Units.{mag};
 ghost use Rattle.elementary.specs.Root.{nearestRoot};
 ghost use Rattle.elementary.specs.Root.{root as rootOf};
 ghost use Rattle.elementary.specs.Root.{hypot as hypotOf};
-ghost use Rattle.elementary.specs.Steps.{Near, Leading};
+ghost use Rattle.elementary.specs.Steps.{Near, Balanced, Leading};
 
 // The bits of the positive infinity: those of the positive finite numbers lie below.
 const INFINITY: u64 = 0x7FF0_0000_0000_0000;
@@ -73,7 +72,7 @@ fn positive(bits: u64) -> f64
 {
     let parts = split(bits);
     let lead = parts.lead;
-    let digits = nearest_by_digits(parts.digits << (lead % 2));
+    let digits = nearest(parts.digits << (lead % 2));
     f64::from_bits(((lead / 2 + 485) << 52) + digits)
 }
 
@@ -102,11 +101,56 @@ fn nearest_by_digits(m: u64) -> u64
     if rest <= root { root } else { root + 1 }
 }
 
-// Whether q is the whole number nearest to the root of m * 2^52, by exact products in halves:
-// q * q is high * 2^54 + low, and what it exceeds m * 2^52 by is square - radicand.
-fn is_nearest(m: u64, q: u64) -> bool
+// The whole number nearest to the root of m * 2^52: a guess, settled by exact integers; where that
+// fails, digit by digit.
+fn nearest(m: u64) -> u64
+    requires { ⌜ (2 ^ 52 ≤ m) × (m < 2 ^ 54) ⌝ }
+    ensures { λ r. ⌜ r ≡ nearestRoot 53 (m * 2 ^ 52) ⌝ }
+{
+    let q = settle(m, guess(m));
+    if 0 < q {
+        return q;
+    }
+    nearest_by_digits(m)
+}
+
+// The whole number nearest to the root of m * 2^52, if it is q or stands beside q; else 0.
+fn settle(m: u64, q: u64) -> u64
+    requires { ⌜ (m < 2 ^ 54) × ((2 ^ 52 ≤ q) × (q < 2 ^ 53)) ⌝ }
+    ensures { λ r. ⌜ (0 < r → Near (m * 2 ^ 52) r) ⌝ }
+{
+    let scales = weigh(m, q);
+    let square = scales.square;
+    let radicand = scales.radicand;
+    if radicand == 0 {
+        return 0;
+    }
+    if radicand + q * 3 <= square + 2 {
+        return 0;
+    }
+    if square + q * 3 + 2 < radicand {
+        return 0;
+    }
+    if radicand + q <= square {
+        return q - 1;
+    }
+    if square + q < radicand {
+        return q + 1;
+    }
+    q
+}
+
+// q * q and m * 2^52, both less the same number.
+struct Scales {
+    square: u64,
+    radicand: u64,
+}
+
+// The square of q against m * 2^52, by exact products in halves: q * q is (high - 1) * 2^54 + low,
+// and m * 2^52 is m_high * 2^54 and two more digits. Both sides are 0 where they are too far apart.
+fn weigh(m: u64, q: u64) -> Scales
     requires { ⌜ (m < 2 ^ 54) × (q < 2 ^ 53) ⌝ }
-    ensures { λ r. ⌜ (r ≡ true → Near (m * 2 ^ 52) q) ⌝ }
+    ensures { λ r. ⌜ Balanced (m * 2 ^ 52) (q * q) (r .square) (r .radicand) ⌝ }
 {
     let upper = q >> 27;
     let lower = q % 0x800_0000;
@@ -115,15 +159,44 @@ fn is_nearest(m: u64, q: u64) -> bool
     let low = ((cross % 0x400_0000) << 28) + lower * lower;
     let m_high = m >> 2;
     if high < m_high {
-        return false;
+        return Scales {
+            square: 0,
+            radicand: 0,
+        };
     }
-    if 2 < high - m_high {
-        return false;
+    let ahead = high - m_high;
+    if 2 < ahead {
+        return Scales {
+            square: 0,
+            radicand: 0,
+        };
     }
-    let square = ((high - m_high) << 54) + low;
-    let radicand = ((m % 4 + 4) << 52);
-    if radicand + q <= square {
-        return false;
+    Scales {
+        square: (ahead << 54) + low,
+        radicand: (m % 4 + 4) << 52,
     }
-    radicand <= square + q
+}
+
+// A guess at the 53 digits of the root of m * 2^52, nearly always right or one off. All that is
+// promised is that it has 53 digits: `settle` tests it. With x = m: Newton's steps for 1 / root(x)
+// from a first guess in the bits (off by at most 3.5%, then 2^-9, 2^-17, 2^-34), and one step from
+// x / root(x) to the root.
+fn guess(m: u64) -> u64
+    requires { ⌜ m < 2 ^ 54 ⌝ }
+    ensures { λ r. ⌜ (2 ^ 52 ≤ r) × (r < 2 ^ 53) ⌝ }
+{
+    let odd = m >> 53;
+    let bits = ((odd + 1074) << 52) + (m >> odd);
+    let x = f64::from_bits(bits);
+    let half = 0.5 * x;
+    let r0 = f64::from_bits(0x5FE6_EB50_C7B5_37A9 - (bits >> 1));
+    let r1 = r0 * (1.5 - half * r0 * r0);
+    let r2 = r1 * (1.5 - half * r1 * r1);
+    let r3 = r2 * (1.5 - half * r2 * r2);
+    let y = x * r3;
+    let root = y + 0.5 * r3 * (x - y * y);
+    if 0.0 < root {
+        return f64::to_bits(root) % 0x10_0000_0000_0000 + 0x10_0000_0000_0000;
+    }
+    0x10_0000_0000_0000
 }

@@ -7,17 +7,17 @@ use Rattle.elementary.proofs.root.positive.Statement.{statement}
 use Rattle.elementary.proofs.root.positive.Tie as tie
 use Rattle.elementary.proofs.root.positive.Reads as reads
 use Rattle.elementary.proofs.root.positive.Lts as lts
-use Rattle.elementary.proofs.root.nearest_by_digits.Reads as nearest-by-digits-reads
+use Rattle.elementary.proofs.root.nearest.Reads as nearest-reads
 use Rattle.elementary.proofs.root.split.Reads as split-reads
 
 split-requires : tie.Need-split-requires
 split-requires c κs = search needs
 
-shl-nearest-by-digits : tie.Need-shl-nearest-by-digits
-shl-nearest-by-digits c = search needs
+shl-nearest : tie.Need-shl-nearest
+shl-nearest c = search needs
 
-nearest-by-digits-requires : tie.Need-nearest-by-digits-requires
-nearest-by-digits-requires c κs =
+nearest-requires : tie.Need-nearest-requires
+nearest-requires c κs =
     let p = c .before .split in
     let r = radicand-digits (p .result .digits) (p .result .lead) (p .ensures .least) (p .ensures .most) in
     (omega (arith, r), omega (arith, r))
@@ -29,27 +29,27 @@ add-result-2 : tie.Need-add-result-2
 add-result-2 c =
     let p = c .before .before .split in
     let s = c .before .before .before in
-    omega (arith, root-bits-fit (s .args .bits) (p .result .digits) (p .result .lead) (s .pre .1) (p .ensures) (c .nearest-by-digits .result) (c .nearest-by-digits .ensures))
+    omega (arith, root-bits-fit (s .args .bits) (p .result .digits) (p .result .lead) (s .pre .1) (p .ensures) (c .nearest .result) (c .nearest .ensures))
 
 float-from-bits-result : tie.Need-float-from-bits-result
 float-from-bits-result c =
     let p = c .before .before .split in
     let s = c .before .before .before in
-    root-bits-number (s .args .bits) (p .result .digits) (p .result .lead) (s .pre .1) (p .ensures) (c .nearest-by-digits .result) (c .nearest-by-digits .ensures)
+    root-bits-number (s .args .bits) (p .result .digits) (p .result .lead) (s .pre .1) (p .ensures) (c .nearest .result) (c .nearest .ensures)
 
 returns : tie.Need-returns
 returns c =
     let p = c .before .before .split in
     let s = c .before .before .before in
-    root-bits (s .args .bits) (p .result .digits) (p .result .lead) (s .pre .1) (p .ensures) (c .nearest-by-digits .result) (c .nearest-by-digits .ensures)
+    root-bits (s .args .bits) (p .result .digits) (p .result .lead) (s .pre .1) (p .ensures) (c .nearest .result) (c .nearest .ensures)
 
 pub positive-spec : {M : Type 1} → statement M
 positive-spec =
     tie.close
     (tie.spec
     split-requires
-    shl-nearest-by-digits
-    nearest-by-digits-requires
+    shl-nearest
+    nearest-requires
     add-result
     add-result-2
     float-from-bits-result
