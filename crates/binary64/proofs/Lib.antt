@@ -1,5 +1,9 @@
 pub mod Naturals
+pub mod Values
 pub mod Units
 pub mod Patterns
 pub mod Rounding
 pub mod Operations
+pub mod Magnitude
+pub mod Error
+pub mod Whole

@@ -1,11 +1,11 @@
 -- Laws of `rnd`, which rounds a / c units to 53 binary digits, and of what is `Rounded` or `Near`. Over natural numbers alone, but for the last part.
 -- Rests on lib.Ieee.{Digits, Nearest}.
-use mathlib.Core.Path.{_≡_, refl, sym, ap, ap₂, _∙_, subst}
+use mathlib.Core.Path.{_≡_, refl, sym, ap, _∙_, subst}
 use mathlib.Core.Logic.{_⊎_, inl, inr}
 use Prim.Native.Nat.{ℕ, zero, suc, _+_, _-_, _*_, _/_, _%_, _^_, _≤_, _<_, zero-le, compare, Ordering, Ordering·lt, Ordering·eq, Ordering·gt}
-use native.Mathlib.Nat.{le-refl, le-trans, le-of-eq, le-of-lt, le-antisymm, lt-of-lt-of-le, lt-of-le-of-lt, eq-or-lt-of-le, mul-one, one-mul, mul-lt-mul-of-pos-right, eq-zero-or-pos, mul-comm, mul-assoc, mul-left-comm, mul-right-comm, mul-pos, mul-le-mul-right, mul-le-mul-left, le-of-mul-le-mul-right, mul-div-cancel, mul-mod-left, zero-mul, sub-eq-zero-of-le, mod-lt, div-add-mod', le-div-iff-mul-le, div-lt-iff-lt-mul, div-div-eq-div-mul}
+use native.Mathlib.Nat.{le-refl, le-trans, le-of-eq, le-of-lt, le-antisymm, lt-of-le-of-lt, eq-or-lt-of-le, mul-one, one-mul, mul-lt-mul-of-pos-right, eq-zero-or-pos, mul-comm, mul-assoc, mul-pos, mul-le-mul-right, mul-le-mul-left, zero-mul, pow-succ', sub-eq-zero-of-le, mod-lt, div-add-mod', le-div-iff-mul-le, div-lt-iff-lt-mul, div-div-eq-div-mul}
 use native.Mathlib.Omega.{arith}
-use mathlib.Core.Bool.{Bool, true, false, not}
+use mathlib.Core.Bool.{not}
 use lib.Dec.{T, isLe, isEq, eqb, leb→le, nleb→lt, eqb→eq, eqb-refl}
 use lib.Arith.{lt-of-le-ne}
 use lib.Pow.{pow-add, pow-pos, pow-mono, shl-lt}
@@ -14,7 +14,7 @@ use lib.Ieee.Digits.{size-lt, size-le, size-reaches, back}
 use lib.Ieee.Fits.{kept-lt, nearest-le}
 use lib.Ieee.Nearest.{closest, closest-mono, closest-same, nearest-ge, div-mono}
 use lib.Ieee.Order.{drop, kept}
-use Rattle.binary64.specs.Units.{pow2, limit, Digits53, plus, minus}
+use Rattle.binary64.specs.Units.{pow2, Digits53, plus, minus}
 use Rattle.binary64.specs.Rounding.{rnd, Rounded, Near}
 use Rattle.binary64.proofs.Naturals.{lt-or-ge, pow-lt-back}
 use Rattle.binary64.proofs.Units.{digits53}
@@ -188,10 +188,16 @@ near-half a c k C h = go (eq-or-lt-of-le h)
         rw (rnd-is a c)
         (finer (kept 53 a c) j (closest-half a (c * 2 ^ j) (mul-pos C (pow-pos j))) (le-trans (mul-le-mul-left c (pow-mono (drop-le a c k C l))) (le-of-eq (mul-comm c (2 ^ k)))))
 
--- The error is at most half an ulp: of a fraction up to 2 ^ 53 times pow2 k, half of pow2 k units.
-pub rnd-near : (a c k : ℕ) → 0 < c → a ≤ 2 ^ 53 * pow2 k * c → (2 * (rnd a c * c) ≤ 2 * a + pow2 k * c) × (2 * a ≤ 2 * (rnd a c * c) + pow2 k * c)
+-- The error is at most half an ulp: of a fraction up to 2 ^ 54 times pow2 e, it is pow2 e units.
+pub rnd-near : (a c e : ℕ) → 0 < c → a ≤ 2 ^ 54 * pow2 e * c → (rnd a c * c ≤ a + pow2 e * c) × (a ≤ rnd a c * c + pow2 e * c)
 unfolding pow2
-rnd-near a c k C h = near-half a c k C (le-trans h (le-of-eq (ap (λ (x : ℕ). x * c) (sym (pow-add 2 53 k)))))
+rnd-near a c e C h = halved (2 ^ e) (pow-succ' 2 e) (near-half a c (suc e) C (le-trans h (le-of-eq (ap (λ (x : ℕ). x * c) (sym (pow-add 2 54 e) ∙ ap (λ (x : ℕ). 2 ^ x) (carry e))))))
+  where
+    carry : (e : ℕ) → 54 + e ≡ 53 + suc e
+    carry e = omega arith
+
+    halved : (u : ℕ) → 2 ^ suc e ≡ 2 * u → (2 * (rnd a c * c) ≤ 2 * a + 2 ^ suc e * c) × (2 * a ≤ 2 * (rnd a c * c) + 2 ^ suc e * c) → (rnd a c * c ≤ a + u * c) × (a ≤ rnd a c * c + u * c)
+    halved u d g = let k : 2 ^ suc e * c ≡ 2 * u * c = ap (λ (x : ℕ). x * c) d in omega arith
 
 -- the unit that is kept is at most the fraction, where that is one unit at least
 unit-le : (a c : ℕ) → 0 < c → c ≤ a → c * 2 ^ drop 53 a c ≤ a
@@ -274,20 +280,20 @@ module _ {z : Float} {p n c : ℕ} (C : 0 < c) (r : Rounded z p n c) where
   pub minus-exact : {w : ℕ} → Digits53 w → n ≡ p + w * c → minus z ≡ w
   minus-exact {w} d h = r .down ∙ ap (λ (a : ℕ). rnd a c) (omega arith) ∙ rnd-exact w c C d
 
-  -- The error is half an ulp: half of pow2 k units, for |p - n| / c up to 2 ^ 53 times as much.
-  pub rounded-near : (k : ℕ) → p ≤ n + 2 ^ 53 * pow2 k * c → n ≤ p + 2 ^ 53 * pow2 k * c → Near z p n c (pow2 k)
-  rounded-near k h g = go (lt-or-ge p n)
+  -- The error is half an ulp: pow2 e units, for |p - n| / c up to 2 ^ 54 times as much.
+  pub rounded-near : (e : ℕ) → p ≤ n + 2 ^ 54 * pow2 e * c → n ≤ p + 2 ^ 54 * pow2 e * c → Near z p n c (pow2 e)
+  rounded-near e h g = go (lt-or-ge p n)
     where
-      a : (2 * (plus z * c) ≤ 2 * (p - n) + pow2 k * c) × (2 * (p - n) ≤ 2 * (plus z * c) + pow2 k * c)
-      a = rw (r .up) (rnd-near (p - n) c k C (omega arith))
+      a : (plus z * c ≤ (p - n) + pow2 e * c) × ((p - n) ≤ plus z * c + pow2 e * c)
+      a = rw (r .up) (rnd-near (p - n) c e C (omega arith))
 
-      b : (2 * (minus z * c) ≤ 2 * (n - p) + pow2 k * c) × (2 * (n - p) ≤ 2 * (minus z * c) + pow2 k * c)
-      b = rw (r .down) (rnd-near (n - p) c k C (omega arith))
+      b : (minus z * c ≤ (n - p) + pow2 e * c) × ((n - p) ≤ minus z * c + pow2 e * c)
+      b = rw (r .down) (rnd-near (n - p) c e C (omega arith))
 
-      go : (p < n) ⊎ (n ≤ p) → Near z p n c (pow2 k)
+      go : (p < n) ⊎ (n ≤ p) → Near z p n c (pow2 e)
       go (inl l) =
-          let e : plus z * c ≡ 0 = ap (λ (x : ℕ). x * c) (plus-none (le-of-lt l)) ∙ zero-mul c in
+          let k : plus z * c ≡ 0 = ap (λ (x : ℕ). x * c) (plus-none (le-of-lt l)) ∙ zero-mul c in
           record { over = omega (arith, b); under = omega (arith, b) }
       go (inr l) =
-          let e : minus z * c ≡ 0 = ap (λ (x : ℕ). x * c) (minus-none l) ∙ zero-mul c in
+          let k : minus z * c ≡ 0 = ap (λ (x : ℕ). x * c) (minus-none l) ∙ zero-mul c in
           record { over = omega (arith, a); under = omega (arith, a) }

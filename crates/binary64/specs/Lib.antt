@@ -1,2 +1,4 @@
 pub mod Units
 pub mod Rounding
+pub mod Magnitude
+pub mod Whole

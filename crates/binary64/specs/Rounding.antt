@@ -16,10 +16,10 @@ pub record Rounded (z : Float) (p n c : ℕ) : Type 0 where
   pub up : plus z ≡ rnd (p - n) c
   pub down : minus z ≡ rnd (n - p) c
 
--- z is within u / 2 units of (p - n) / c. Each side is multiplied by 2 * c, so that both bounds are linear in the units of z.
-pub record Near (z : Float) (p n c u : ℕ) : Type 0 where
-  pub over : 2 * (plus z * c + n) ≤ 2 * (minus z * c + p) + u * c
-  pub under : 2 * (minus z * c + p) ≤ 2 * (plus z * c + n) + u * c
+-- z is within h units of (p - n) / c. Both sides are multiplied by c, so that the bounds are linear in the units of z.
+pub record Near (z : Float) (p n c h : ℕ) : Type 0 where
+  pub over : plus z * c + n ≤ minus z * c + p + h * c
+  pub under : minus z * c + p ≤ plus z * c + n + h * c
 
 -- z is what binary64 makes of (p - n) / c units: the sign `minus?` and the fraction `top` / `bottom` handed to `round`. It may be an infinity.
 pub record Result (z : Float) (p n c : ℕ) : Type 0 where
