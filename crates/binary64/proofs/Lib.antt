@@ -7,3 +7,4 @@ pub mod Operations
 pub mod Magnitude
 pub mod Error
 pub mod Whole
+pub mod Functions
