@@ -72,8 +72,41 @@ fn positive(bits: u64) -> f64
 {
     let parts = split(bits);
     let lead = parts.lead;
-    let digits = nearest(parts.digits << (lead % 2));
+    let digits = nearest(parts.digits << (lead % 2), guess(bits));
     f64::from_bits(((lead / 2 + 485) << 52) + digits)
+}
+
+// A guess at the root of the positive finite number with the given bits, promised nothing: for a
+// normal number its digits are those of the root, or one off. Newton's steps for 1 / root(x), from a
+// first guess in the bits (off by at most 2^-4.8, then 2^-9, 2^-17, 2^-34), and one from
+// x / root(x) to the root.
+fn guess(bits: u64) -> f64
+    requires { ⌜ bits < 2047 * 2 ^ 52 ⌝ }
+{
+    let x = f64::from_bits(bits);
+    let half = 0.5 * x;
+    let r0 = f64::from_bits(0x5FE6_EB50_C7B5_37A9 - (bits >> 1));
+    let r1 = r0 * (1.5 - half * r0 * r0);
+    let r2 = r1 * (1.5 - half * r1 * r1);
+    let r3 = r2 * (1.5 - half * r2 * r2);
+    let y = x * r3;
+    y + 0.5 * r3 * (x - y * y)
+}
+
+// The whole number nearest to the root of m * 2^52: the digits of a guess, settled by exact
+// integers; where that fails, digit by digit.
+fn nearest(m: u64, guess: f64) -> u64
+    requires { ⌜ (2 ^ 52 ≤ m) × (m < 2 ^ 54) ⌝ }
+    ensures { λ r. ⌜ r ≡ nearestRoot 53 (m * 2 ^ 52) ⌝ }
+{
+    if 0.0 < guess {
+        let digits = f64::to_bits(guess) % 0x10_0000_0000_0000 + 0x10_0000_0000_0000;
+        let q = settle(m, digits);
+        if 0 < q {
+            return q;
+        }
+    }
+    nearest_by_digits(m)
 }
 
 // The whole number nearest to the root of m * 2^52, digit by digit: each step takes two digits of
@@ -101,19 +134,6 @@ fn nearest_by_digits(m: u64) -> u64
     if rest <= root { root } else { root + 1 }
 }
 
-// The whole number nearest to the root of m * 2^52: a guess, settled by exact integers; where that
-// fails, digit by digit.
-fn nearest(m: u64) -> u64
-    requires { ⌜ (2 ^ 52 ≤ m) × (m < 2 ^ 54) ⌝ }
-    ensures { λ r. ⌜ r ≡ nearestRoot 53 (m * 2 ^ 52) ⌝ }
-{
-    let q = settle(m, guess(m));
-    if 0 < q {
-        return q;
-    }
-    nearest_by_digits(m)
-}
-
 // The whole number nearest to the root of m * 2^52, if it is q or stands beside q; else 0.
 fn settle(m: u64, q: u64) -> u64
     requires { ⌜ (m < 2 ^ 54) × ((2 ^ 52 ≤ q) × (q < 2 ^ 53)) ⌝ }
@@ -125,17 +145,19 @@ fn settle(m: u64, q: u64) -> u64
     if radicand == 0 {
         return 0;
     }
-    if radicand + q * 3 <= square + 2 {
-        return 0;
-    }
-    if square + q * 3 + 2 < radicand {
-        return 0;
-    }
     if radicand + q <= square {
-        return q - 1;
+        // the root is below the middle of q - 1 and q
+        if square + 2 < radicand + q * 3 {
+            return q - 1;
+        }
+        return 0;
     }
     if square + q < radicand {
-        return q + 1;
+        // the root is above the middle of q and q + 1
+        if radicand <= square + q * 3 + 2 {
+            return q + 1;
+        }
+        return 0;
     }
     q
 }
@@ -175,28 +197,4 @@ fn weigh(m: u64, q: u64) -> Scales
         square: (ahead << 54) + low,
         radicand: (m % 4 + 4) << 52,
     }
-}
-
-// A guess at the 53 digits of the root of m * 2^52, nearly always right or one off. All that is
-// promised is that it has 53 digits: `settle` tests it. With x = m: Newton's steps for 1 / root(x)
-// from a first guess in the bits (off by at most 3.5%, then 2^-9, 2^-17, 2^-34), and one step from
-// x / root(x) to the root.
-fn guess(m: u64) -> u64
-    requires { ⌜ m < 2 ^ 54 ⌝ }
-    ensures { λ r. ⌜ (2 ^ 52 ≤ r) × (r < 2 ^ 53) ⌝ }
-{
-    let odd = m >> 53;
-    let bits = ((odd + 1074) << 52) + (m >> odd);
-    let x = f64::from_bits(bits);
-    let half = 0.5 * x;
-    let r0 = f64::from_bits(0x5FE6_EB50_C7B5_37A9 - (bits >> 1));
-    let r1 = r0 * (1.5 - half * r0 * r0);
-    let r2 = r1 * (1.5 - half * r1 * r1);
-    let r3 = r2 * (1.5 - half * r2 * r2);
-    let y = x * r3;
-    let root = y + 0.5 * r3 * (x - y * y);
-    if 0.0 < root {
-        return f64::to_bits(root) % 0x10_0000_0000_0000 + 0x10_0000_0000_0000;
-    }
-    0x10_0000_0000_0000
 }

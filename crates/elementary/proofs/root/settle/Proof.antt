@@ -17,26 +17,25 @@ weigh-requires c κs = search needs
 returns : tie.Need-returns
 returns c = search needs
 
-mul-if2 : tie.Need-mul-if2
-mul-if2 c = search needs
-
 add-if2 : tie.Need-add-if2
 add-if2 c = search needs
-
-add-if2-2 : tie.Need-add-if2-2
-add-if2-2 c = search needs
-
-returns-2 : tie.Need-returns-2
-returns-2 c = search needs
-
-mul-if3 : tie.Need-mul-if3
-mul-if3 c = search needs
 
 add-if3 : tie.Need-add-if3
 add-if3 c = search needs
 
+mul-if3 : tie.Need-mul-if3
+mul-if3 c = search needs
+
 add-if3-2 : tie.Need-add-if3-2
 add-if3-2 c = search needs
+
+sub-result : tie.Need-sub-result
+sub-result c = search needs
+
+returns-2 : tie.Need-returns-2
+returns-2 c = λ p.
+    let e = c .before .before in
+    settled-down _ (e .before .before .args .q) (e .before .weigh .result .square) (e .before .weigh .result .radicand) (level e) (omega arith) (c .before .if2 .taken) (c .if3 .taken)
 
 returns-3 : tie.Need-returns-3
 returns-3 c = search needs
@@ -44,29 +43,30 @@ returns-3 c = search needs
 add-if4 : tie.Need-add-if4
 add-if4 c = search needs
 
-sub-result : tie.Need-sub-result
-sub-result c = search needs
-
-returns-4 : tie.Need-returns-4
-returns-4 c = λ p.
-    let e = c .before .before .before in
-    settled-down _ (e .before .before .args .q) (e .before .weigh .result .square) (e .before .weigh .result .radicand) (level e) (omega arith) (c .if4 .taken) (c .before .before .if2 .left)
+mul-if5 : tie.Need-mul-if5
+mul-if5 c = search needs
 
 add-if5 : tie.Need-add-if5
 add-if5 c = search needs
 
+add-if5-2 : tie.Need-add-if5-2
+add-if5-2 c = search needs
+
 add-result : tie.Need-add-result
 add-result c = search needs
 
+returns-4 : tie.Need-returns-4
+returns-4 c = λ p.
+    let e = c .before .before .before in
+    settled-up _ (e .before .before .args .q) (e .before .weigh .result .square) (e .before .weigh .result .radicand) (level e) (c .before .if4 .taken) (c .if5 .taken)
+
 returns-5 : tie.Need-returns-5
-returns-5 c = λ p.
-    let e = c .before .before .before .before in
-    settled-up _ (e .before .before .args .q) (e .before .weigh .result .square) (e .before .weigh .result .radicand) (level e) (c .if5 .taken) (c .before .before .if3 .left)
+returns-5 c = search needs
 
 returns-6 : tie.Need-returns-6
 returns-6 c = λ p.
-    let e = c .before .before .before .before in
-    settled _ (e .before .before .args .q) (e .before .weigh .result .square) (e .before .weigh .result .radicand) (level e) (c .before .if4 .left) (c .if5 .left)
+    let e = c .before .before in
+    settled _ (e .before .before .args .q) (e .before .weigh .result .square) (e .before .weigh .result .radicand) (level e) (c .before .if2 .left) (c .if4 .left)
 
 pub settle-spec : {M : Type 1} → statement M
 settle-spec =
@@ -74,18 +74,18 @@ settle-spec =
     (tie.spec
     weigh-requires
     returns
-    mul-if2
     add-if2
-    add-if2-2
-    returns-2
-    mul-if3
     add-if3
+    mul-if3
     add-if3-2
+    sub-result
+    returns-2
     returns-3
     add-if4
-    sub-result
-    returns-4
+    mul-if5
     add-if5
+    add-if5-2
     add-result
+    returns-4
     returns-5
     returns-6)
