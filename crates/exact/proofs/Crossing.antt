@@ -19,8 +19,9 @@ use Rattle.binary64.proofs.Operations.{add-result, result-finite, result-le}
 use Rattle.binary64.proofs.Magnitude.{bound-digits, bound-limit, most-finer, add-most, sub-most, mul-most, mul-least, div-most}
 use Rattle.binary64.proofs.Error.{add-near, sub-near}
 use Rattle.elementary.specs.Root.{root, wholeRoot}
-use Rattle.elementary.proofs.Whole.{Floor, floor}
-use Rattle.elementary.proofs.Squares.{root-finite, at-most, at-least}
+use Rattle.elementary.proofs.root.Whole.{Floor, floor}
+use Rattle.elementary.proofs.root.Values.{root-finite}
+use Rattle.elementary.proofs.root.Squares.{at-most, at-least}
 use Rattle.exact.proofs.Chord.{reach, reach-square, reach-most, inside}
 use Rattle.exact.proofs.Distance.{margin, Is, whole-is, is-mag, is-most, rootOf, root-is-finite, root-most, root-at-most-fine, root-at-least-fine}
 use Rattle.exact.proofs.Squares.{float, two-is, difference, along, rest, across, square-is, square-parts, difference-finite, difference-parts}

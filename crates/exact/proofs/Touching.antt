@@ -20,7 +20,8 @@ use Rattle.binary64.proofs.Operations.{add-result, sub-result, result-finite, r
 use Rattle.binary64.proofs.Magnitude.{bound-digits, bound-limit, add-most, sub-most}
 use Rattle.binary64.proofs.Whole.{mul-ofInt-pos}
 use Rattle.elementary.specs.Root.{root}
-use Rattle.elementary.proofs.Squares.{root-finite, at-most}
+use Rattle.elementary.proofs.root.Values.{root-finite}
+use Rattle.elementary.proofs.root.Squares.{at-most}
 use Rattle.binary64.specs.Constants.{two64}
 use Rattle.exact.proofs.Distance.{Is, whole-is, is-mag, is-most}
 use Rattle.exact.proofs.Squares.{float, two-is, difference, along, rest, across, exact-parts, square-is, square-parts, difference-finite, difference-parts}
