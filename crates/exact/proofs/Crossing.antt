@@ -1,0 +1,140 @@
+-- Two circles that cross: the foot of the chord lies inside the first circle by at least 2 ^ -33, so something is left across, and the two points differ
+-- by more than the errors of their coordinates. Every bound is a float itself, so rounding does not pass it; 2 ^ -37 is `margin` units.
+-- Rests on Chord, Distance, Squares and Coordinates.
+use mathlib.Core.Path.{_≡_, refl, sym, ap, ap₂, _∙_, subst}
+use mathlib.Core.Logic.{_⊎_, inl, inr}
+use mathlib.Core.Bool.{Bool, true, false}
+use Prim.Native.Nat.{ℕ, suc, _+_, _-_, _*_, _^_, _≤_, _<_}
+use native.Mathlib.Nat.{le-refl, le-trans, le-of-eq, le-of-lt, lt-of-lt-of-le, mul-pos, mul-le-mul, mul-le-mul-left, mul-le-mul-right}
+use native.Mathlib.Omega.{arith}
+use lib.IntN.{pos}
+use lib.Ieee.{Float, binary64, add, sub, mul, div, eq, ofInt}
+use Rattle.binary64.specs.Units.{pow2, one, Finite, mag, negative, plus, minus}
+use Rattle.binary64.specs.Rounding.{Near}
+use Rattle.binary64.specs.Constants.{two64}
+use Rattle.binary64.specs.Magnitude.{Most, Least}
+use Rattle.binary64.proofs.Naturals.{lt-or-ge}
+use Rattle.binary64.proofs.Units.{one-pos, pow2-pos, pow2-mono, pow2-split, plus-minus, eq-units}
+use Rattle.binary64.proofs.Operations.{add-result, result-finite, result-le}
+use Rattle.binary64.proofs.Magnitude.{bound-digits, bound-limit, most-finer, add-most, sub-most, mul-most, mul-least, div-most}
+use Rattle.binary64.proofs.Error.{add-near, sub-near}
+use Rattle.elementary.specs.Root.{root, wholeRoot}
+use Rattle.elementary.proofs.root.Whole.{Floor, floor}
+use Rattle.elementary.proofs.root.Values.{root-finite}
+use Rattle.elementary.proofs.root.Squares.{at-most, at-least}
+use Rattle.exact.proofs.Chord.{reach, reach-square, reach-most, inside}
+use Rattle.exact.proofs.Distance.{margin, Is, whole-is, is-mag, is-most, rootOf, root-is-finite, root-most, root-at-most-fine, root-at-least-fine}
+use Rattle.exact.proofs.Squares.{float, two-is, difference, along, rest, across, square-is, square-parts, difference-finite, difference-parts}
+use Rattle.exact.proofs.Coordinates.{product-most, quotient-most, product-least, quotient-least}
+
+module _ (r₁ r₂ D t : ℕ) (P₁ : 1 ≤ r₁) (L₁ : r₁ ≤ 20000) (P₂ : 1 ≤ r₂) (L₂ : r₂ ≤ 20000) (T : t * t + 2 * (r₁ * r₂) ≡ r₁ * r₁ + r₂ * r₂) (low : t * t < D) (high : D < (r₁ + r₂) * (r₁ + r₂)) where
+  -- ---- the distance
+
+  far : D ≤ 1600000000
+  far = omega (arith, mul-le-mul {n₁ = r₁ + r₂} {m₁ = r₁ + r₂} {n₂ = 40000} {m₂ = 40000} (omega arith) (omega arith))
+
+  D-below : D < 2 ^ 32
+  D-below = omega (arith, far)
+
+  abbrev d : Float
+  d = rootOf D
+
+  -- q / 2 ^ 37 is √D, cut
+  q : ℕ
+  q = wholeRoot 53 (D * 2 ^ 74)
+
+  q-floor : Floor (D * 2 ^ 74) q
+  unfolding q
+  q-floor = floor 53 (D * 2 ^ 74) (omega (arith, far))
+
+  q-most : q ≤ (r₁ + r₂) * 2 ^ 37
+  q-most = go (lt-or-ge ((r₁ + r₂) * 2 ^ 37) q)
+    where
+      go : ((r₁ + r₂) * 2 ^ 37 < q) ⊎ (q ≤ (r₁ + r₂) * 2 ^ 37) → q ≤ (r₁ + r₂) * 2 ^ 37
+      go (inl h) = absurd (omega (arith, mul-le-mul h h, q-floor .least, high))
+      go (inr h) = h
+
+  d-least : q * margin ≤ mag d
+  d-least = root-at-least-fine D D-below q (omega (arith, q-most)) (q-floor .least)
+
+  d-most : mag d ≤ (q + 1) * margin
+  d-most = root-at-most-fine D D-below (q + 1) (omega (arith, q-most)) (le-of-lt (q-floor .most))
+
+  q-small : 2 * q + 1 ≤ 2 ^ 54
+  q-small = omega (arith, q-most)
+
+  q-pos : 0 < q
+  q-pos = go (lt-or-ge 0 q)
+    where
+      go : (0 < q) ⊎ (q ≤ 0) → 0 < q
+      go (inl h) = h
+      go (inr h) = absurd (omega (arith, q-floor .most, mul-le-mul h h))
+
+  -- ---- the foot of the chord
+
+  -- d² is D, give or take 2 ^ -20
+  squared-most : Most (D * 2 ^ 20 + 1) 1054 (mul binary64 d d)
+  squared-most =
+      let h : (q + 1) * (q + 1) ≤ (D * 2 ^ 20 + 1) * 2 ^ 54 = omega (arith, q-floor .least, q-small) in
+      product-most (root-is-finite D D-below) (root-is-finite D D-below) (omega (arith, far)) (omega arith)
+      (le-trans (mul-le-mul d-most d-most) (rw (pow2-split 17 1037, pow2-split 37 1037) (omega (arith, mul-le-mul-right (margin * margin) h))))
+
+  squared-least : D * 2 ^ 20 * pow2 1054 ≤ mag (mul binary64 d d) + pow2 1054
+  squared-least = go (D * 2 ^ 20 - 1) (omega arith)
+    where
+      go : (w : ℕ) → w + 1 ≡ D * 2 ^ 20 → D * 2 ^ 20 * pow2 1054 ≤ mag (mul binary64 d d) + pow2 1054
+      go w e =
+          let h : w * 2 ^ 54 ≤ q * q = omega (arith, q-floor .most, q-small) in
+          let l : w * pow2 1054 * one ≤ q * margin * (q * margin) = rw (pow2-split 17 1037, pow2-split 37 1037) (omega (arith, mul-le-mul-right (margin * margin) h)) in
+          let p = product-least (root-is-finite D D-below) (root-is-finite D D-below) 1054 (omega (arith, far)) (squared-most .finite) (le-trans l (mul-le-mul d-least d-least)) in
+          omega (arith, ap (λ (k : ℕ). k * pow2 1054) e)
+
+  -- r₁² - r₂² + d² is X, give or take as much
+  abbrev numerator : Float
+  numerator = add binary64 (difference r₁ r₂) (mul binary64 d d)
+
+  numerator-most : Most (reach r₁ r₂ D * 2 ^ 20 + 1) 1054 numerator
+  numerator-most = go (reach r₁ r₂ D) (omega arith) (omega arith) (omega (arith, reach-most r₁ r₂ D t T low high, mul-le-mul L₁ L₁, mul-le-mul L₁ L₂))
+    where
+      go : (A : ℕ) → r₁ * r₁ + D ≤ r₂ * r₂ + A → r₂ * r₂ ≤ r₁ * r₁ + D + A → A * 2 ^ 20 + 1 ≤ 2 ^ 53 → Most (A * 2 ^ 20 + 1) 1054 numerator
+      go A h k few =
+          let F = difference-finite r₁ r₂ L₁ L₂ in
+          let r = add-result F (squared-most .finite) in
+          let e = rw (pow2-split 20 1054) at (difference-parts r₁ r₂ L₁ L₂) in
+          let z = square-parts (root-is-finite D D-below) (squared-most .finite) in
+          let over = mul-le-mul-right (pow2 1054) h in
+          let under = mul-le-mul-right (pow2 1054) k in
+          let up : plus (difference r₁ r₂) + plus (mul binary64 d d) ≤ minus (difference r₁ r₂) + minus (mul binary64 d d) + (A * 2 ^ 20 + 1) * pow2 1054 * 1 = omega (arith, squared-most .bound) in
+          let down : minus (difference r₁ r₂) + minus (mul binary64 d d) ≤ plus (difference r₁ r₂) + plus (mul binary64 d d) + (A * 2 ^ 20 + 1) * pow2 1054 * 1 = omega (arith, squared-least) in
+          let f = result-finite (le-refl 1) r (bound-digits 1054 few) up down (bound-limit few (omega arith)) in
+          record { finite = f; bound = result-le (le-refl 1) r (bound-digits 1054 few) up down f }
+
+  two-whole : Is two64 2
+  two-whole = rw two-is (whole-is 2 (omega arith))
+
+  twice-finite : Finite (mul binary64 two64 d)
+  twice-finite = product-most (two-whole .finite) (root-is-finite D D-below) {j = 2 ^ 17} {a = 1074} (omega arith) (omega arith) (rw (is-mag two-whole) (omega (arith, mul-le-mul-left (2 * one) (root-most D D-below .bound)))) .finite
+
+  twice-least : q * pow2 1038 ≤ mag (mul binary64 two64 d)
+  twice-least =
+      product-least (two-whole .finite) (root-is-finite D D-below) 1038 (omega (arith, q-most)) twice-finite
+      (rw (is-mag two-whole, pow2-split 1 1037) (omega (arith, mul-le-mul-left (2 * one) d-least)))
+
+  twice-pos : 0 < mag (mul binary64 two64 d)
+  twice-pos = lt-of-lt-of-le (mul-pos q-pos (pow2-pos 1038)) twice-least
+
+  -- the foot lies inside by 2 ^ -33
+  pub along-most : Most (r₁ * 2 ^ 33 - 1) 1041 (along r₁ r₂ d)
+  along-most =
+      quotient-most (numerator-most .finite) twice-finite (omega arith) (omega arith) twice-pos
+      (le-trans (mul-le-mul-right one (numerator-most .bound)) (le-trans (scaled (reach r₁ r₂ D) (r₁ * 2 ^ 33 - 1) (less (r₁ * 2 ^ 33 - 1) (omega arith) crux)) (mul-le-mul-left ((r₁ * 2 ^ 33 - 1) * pow2 1041) twice-least)))
+    where
+      crux : (reach r₁ r₂ D * 2 ^ 20 + 1) * 2 ^ 49 + q ≤ r₁ * 2 ^ 33 * q
+      crux =
+          inside r₁ r₂ D (reach r₁ r₂ D) q (mul-pos P₁ P₂) L₁ L₂ (omega arith) (reach-square r₁ r₂ D t T low high (mul-pos P₁ P₂)) (reach-most r₁ r₂ D t T low high) (omega (arith, q-floor .most)) q-most
+
+      less : (w : ℕ) {m : ℕ} → w + 1 ≡ r₁ * 2 ^ 33 → m + q ≤ r₁ * 2 ^ 33 * q → m ≤ w * q
+      less w e h = omega (arith, ap (λ (k : ℕ). k * q) e)
+
+      scaled : (A w : ℕ) → (A * 2 ^ 20 + 1) * 2 ^ 49 ≤ w * q → (A * 2 ^ 20 + 1) * pow2 1054 * one ≤ w * pow2 1041 * (q * pow2 1038)
+      scaled A w h = rw (pow2-split 17 1037, pow2-split 37 1037, pow2-split 4 1037, pow2-split 1 1037) (omega (arith, mul-le-mul-right (margin * margin) h))

@@ -1,0 +1,10 @@
+pub mod Chord
+pub mod Distance
+pub mod Tests
+pub mod Coordinates
+pub mod Squares
+pub mod Touching
+pub mod Crossing
+pub mod Across
+pub mod Meeting
+pub mod Theorem

@@ -1,0 +1,74 @@
+-- Document 01, "Facts to hold", of the float code: D is the squared centre distance, s the sum and t the difference of the radii, all whole. "On the domain
+-- below rounding changes none of these." Each statement equates what the definitions of `geometry` give, with f64, with what those of `heads` give, over
+-- whole numbers. proofs/Theorem.antt proves both records for every ordered pair of heads within document 01's limits.
+use Prim.Native.Nat.{ℕ, _+_, _*_, _<_}
+use mathlib.Core.Path.{_≡_}
+use mathlib.Core.Bool.{Bool, true, false, _&&_}
+use mathlib.Core.List.{[]}
+use mathlib.Core.Logic.{_↔_}
+use lib.Dec.{T, ltb, leb}
+use lib.ListN.{length}
+use Rattle.heads.specs.declared.Head.{Head}
+use Rattle.heads.specs.declared.Relation.the-variants.{Crossing}
+use Rattle.heads.specs.Limits.{inLimits}
+use Rattle.heads.specs.Relation.{gap, points}
+use Rattle.heads.specs.Pair.{squaredDistance, radiusOf, relationOf, meetsOf, meetsOnceOf, containsOf}
+use Rattle.binary64.specs.Magnitude.{Most, Least}
+use Rattle.geometry.specs.declared.circle.Circle.{Circle}
+use Rattle.geometry.specs.Floats.{_+ᶠ_, _≤ᶠ_}
+use Rattle.geometry.specs.Point.{distance}
+use Rattle.geometry.specs.Circle.{contains, intersects, intersectionPoints}
+use Rattle.exact.specs.Circle.{circleOf}
+use Rattle.exact.specs.Points.{AllPlaced}
+
+-- The circles touch from outside or are apart: the Rust's `d >= r1 + r2`, at which intersection_area is zero.
+abbrev pub beyond : Circle → Circle → Bool
+beyond a b = a .radius +ᶠ b .radius ≤ᶠ distance (a .center) (b .center)
+
+-- s and t of two heads
+abbrev pub sum : Head → Head → ℕ
+sum a b = radiusOf a + radiusOf b
+
+abbrev pub difference : Head → Head → ℕ
+difference a b = gap (radiusOf a) (radiusOf b)
+
+-- The circles of a and b are found to lie to each other as the whole numbers say.
+pub record Decided (a b : Head) : Type 0 where
+  -- as many meeting points as the relation has: none, one or two
+  pub count : length (intersectionPoints (circleOf a) (circleOf b)) ≡ points (relationOf a b)
+  -- "Two heads meet exactly if t² ≤ D ≤ s² and they are not identical."
+  pub none : (intersectionPoints (circleOf a) (circleOf b) ≡ []) ↔ (meetsOf a b ≡ false)
+  -- "One point exactly if also D = t² or D = s²,
+  pub one : (length (intersectionPoints (circleOf a) (circleOf b)) ≡ 1) ↔ (meetsOnceOf a b ≡ true)
+  -- otherwise two."
+  pub two : (length (intersectionPoints (circleOf a) (circleOf b)) ≡ 2) ↔ ((meetsOf a b ≡ true) × (meetsOnceOf a b ≡ false))
+  -- "A contains B exactly if rA ≥ rB and D ≤ (rA-rB)²."
+  pub contained : contains (circleOf a) (circleOf b) ≡ containsOf a b
+  -- the outlines cross exactly if t² < D < s²
+  pub crossed : intersects (circleOf a) (circleOf b) ≡ (ltb (difference a b * difference a b) (squaredDistance a b) && ltb (squaredDistance a b) (sum a b * sum a b))
+  pub crossing : (intersects (circleOf a) (circleOf b) ≡ true) ↔ (relationOf a b ≡ Crossing)
+  -- they touch from outside or are apart exactly if D ≥ s²
+  pub outside : beyond (circleOf a) (circleOf b) ≡ leb (sum a b * sum a b) (squaredDistance a b)
+
+-- What is worked out from two heads is finite and bounded, and no divisor is near zero. 1 is 2 ^ 1074 units.
+pub record Bounded (a b : Head) : Type 0 where
+  -- the distance is at most 65536
+  pub near : Most 65536 1074 (distance (circleOf a .center) (circleOf b .center))
+  -- and at least 1 where the centres differ,
+  pub apart : 0 < squaredDistance a b → Least 1 1074 (distance (circleOf a .center) (circleOf b .center))
+  -- which they do where the heads meet: only there does a distance divide
+  pub divides : meetsOf a b ≡ true → 0 < squaredDistance a b
+  -- each meeting point is finite, its coordinates at most 80000 from zero
+  pub placed : AllPlaced (intersectionPoints (circleOf a) (circleOf b))
+
+-- For every ordered pair of heads within the limits.
+abbrev pub DecidesExactly : Type 0
+DecidesExactly = (a b : Head) → T (inLimits a) → T (inLimits b) → Decided a b
+
+abbrev pub StaysBounded : Type 0
+StaysBounded = (a b : Head) → T (inLimits a) → T (inLimits b) → Bounded a b
+
+-- Heads that do not meet have no meeting points, in either order of the pair: what the theorem on lists of edits asks of the geometry.
+abbrev pub NoPointsUnlessMet : Type 0
+NoPointsUnlessMet = (a b : Head) → T (inLimits a) → T (inLimits b) → meetsOf a b ≡ false
+    → (intersectionPoints (circleOf a) (circleOf b) ≡ []) × (intersectionPoints (circleOf b) (circleOf a) ≡ [])

@@ -1,0 +1,4 @@
+-- What holds of the float decisions about the circles of two heads.
+pub mod Circle
+pub mod Points
+pub mod Decisions
