@@ -6,8 +6,9 @@ ghost use mathlib.Core.Bool.{_&&_};
 ghost use lib.Dec.{leb, ltb};
 ghost use Rattle.plan.specs.Table.{numberOf, refusalOf, holds, within, examined};
 
-mod book;
-mod check;
+pub mod book;
+pub mod check;
+pub mod reader;
 
 use heads::Head;
 

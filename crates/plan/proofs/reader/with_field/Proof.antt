@@ -1,0 +1,18 @@
+use mir.Facts.{toZ-ofZ}
+use borrow.Author.Needs.{needs}
+use Rattle.plan.proofs.reader.with_field.Statement.{statement}
+use Rattle.plan.proofs.reader.with_field.Tie as tie
+use Rattle.plan.proofs.reader.with_field.Reads as reads
+use Rattle.plan.proofs.reader.with_field.Lts as lts
+use Rattle.plan.proofs.reader.put_ground.Reads as put-ground-reads
+
+-- src/reader.rt:322:9
+put-ground-requires : tie.Need-put-ground-requires
+put-ground-requires c κs = search needs
+
+-- src/reader.rt:318:1
+returns : tie.Need-returns
+returns c = rw (c .before .put-ground .ensures) (simp (toZ-ofZ (c .before .before .before .fits .z)))
+
+pub with-field-spec : {M : Type 1} → statement M
+with-field-spec = tie.close (tie.spec put-ground-requires returns)
