@@ -68,7 +68,7 @@ fn next_offset(at: u64) -> u64
 }
 
 // Four bytes as a signed little-endian number.
-fn number32(a: u8, b: u8, c: u8, d: u8) -> i32
+pub fn number32(a: u8, b: u8, c: u8, d: u8) -> i32
     ensures { λ r. ⌜ r ≡ signed32 a b c d ⌝ }
 {
     let n = (a as u32) + (b as u32) * 256 + (c as u32) * 65536 + (d as u32) * 16777216;
