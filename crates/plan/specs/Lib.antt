@@ -5,3 +5,4 @@ pub mod Book
 pub mod File
 pub mod Reader
 pub mod Same
+pub mod Offsets

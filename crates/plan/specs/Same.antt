@@ -290,3 +290,29 @@ says (b ∷ s) (suc most) r le =
 pub reader-reads : (s : List ℕ) → said started s ≡ readFile s
 unfolding readFile
 reader-reads s = says s (length s) started (omega arith)
+
+-- ---- the answer to a whole file
+
+-- the answer at the end of what a file says
+unfoldable pub endOf : File → Answer
+endOf (ends a) = a
+endOf (givesPlan p f) = endOf f
+endOf (givesEdit e f) = endOf f
+
+end-of-handing : (handed : Handed) (p : Plan) (f : File) → endOf (handing handed p f) ≡ endOf f
+unfolding endOf
+end-of-handing Nothing p f = refl
+end-of-handing ThePlan p f = refl
+end-of-handing (AnEdit e) p f = refl
+
+end-of-handed : (r : Reader) (s : List ℕ) (f : File) → endOf (handedOver r s f) ≡ endOf f
+unfolding handedOver
+end-of-handed r [] f = refl
+end-of-handed r (b ∷ s) f =
+    end-of-handing (stepped r b .handed) (stepped r b .plan) (handedOver (stepped r b) s f) ∙ end-of-handed (stepped r b) s f
+
+-- a file's answer is the reader's after its last byte, however the file is cut into pieces
+pub reader-answers : (s : List ℕ) → finished (fed started s) ≡ endOf (readFile s)
+unfolding endOf
+reader-answers s =
+    sym (end-of-handed started s (ends (finished (fed started s)))) ∙ ap endOf (reader-reads s)
