@@ -1,11 +1,11 @@
 -- A number of 32 bits below zero, by its distance to -1.
-use Prim.Native.Nat.{ℕ, zero, suc, _-_, _<_, _^_}
-use mathlib.Core.Path.{_≡_, refl, sym, ap, _∙_, subst}
+use Prim.Native.Nat.{ℕ, suc, _-_, _<_, _^_}
+use mathlib.Core.Path.{_≡_, sym, _∙_}
 use mathlib.Core.Bool.{true, false, true≢false, false≢true}
 use native.Mathlib.Omega.{arith}
 use lib.Dec.{T, ltb, leb·zero}
 use lib.IntN.{ℤ, pos, negsuc, _-ℤ_}
-use lib.Signed.{leZ, mag, nonNeg}
+use lib.Signed.{leZ, nonNeg}
 use borrow.Author.Tests.{le-ltb}
 use mir.Syntax.{w32}
 use mir.Val.{SFits}

@@ -13,6 +13,7 @@ use plan::Needed;
 use plan::Plan;
 use plan::book;
 use plan::check;
+use plan::fields;
 use plan::reader;
 use plan::reader::Handed;
 use plan::reader::Reader;
@@ -31,7 +32,7 @@ fn short_at(s: &[u8], i: usize) -> usize
 fn int_at(s: &[u8], i: usize) -> i32
     requires { ⌜ i < 1000000 ⌝ }
 {
-    reader::number32(
+    fields::number32(
         byte_at(s, i),
         byte_at(s, i + 1),
         byte_at(s, i + 2),

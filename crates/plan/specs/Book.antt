@@ -1,6 +1,6 @@
 -- The book (document 01, "Edits in a list"): a plan and nothing more. Where the checks refuse an edit the book stays;
 -- otherwise head k takes the three values and all else stays.
-use Prim.Native.Nat.{ℕ, _≤_, _<_}
+use Prim.Native.Nat.{ℕ, _<_}
 use mathlib.Core.Path.{_≡_, refl, sym, _∙_, subst}
 use mathlib.Core.List.{List, [], _∷_}
 use native.Mathlib.Decide.{ℕ-discrete}
@@ -84,14 +84,14 @@ applied-acceptable p e long ok edit =
       height = ok .height;
       heads = λ i lt.
           elim (ℕ-discrete i (e .head)) as (λ d. HeadMet (getD (set (p .heads) (e .head) (headOf e)) i noHead)) [
-            yes same ↦
-              let room : e .head < length (p .heads) = omega (arith, ok .count, edit .head) in
-              let here : getD (set (p .heads) (e .head) (headOf e)) i noHead ≡ headOf e =
-                  rw same (getD-set-same (p .heads) (e .head) (headOf e) noHead room) in
-              subst HeadMet (sym here) (edit .x, edit .y, edit .radius)
-          | no other ↦
-              subst HeadMet (sym (getD-set-other (p .heads) (e .head) i (headOf e) noHead other)) (ok .heads i lt)
-          ]
+            | yes same ↦
+                let room : e .head < length (p .heads) = omega (arith, ok .count, edit .head) in
+                let here : getD (set (p .heads) (e .head) (headOf e)) i noHead ≡ headOf e =
+                rw same (getD-set-same (p .heads) (e .head) (headOf e) noHead room) in
+                subst HeadMet (sym here) (edit .x, edit .y, edit .radius)
+            | no other ↦
+                subst HeadMet (sym (getD-set-other (p .heads) (e .head) i (headOf e) noHead other)) (ok .heads i lt)
+          ];
     }
 
 entered-acceptable : (needed : Needed) (p : Plan) (e : Edit) (lent : Lent) (a : Answer) → editAnswer p e needed lent ≡ a → length (p .heads) ≡ 10 → Acceptable p → Acceptable (leaves a p (applied p e))

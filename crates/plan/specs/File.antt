@@ -1,7 +1,7 @@
 -- The plan file (document 01, "Plan file and checks in order"): what a list of bytes says, read from the front. Box, head and
 -- edit each have a map byte and then only the fields whose bit stands, in bit order, each a signed 32-bit little-endian number.
-use Prim.Native.Nat.{ℕ, zero, suc, _+_, _-_, _*_, _/_, _%_, _^_, min}
-use mathlib.Core.Bool.{Bool, true, false, cond}
+use Prim.Native.Nat.{ℕ, zero, suc, _+_, _-_, _*_, _^_, min}
+use mathlib.Core.Bool.{cond}
 use mathlib.Core.List.{List, [], _∷_}
 use lib.Dec.{eqb, ltb}
 use lib.IntN.{ℤ, pos}

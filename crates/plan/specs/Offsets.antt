@@ -1,28 +1,26 @@
 -- Refusal 1 has the file's length for its offset, as a u64 that stays at its largest value: `ended-at`, at the end. The reader
 -- counts one for each byte, and nothing but the end of the file gives that refusal.
 use Prim.Native.Nat.{ℕ, suc, _+_, _-_, _^_, _≤_, min}
-use mathlib.Core.Path.{_≡_, refl, sym, ap, _∙_}
+use mathlib.Core.Path.{_≡_, refl, ap, _∙_}
 use mathlib.Core.Bool.{Bool, true, false, cond}
 use mathlib.Core.List.{List, [], _∷_}
 use native.Mathlib.Omega.{arith}
 use lib.Dec.{ltb}
 use lib.ListN.{length}
-use Rattle.plan.specs.declared.Answer.{Answer}
 use Rattle.plan.specs.declared.Answer.the-variants.{Taken, Refused}
 use Rattle.plan.specs.declared.Item.{Item}
 use Rattle.plan.specs.declared.Item.the-variants.{Count, Map, Coordinate, Side, Radius, HeadNumber, Tables}
 use Rattle.plan.specs.declared.Plan.{Plan}
-use Rattle.plan.specs.declared.Refusal.{Refusal}
 use Rattle.plan.specs.declared.Refusal.the-variants.{Ended}
 use Rattle.plan.specs.declared.reader.Reader.{Reader}
 use Rattle.plan.specs.declared.reader.Stage.{Stage}
 use Rattle.plan.specs.declared.reader.Stage.the-variants.{AtCount, AtMap, AtByte0, AtByte1, AtByte2, AtByte3, AtEdit, Stopped}
 use Rattle.plan.specs.declared.reader.Target.{Target}
 use Rattle.plan.specs.declared.reader.Target.the-variants.{TheBox, HeadAt, EditOf}
-use Rattle.plan.specs.Table.{refusalOf, numberOf, holds, examined}
+use Rattle.plan.specs.Table.{refusalOf, numberOf, holds}
 use Rattle.plan.specs.Book.{withHead}
 use Rattle.plan.specs.File.{after, readFile, signed32}
-use Rattle.plan.specs.Reader.{countOf, itemOf, nextField, started, goesOn, begun, mapped, valued, fieldAt, toHead, completedAt, completed, sought, chosen, steppedAt, stepped, finishedAt, finished, fed}
+use Rattle.plan.specs.Reader.{countOf, itemOf, nextField, started, goesOn, begun, mapped, valued, fieldAt, toHead, completedAt, completed, sought, chosen, steppedAt, stepped, finishedAt, fed}
 use Rattle.plan.specs.Same.{endOf, reader-answers}
 
 -- no refusal but by the end of the file

@@ -1,16 +1,14 @@
 -- The reader of a plan file, byte by byte: a state, a step on one byte, and the fold of the step over the bytes.
-use Prim.Native.Nat.{ℕ, zero, suc, _+_, _-_, _≤_}
+use Prim.Native.Nat.{ℕ, zero, suc, _+_, _-_}
 use mathlib.Core.Path.{_≡_, refl, ap}
-use mathlib.Core.Bool.{Bool, true, false, cond}
+use mathlib.Core.Bool.{cond}
 use mathlib.Core.List.{List, [], _∷_, _++_}
 use lib.Dec.{eqb, ltb}
-use lib.IntN.{ℤ, pos}
+use lib.IntN.{ℤ}
 use lib.ListN.{getD}
 use Rattle.heads.specs.declared.Head.{Head}
 use Rattle.plan.specs.declared.Answer.{Answer}
 use Rattle.plan.specs.declared.Answer.the-variants.{Taken, Refused}
-use Rattle.plan.specs.declared.Edit.{Edit}
-use Rattle.plan.specs.declared.Ground.{Ground}
 use Rattle.plan.specs.declared.Item.{Item}
 use Rattle.plan.specs.declared.Item.the-variants.{Count, Map, HeadNumber}
 use Rattle.plan.specs.declared.Plan.{Plan}
@@ -25,7 +23,7 @@ use Rattle.plan.specs.declared.reader.Target.the-variants.{TheBox, HeadA
 use Rattle.plan.specs.Table.{examined}
 use Rattle.plan.specs.Exactly.{bit, noHead}
 use Rattle.plan.specs.Book.{withHead}
-use Rattle.plan.specs.File.{File, ends, givesPlan, givesEdit, after, signed32, groundLayout, groundItem, putGround, headLayout, headItem, putHead, missingGround, missingHead, noHeads, editTo}
+use Rattle.plan.specs.File.{File, ends, givesPlan, givesEdit, after, signed32, groundItem, putGround, headItem, putHead, missingGround, missingHead, noHeads, editTo}
 
 -- the number of fields of a target, and what is checked of field i
 abbrev pub countOf : Target → ℕ

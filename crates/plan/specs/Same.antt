@@ -2,9 +2,9 @@
 -- what the rest of the file means from there (`rest`); one step of the reader takes it one byte further.
 use Prim.Native.Nat.{ℕ, zero, suc, _+_, _-_, _≤_, _<_}
 use mathlib.Core.Path.{_≡_, refl, sym, ap, _∙_, subst}
-use mathlib.Core.Bool.{Bool, true, false, cond, true≢false, false≢true}
+use mathlib.Core.Bool.{Bool, true, false, cond}
 use mathlib.Core.List.{List, [], _∷_}
-use native.Mathlib.Nat.{suc-sub-suc, sub-zero}
+use native.Mathlib.Nat.{sub-zero}
 use native.Mathlib.Omega.{arith}
 use native.Mathlib.Decide.{decLe}
 use lib.Dec.{eqb, ltb}
@@ -14,7 +14,6 @@ use borrow.Author.Tests.{ltb-true, ltb-false, lt-ltb, le-ltb}
 use Rattle.heads.specs.declared.Head.{Head}
 use Rattle.plan.specs.declared.Answer.{Answer}
 use Rattle.plan.specs.declared.Answer.the-variants.{Taken, Refused}
-use Rattle.plan.specs.declared.Edit.{Edit}
 use Rattle.plan.specs.declared.Ground.{Ground}
 use Rattle.plan.specs.declared.Item.{Item}
 use Rattle.plan.specs.declared.Item.the-variants.{Count, Map, HeadNumber}
@@ -30,8 +29,8 @@ use Rattle.plan.specs.declared.reader.Target.the-variants.{TheBox, HeadA
 use Rattle.plan.specs.Table.{holds, refusalOf}
 use Rattle.plan.specs.Exactly.{bit, noHead}
 use Rattle.plan.specs.Book.{withHead, applied}
-use Rattle.plan.specs.File.{Got, got, stop, Part, followed, _>>=_, _>>_, give, after, here, byte, require, signed32, number, Layout, groundLayout, headLayout, field, fields, entry, heads, planPart, editPart, editTo, File, ends, givesPlan, givesEdit, thenEdit, edits, thenEdits, readFile, missingGround, missingHead, noHeads}
-use Rattle.plan.specs.Reader.{countOf, itemOf, nextField, started, moved, goesOn, checkedOr, begun, mapped, planPut, headPut, valued, fieldAt, turned, toHead, completedAt, completed, sought, chosen, steppedAt, stepped, finished, fed, handing, hand, handedOver, said}
+use Rattle.plan.specs.File.{Got, got, stop, Part, followed, _>>=_, _>>_, give, after, byte, require, signed32, number, Layout, groundLayout, headLayout, field, fields, entry, heads, planPart, editTo, File, ends, givesPlan, givesEdit, thenEdit, edits, thenEdits, readFile, missingGround, missingHead, noHeads}
+use Rattle.plan.specs.Reader.{countOf, itemOf, nextField, started, goesOn, checkedOr, planPut, headPut, fieldAt, toHead, completedAt, completed, sought, steppedAt, stepped, finished, fed, handing, hand, handedOver, said}
 
 -- ---- what the rest of the file means
 

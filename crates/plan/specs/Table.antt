@@ -1,25 +1,16 @@
 -- Document 01's table of conditions and numbers ("Plan file and checks in order"): what holds of each thing that is
 -- checked, the refusal where it does not, and the refusal's number. File and memory both go by it.
 use Prim.Native.Nat.{ℕ, _*_, _^_}
-use mathlib.Core.Bool.{Bool, true, false, cond, _&&_}
+use mathlib.Core.Bool.{Bool, cond, _&&_}
 use lib.Dec.{leb, ltb}
-use lib.IntN.{ℤ, pos, negsuc, negℤ}
+use lib.IntN.{ℤ, pos, negℤ}
 use lib.Signed.{leZ}
 use Rattle.plan.specs.declared.Answer.{Answer}
 use Rattle.plan.specs.declared.Answer.the-variants.{Taken, Refused}
 use Rattle.plan.specs.declared.Item.{Item}
 use Rattle.plan.specs.declared.Item.the-variants.{Count, Map, Coordinate, Side, Radius, HeadNumber, Tables}
 use Rattle.plan.specs.declared.Refusal.{Refusal}
-use Rattle.plan.specs.declared.Refusal.the-variants.{
-  Ended,
-  TooManyHeads,
-  BitWithoutField,
-  CoordinateOutside,
-  SideOutside,
-  RadiusOutside,
-  NoSuchHead,
-  TablesTooShort,
-}
+use Rattle.plan.specs.declared.Refusal.the-variants.{Ended, TooManyHeads, BitWithoutField, CoordinateOutside, SideOutside, RadiusOutside, NoSuchHead, TablesTooShort}
 
 -- low ≤ z ≤ high
 unfoldable pub within : ℤ → ℤ → ℤ → Bool

@@ -1,9 +1,7 @@
 // The checks of a call in memory, in reading order (`specs/Checks.antt`).
-ghost use Prim.Native.Nat.{_≤_};
 ghost use mathlib.Core.Path.{_≡_};
-ghost use mathlib.Core.List.{_++_, _∷_, []};
 ghost use lib.ListN.{take};
-ghost use Rattle.plan.specs.Checks.{firstOf, firstFailed, groundItems, fieldItems, headsItems, editItems, planAnswer, callAnswer, editAnswer};
+ghost use Rattle.plan.specs.Checks.{firstOf, firstFailed, groundItems, fieldItems, headsItems, planAnswer, callAnswer, editAnswer};
 use crate::Answer;
 use crate::Edit;
 use crate::Ground;

@@ -8,6 +8,7 @@ ghost use Rattle.plan.specs.Table.{numberOf, refusalOf, holds, within, e
 
 pub mod book;
 pub mod check;
+pub mod fields;
 pub mod reader;
 
 use heads::Head;

@@ -1,10 +1,10 @@
 // A plan file read one byte at a time (`specs/Reader.antt`). What the bytes mean is `specs/File.antt`, and the two are proved equal.
-ghost use Prim.Native.Nat.{_+_, _-_, _≤_};
+ghost use Prim.Native.Nat.{_+_, _-_};
 ghost use mathlib.Core.Path.{_≡_};
 ghost use lib.ListN.{getD};
 ghost use Rattle.plan.specs.Exactly.{noHead};
-ghost use Rattle.plan.specs.File.{after, signed32, putGround, groundItem, putHead, headItem, missingHead, missingGround, noHeads};
-ghost use Rattle.plan.specs.Reader.{nextField, countOf, itemOf, started, moved, checkedOr, begun, mapped, withField, planPut, headPut, valued, fieldAt, turned, toHead, completedAt, completed, sought, chosen, steppedAt, stepped, finished, fed};
+ghost use Rattle.plan.specs.File.{after, missingHead, missingGround, noHeads};
+ghost use Rattle.plan.specs.Reader.{countOf, itemOf, started, moved, checkedOr, begun, mapped, withField, planPut, headPut, valued, fieldAt, turned, toHead, completedAt, completed, sought, chosen, steppedAt, stepped, finished, fed};
 use crate::Answer;
 use crate::Edit;
 use crate::Ground;
@@ -13,6 +13,12 @@ use crate::Plan;
 use crate::Refusal;
 use crate::book::with_head;
 use crate::examine;
+use crate::fields::ground_item;
+use crate::fields::head_item;
+use crate::fields::next_field;
+use crate::fields::number32;
+use crate::fields::put_ground;
+use crate::fields::put_head;
 use heads::Head;
 
 // What the next byte is: the number of heads, a map byte, one of the four bytes of a number (with those before it), an
@@ -67,92 +73,6 @@ fn next_offset(at: u64) -> u64
     }
 }
 
-// Four bytes as a signed little-endian number.
-pub fn number32(a: u8, b: u8, c: u8, d: u8) -> i32
-    ensures { λ r. ⌜ r ≡ signed32 a b c d ⌝ }
-{
-    let n = (a as u32) + (b as u32) * 256 + (c as u32) * 65536 + (d as u32) * 16777216;
-    if n < 2147483648 {
-        n as i32
-    } else {
-        -1 - ((4294967295 - n) as i32)
-    }
-}
-
-fn put_ground(i: usize, z: i32, g: Ground) -> Ground
-    ensures { λ r. ⌜ r ≡ putGround i z g ⌝ }
-{
-    if i == 0 {
-        return Ground {
-            x: z,
-            y: g.y,
-            width: g.width,
-            height: g.height,
-        };
-    }
-    if i == 1 {
-        return Ground {
-            x: g.x,
-            y: z,
-            width: g.width,
-            height: g.height,
-        };
-    }
-    if i == 2 {
-        return Ground {
-            x: g.x,
-            y: g.y,
-            width: z,
-            height: g.height,
-        };
-    }
-    Ground {
-        x: g.x,
-        y: g.y,
-        width: g.width,
-        height: z,
-    }
-}
-
-fn put_head(i: usize, z: i32, h: Head) -> Head
-    ensures { λ r. ⌜ r ≡ putHead i z h ⌝ }
-{
-    if i == 0 {
-        return Head {
-            x: z,
-            y: h.y,
-            radius: h.radius,
-        };
-    }
-    if i == 1 {
-        return Head {
-            x: h.x,
-            y: z,
-            radius: h.radius,
-        };
-    }
-    Head {
-        x: h.x,
-        y: h.y,
-        radius: z,
-    }
-}
-
-// The first of the fields from `from` on, below `count`, whose bit stands, or the one past them.
-fn next_field(map: u8, from: usize, count: usize) -> usize
-    requires { ⌜ count ≤ 4 ⌝ }
-    ensures { λ r. ⌜ r ≡ nextField (count - from) map from ⌝ }
-{
-    let mut i = from;
-    while i < count {
-        if (map >> i) % 2 == 1 {
-            return i;
-        }
-        i += 1;
-    }
-    i
-}
-
 fn count_of(target: Target) -> usize
     ensures { λ r. ⌜ r ≡ countOf target ⌝ }
 {
@@ -160,27 +80,6 @@ fn count_of(target: Target) -> usize
         Target::TheBox => 4,
         Target::HeadAt(_) => 3,
         Target::EditOf(_) => 3,
-    }
-}
-
-// What is checked of field i of the box, and of a head.
-fn ground_item(i: usize, z: i32) -> Item
-    ensures { λ r. ⌜ r ≡ groundItem i z ⌝ }
-{
-    if i < 2 {
-        Item::Coordinate(z)
-    } else {
-        Item::Side(z)
-    }
-}
-
-fn head_item(i: usize, z: i32) -> Item
-    ensures { λ r. ⌜ r ≡ headItem i z ⌝ }
-{
-    if i < 2 {
-        Item::Coordinate(z)
-    } else {
-        Item::Radius(z)
     }
 }
 

@@ -1,10 +1,8 @@
-use Prim.Native.Nat.{_≤_, _<_, _-_, zero-le}
+-- `cases::heads_at` meets its contract. Assumes nothing.
+use Prim.Native.Nat.{_≤_, _-_}
 use borrow.Author.Needs.{needs}
 use Rattle.cases.proofs.heads_at.Statement.{statement}
 use Rattle.cases.proofs.heads_at.Tie as tie
-use Rattle.cases.proofs.heads_at.Reads as reads
-use Rattle.cases.proofs.heads_at.Lts as lts
-use Rattle.cases.proofs.int_at.Reads as int-at-reads
 
 abbrev Inv-loop : tie.InvT-loop
 Inv-loop s heads₀ i₀ heads i = i ≤ 10
@@ -12,59 +10,45 @@ Inv-loop s heads₀ i₀ heads i = i ≤ 10
 abbrev μ-loop : tie.MeasureT-loop
 μ-loop s heads₀ i₀ heads i = 10 - i
 
--- src/main.rt:152:5
 loop-holds : tie.Need-loop-holds Inv-loop μ-loop
 loop-holds c = search needs
 
--- src/main.rt:153:23
 mul-at : tie.Need-mul-at Inv-loop μ-loop
 mul-at c = search needs
 
--- src/main.rt:153:18
 add-at : tie.Need-add-at Inv-loop μ-loop
 add-at c = search needs
 
--- src/main.rt:155:16
 int-at-requires : tie.Need-int-at-requires Inv-loop μ-loop
 int-at-requires c κs = search needs
 
--- src/main.rt:156:26
 add-int-at : tie.Need-add-int-at Inv-loop μ-loop
 add-int-at c = search needs
 
--- src/main.rt:156:16
 int-at-requires-2 : tie.Need-int-at-requires-2 Inv-loop μ-loop
 int-at-requires-2 c κs = search needs
 
--- src/main.rt:157:31
 add-int-at-2 : tie.Need-add-int-at-2 Inv-loop μ-loop
 add-int-at-2 c = search needs
 
--- src/main.rt:157:21
 int-at-requires-3 : tie.Need-int-at-requires-3 Inv-loop μ-loop
 int-at-requires-3 c κs = search needs
 
--- src/main.rt:159:9
 mul-heads : tie.Need-mul-heads Inv-loop μ-loop
 mul-heads c = search needs
 
--- src/main.rt:159:9
 array-set-from-heads : tie.Need-array-set-from-heads Inv-loop μ-loop
 array-set-from-heads c = search needs
 
--- src/main.rt:160:9
 add-i : tie.Need-add-i Inv-loop μ-loop
 add-i c = search needs
 
--- src/main.rt:152:5
 loop-less : tie.Need-loop-less Inv-loop μ-loop
 loop-less c = search needs
 
--- src/main.rt:152:5
 loop-again : tie.Need-loop-again Inv-loop μ-loop
 loop-again c = search needs
 
--- src/main.rt:144:1
 returns : tie.Need-returns Inv-loop μ-loop
 returns c = search needs
 

@@ -1,11 +1,8 @@
+-- `cases::print_heads` meets its contract. Assumes nothing.
 use Prim.Native.Nat.{_≤_, _-_, zero-le}
 use native.Mathlib.Omega.{arith}
-use borrow.Author.Needs.{needs}
 use Rattle.cases.proofs.print_heads.Statement.{statement}
 use Rattle.cases.proofs.print_heads.Tie as tie
-use Rattle.cases.proofs.print_heads.Reads as reads
-use Rattle.cases.proofs.print_heads.Lts as lts
-use Rattle.cases.proofs.print_head.Reads as print-head-reads
 
 abbrev Inv-loop : tie.InvT-loop
 Inv-loop heads i₀ i = i ≤ 10
@@ -13,35 +10,27 @@ Inv-loop heads i₀ i = i ≤ 10
 abbrev μ-loop : tie.MeasureT-loop
 μ-loop heads i₀ i = 10 - i
 
--- src/main.rt:71:5
 loop-holds : tie.Need-loop-holds Inv-loop μ-loop
 loop-holds c = zero-le
 
--- src/main.rt:72:17
 mul-h : tie.Need-mul-h Inv-loop μ-loop
 mul-h c = omega arith
 
--- src/main.rt:72:17
 array-copy-out-h : tie.Need-array-copy-out-h Inv-loop μ-loop
 array-copy-out-h c = omega arith
 
--- src/main.rt:73:9
 print-head-requires : tie.Need-print-head-requires Inv-loop μ-loop
 print-head-requires c κs = tt
 
--- src/main.rt:74:9
 add-i : tie.Need-add-i Inv-loop μ-loop
 add-i c = omega arith
 
--- src/main.rt:71:5
 loop-less : tie.Need-loop-less Inv-loop μ-loop
 loop-less c = omega arith
 
--- src/main.rt:71:5
 loop-again : tie.Need-loop-again Inv-loop μ-loop
 loop-again c = omega arith
 
--- src/main.rt:69:1
 returns : tie.Need-returns Inv-loop μ-loop
 returns c = tt
 

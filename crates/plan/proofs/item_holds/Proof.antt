@@ -1,6 +1,6 @@
 -- `plan::item_holds` meets its contract. Assumes nothing.
 use mathlib.Core.Path.{refl}
-use Rattle.plan.proofs.Laws.{kept}
+use Rattle.plan.proofs.Conditions.{kept}
 use borrow.Author.Needs.{needs}
 use Rattle.plan.proofs.item_holds.Statement.{statement}
 use Rattle.plan.proofs.item_holds.Tie as tie

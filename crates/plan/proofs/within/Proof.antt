@@ -1,5 +1,5 @@
 -- `plan::within` meets its contract: each test of the code is a part of the conjunction. Assumes nothing.
-use mathlib.Core.Path.{_≡_, refl}
+use mathlib.Core.Path.{_≡_}
 use mathlib.Core.Bool.{true, false}
 use lib.Signed.{leZ}
 use mir.Facts.{toZ-ofZ}

@@ -1,32 +1,23 @@
+-- `plan::reader::check_or` meets its contract. Assumes nothing.
 use borrow.Author.Needs.{needs}
 use Rattle.plan.proofs.reader.check_or.Statement.{statement}
 use Rattle.plan.proofs.reader.check_or.Tie as tie
-use Rattle.plan.proofs.reader.check_or.Reads as reads
-use Rattle.plan.proofs.reader.check_or.Lts as lts
-use Rattle.plan.proofs.examine.Reads as examine-reads
-use Rattle.plan.proofs.reader.move_on.Reads as move-on-reads
 
--- src/reader.rt:272:9
 examine-requires : tie.Need-examine-requires
 examine-requires c κs = search needs
 
--- src/reader.rt:274:26
 enum-told : tie.Need-enum-told
 enum-told c = search needs
 
--- src/reader.rt:275:25
 enum-known-answer : tie.Need-enum-known-answer
 enum-known-answer c = search needs
 
--- src/reader.rt:275:41
 move-on-requires : tie.Need-move-on-requires
 move-on-requires c κs = search needs
 
--- src/reader.rt:269:1
 returns : tie.Need-returns
 returns c = rw (← c .before .before .examine .ensures, c .enum-told .given .1)
 
--- src/reader.rt:269:1
 returns-2 : tie.Need-returns-2
 returns-2 c = rw (← c .before .before .before .before .examine .ensures, c .before .before .answer .given .1) (c .move-on .ensures)
 

@@ -1,49 +1,36 @@
+-- `plan::reader::complete` meets its contract. Assumes nothing.
 use Rattle.plan.specs.Reader.{completedAt}
 use mathlib.Core.Path.{_∙_, sym}
-use Rattle.plan.proofs.Laws.{by-target}
+use Rattle.plan.proofs.Reading.{by-target}
 use borrow.Author.Needs.{needs}
 use Rattle.plan.proofs.reader.complete.Statement.{statement}
 use Rattle.plan.proofs.reader.complete.Tie as tie
-use Rattle.plan.proofs.reader.complete.Reads as reads
-use Rattle.plan.proofs.reader.complete.Lts as lts
-use Rattle.plan.proofs.reader.edit_read.Reads as edit-read-reads
-use Rattle.plan.proofs.reader.head_read.Reads as head-read-reads
-use Rattle.plan.proofs.reader.to_head.Reads as to-head-reads
 
--- src/reader.rt:464:27
 enum-told : tie.Need-enum-told
 enum-told c = search needs
 
--- src/reader.rt:464:27
 to-head-requires : tie.Need-to-head-requires
 to-head-requires c κs = search needs
 
--- src/reader.rt:465:24
 enum-known-target : tie.Need-enum-known-target
 enum-known-target c = search needs
 
--- src/reader.rt:465:30
 head-read-requires : tie.Need-head-read-requires
 head-read-requires c κs = search needs
 
--- src/reader.rt:466:24
 enum-known-target-2 : tie.Need-enum-known-target-2
 enum-known-target-2 c = search needs
 
--- src/reader.rt:466:30
 edit-read-requires : tie.Need-edit-read-requires
 edit-read-requires c κs = search needs
 
--- src/reader.rt:458:1
 returns : tie.Need-returns
 unfolding completedAt
 returns c = c .to-head .ensures ∙ sym (by-target (c .before .before .before .before .args .r) (c .before .enum-told .given .1))
 
--- src/reader.rt:458:1
 returns-2 : tie.Need-returns-2
 returns-2 c = c .head-read .ensures ∙ sym (by-target (c .before .before .before .before .before .args .r) (c .before .before .target .given .1))
 
--- src/reader.rt:458:1
 returns-3 : tie.Need-returns-3
 returns-3 c = c .edit-read .ensures ∙ sym (by-target (c .before .before .before .before .before .args .r) (c .before .before .target2 .given .1))
 

@@ -1,22 +1,16 @@
+-- `plan::reader::edit_read` meets its contract. Assumes nothing.
 use Rattle.plan.specs.Reader.{completedAt}
-use Rattle.plan.proofs.Laws.{kept}
+use Rattle.plan.proofs.Conditions.{kept}
 use borrow.Author.Needs.{needs}
 use Rattle.plan.proofs.reader.edit_read.Statement.{statement}
 use Rattle.plan.proofs.reader.edit_read.Tie as tie
-use Rattle.plan.proofs.reader.edit_read.Reads as reads
-use Rattle.plan.proofs.reader.edit_read.Lts as lts
-use Rattle.plan.proofs.book.with_head.Reads as with-head-reads
-use Rattle.plan.proofs.reader.turn.Reads as turn-reads
 
--- src/reader.rt:437:9
 with-head-requires : tie.Need-with-head-requires
 with-head-requires c κs = search needs
 
--- src/reader.rt:435:5
 turn-requires : tie.Need-turn-requires
 turn-requires c κs = search needs
 
--- src/reader.rt:424:1
 returns : tie.Need-returns
 unfolding completedAt
 returns c =

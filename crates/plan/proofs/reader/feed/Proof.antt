@@ -1,15 +1,12 @@
+-- `plan::reader::feed` meets its contract. Assumes nothing.
 use Prim.Native.Nat.{_≤_, _<_, _-_, zero-le}
 use mathlib.Core.Path.{_≡_, _∙_, refl, sym}
 use native.Mathlib.Omega.{arith}
 use lib.ListN.{length, drop}
 use Rattle.plan.specs.Reader.{fed}
-use Rattle.plan.proofs.Laws.{fed-next, fed-past}
-use borrow.Author.Needs.{needs}
+use Rattle.plan.proofs.Reading.{fed-next, fed-past}
 use Rattle.plan.proofs.reader.feed.Statement.{statement}
 use Rattle.plan.proofs.reader.feed.Tie as tie
-use Rattle.plan.proofs.reader.feed.Reads as reads
-use Rattle.plan.proofs.reader.feed.Lts as lts
-use Rattle.plan.proofs.reader.step.Reads as step-reads
 
 abbrev Inv-loop : tie.InvT-loop
 Inv-loop bytes reader₀ i₀ reader i = (i ≤ length bytes) × (fed reader (drop i bytes) ≡ fed reader₀ bytes)
@@ -17,27 +14,21 @@ Inv-loop bytes reader₀ i₀ reader i = (i ≤ length bytes) × (fed reader (dr
 abbrev μ-loop : tie.MeasureT-loop
 μ-loop bytes reader₀ i₀ reader i = length bytes - i
 
--- src/reader.rt:611:5
 loop-holds : tie.Need-loop-holds Inv-loop μ-loop
 loop-holds c = (zero-le, refl)
 
--- src/reader.rt:612:31
 shared-slice-read-step : tie.Need-shared-slice-read-step Inv-loop μ-loop
 shared-slice-read-step c = omega arith
 
--- src/reader.rt:612:9
 step-requires : tie.Need-step-requires Inv-loop μ-loop
 step-requires c κs = tt
 
--- src/reader.rt:613:9
 add-i : tie.Need-add-i Inv-loop μ-loop
 add-i c = omega arith
 
--- src/reader.rt:611:5
 loop-less : tie.Need-loop-less Inv-loop μ-loop
 loop-less c = omega arith
 
--- src/reader.rt:611:5
 loop-again : tie.Need-loop-again Inv-loop μ-loop
 loop-again c =
     let loop = c .before .before .before in
@@ -46,7 +37,6 @@ loop-again c =
     let below : i < length bytes = omega arith in
     (omega arith, rw (c .step .ensures, ← fed-next (loop .loop .reader) bytes i below) (loop .loop .inv .1))
 
--- src/reader.rt:606:1
 returns : tie.Need-returns Inv-loop μ-loop
 returns c =
     let loop = c .before in

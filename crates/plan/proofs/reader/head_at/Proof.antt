@@ -1,3 +1,4 @@
+-- `plan::reader::head_at` meets its contract. Assumes nothing.
 use Prim.Native.Nat.{_≤_}
 use mathlib.Core.Path.{_≡_, sym}
 use native.Mathlib.Omega.{arith}
@@ -5,10 +6,7 @@ use lib.ListN.{length, List·getD-eq-default}
 use borrow.Author.Needs.{needs}
 use Rattle.plan.proofs.reader.head_at.Statement.{statement}
 use Rattle.plan.proofs.reader.head_at.Tie as tie
-use Rattle.plan.proofs.reader.head_at.Reads as reads
-use Rattle.plan.proofs.reader.head_at.Lts as lts
 
--- src/reader.rt:501:9
 returns : tie.Need-returns
 returns c =
     let a = c .before .args in
@@ -16,15 +14,12 @@ returns c =
     let past : length (a .t1) ≤ a .k = omega arith in
     sym (List·getD-eq-default (a .t1) _ past)
 
--- src/reader.rt:507:5
 mul-result : tie.Need-mul-result
 mul-result c = search needs
 
--- src/reader.rt:507:5
 array-copy-out-result : tie.Need-array-copy-out-result
 array-copy-out-result c = search needs
 
--- src/reader.rt:497:1
 returns-2 : tie.Need-returns-2
 returns-2 c = search needs
 

@@ -1,42 +1,32 @@
+-- `plan::reader::head_put` meets its contract. Assumes nothing.
 use mir.Facts.{toZ-ofZ}
 use borrow.Author.Needs.{needs}
 use Rattle.plan.proofs.reader.head_put.Statement.{statement}
 use Rattle.plan.proofs.reader.head_put.Tie as tie
-use Rattle.plan.proofs.reader.head_put.Reads as reads
-use Rattle.plan.proofs.reader.head_put.Lts as lts
-use Rattle.plan.proofs.reader.put_head.Reads as put-head-reads
 
--- src/reader.rt:346:27
 enum-told : tie.Need-enum-told
 enum-told c = search needs
 
--- src/reader.rt:347:30
 enum-told-2 : tie.Need-enum-told-2
 enum-told-2 c = search needs
 
--- src/reader.rt:347:30
 put-head-requires : tie.Need-put-head-requires
 put-head-requires c κs = search needs
 
--- src/reader.rt:348:30
 enum-told-3 : tie.Need-enum-told-3
 enum-told-3 c = search needs
 
--- src/reader.rt:348:30
 put-head-requires-2 : tie.Need-put-head-requires-2
 put-head-requires-2 c κs = search needs
 
--- src/reader.rt:342:1
 returns : tie.Need-returns
 returns c = search needs
 
--- src/reader.rt:342:1
 returns-2 : tie.Need-returns-2
 returns-2 c =
     let a = c .before .before .before in
     rw (c .before .enum-told2 .given .1) (simp (toZ-ofZ (a .fits .z)) at (c .put-head .ensures))
 
--- src/reader.rt:342:1
 returns-3 : tie.Need-returns-3
 returns-3 c =
     let a = c .before .before .before in

@@ -1,36 +1,27 @@
+-- `plan::reader::head_read` meets its contract. Assumes nothing.
 use native.Mathlib.Numerals.{add-one}
 use Rattle.plan.specs.Reader.{completedAt}
-use Rattle.plan.proofs.Laws.{to-head-past}
+use Rattle.plan.proofs.Reading.{to-head-past}
 use borrow.Author.Needs.{needs}
 use Rattle.plan.proofs.reader.head_read.Statement.{statement}
 use Rattle.plan.proofs.reader.head_read.Tie as tie
-use Rattle.plan.proofs.reader.head_read.Reads as reads
-use Rattle.plan.proofs.reader.head_read.Lts as lts
-use Rattle.plan.proofs.book.with_head.Reads as with-head-reads
-use Rattle.plan.proofs.reader.to_head.Reads as to-head-reads
 
--- src/reader.rt:449:9
 with-head-requires : tie.Need-with-head-requires
 with-head-requires c κs = search needs
 
--- src/reader.rt:451:26
 add-to-head : tie.Need-add-to-head
 add-to-head c = search needs
 
--- src/reader.rt:451:9
 to-head-requires : tie.Need-to-head-requires
 to-head-requires c κs = search needs
 
--- src/reader.rt:453:9
 to-head-requires-2 : tie.Need-to-head-requires-2
 to-head-requires-2 c κs = search needs
 
--- src/reader.rt:444:1
 returns : tie.Need-returns
 unfolding completedAt
 returns c = rw (c .to-head .ensures, c .before .before .before .with-head .ensures, add-one)
 
--- src/reader.rt:444:1
 returns-2 : tie.Need-returns-2
 unfolding completedAt
 returns-2 c =

@@ -1,49 +1,37 @@
+-- `plan::reader::item_of` meets its contract. Assumes nothing.
 use mir.Facts.{toZ-ofZ}
 use borrow.Author.Needs.{needs}
 use Rattle.plan.proofs.reader.item_of.Statement.{statement}
 use Rattle.plan.proofs.reader.item_of.Tie as tie
-use Rattle.plan.proofs.reader.item_of.Reads as reads
-use Rattle.plan.proofs.reader.item_of.Lts as lts
-use Rattle.plan.proofs.reader.ground_item.Reads as ground-item-reads
-use Rattle.plan.proofs.reader.head_item.Reads as head-item-reads
 
--- src/reader.rt:191:27
 enum-told : tie.Need-enum-told
 enum-told c = search needs
 
--- src/reader.rt:191:27
 ground-item-requires : tie.Need-ground-item-requires
 ground-item-requires c κs = search needs
 
--- src/reader.rt:192:30
 enum-told-2 : tie.Need-enum-told-2
 enum-told-2 c = search needs
 
--- src/reader.rt:192:30
 head-item-requires : tie.Need-head-item-requires
 head-item-requires c κs = search needs
 
--- src/reader.rt:193:30
 enum-told-3 : tie.Need-enum-told-3
 enum-told-3 c = search needs
 
--- src/reader.rt:193:30
 head-item-requires-2 : tie.Need-head-item-requires-2
 head-item-requires-2 c κs = search needs
 
--- src/reader.rt:187:1
 returns : tie.Need-returns
 returns c =
     let a = c .before .before .before in
     rw (c .before .enum-told .given .1) (simp (toZ-ofZ (a .fits .z)) at (c .ground-item .ensures))
 
--- src/reader.rt:187:1
 returns-2 : tie.Need-returns-2
 returns-2 c =
     let a = c .before .before .before in
     rw (c .before .enum-told2 .given .1) (simp (toZ-ofZ (a .fits .z)) at (c .head-item .ensures))
 
--- src/reader.rt:187:1
 returns-3 : tie.Need-returns-3
 returns-3 c =
     let a = c .before .before .before in

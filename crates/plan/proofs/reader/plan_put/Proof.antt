@@ -1,38 +1,29 @@
+-- `plan::reader::plan_put` meets its contract. Assumes nothing.
 use mir.Facts.{toZ-ofZ}
 use borrow.Author.Needs.{needs}
 use Rattle.plan.proofs.reader.plan_put.Statement.{statement}
 use Rattle.plan.proofs.reader.plan_put.Tie as tie
-use Rattle.plan.proofs.reader.plan_put.Reads as reads
-use Rattle.plan.proofs.reader.plan_put.Lts as lts
-use Rattle.plan.proofs.reader.with_field.Reads as with-field-reads
 
--- src/reader.rt:336:27
 enum-told : tie.Need-enum-told
 enum-told c = search needs
 
--- src/reader.rt:336:27
 with-field-requires : tie.Need-with-field-requires
 with-field-requires c κs = search needs
 
--- src/reader.rt:337:30
 enum-told-2 : tie.Need-enum-told-2
 enum-told-2 c = search needs
 
--- src/reader.rt:338:30
 enum-told-3 : tie.Need-enum-told-3
 enum-told-3 c = search needs
 
--- src/reader.rt:332:1
 returns : tie.Need-returns
 returns c =
     let a = c .before .before .before in
     rw (c .before .enum-told .given .1) (simp (toZ-ofZ (a .fits .z)) at (c .with-field .ensures))
 
--- src/reader.rt:332:1
 returns-2 : tie.Need-returns-2
 returns-2 c = search needs
 
--- src/reader.rt:332:1
 returns-3 : tie.Need-returns-3
 returns-3 c = search needs
 

@@ -1,39 +1,28 @@
+-- `plan::reader::step_number` meets its contract. Assumes nothing.
 use Prim.Native.Nat.{_+_}
 use mathlib.Core.Path.{_≡_, _∙_, ap, ap₂}
-use Rattle.plan.proofs.Laws.{kept, number-step}
+use Rattle.plan.proofs.Conditions.{kept}
+use Rattle.plan.proofs.Reading.{number-step}
 use Rattle.plan.specs.Reader.{itemOf, valued, sought, checkedOr}
 use borrow.Author.Needs.{needs}
 use Rattle.plan.proofs.reader.step_number.Statement.{statement}
 use Rattle.plan.proofs.reader.step_number.Tie as tie
-use Rattle.plan.proofs.reader.step_number.Reads as reads
-use Rattle.plan.proofs.reader.step_number.Lts as lts
-use Rattle.plan.proofs.reader.check_or.Reads as check-or-reads
-use Rattle.plan.proofs.reader.item_of.Reads as item-of-reads
-use Rattle.plan.proofs.reader.number32.Reads as number32-reads
-use Rattle.plan.proofs.reader.seek_after.Reads as seek-after-reads
-use Rattle.plan.proofs.reader.value_read.Reads as value-read-reads
 
--- src/reader.rt:553:9
 number32-requires : tie.Need-number32-requires
 number32-requires c κs = search needs
 
--- src/reader.rt:555:9
 item-of-requires : tie.Need-item-of-requires
 item-of-requires c κs = search needs
 
--- src/reader.rt:556:42
 value-read-requires : tie.Need-value-read-requires
 value-read-requires c κs = search needs
 
--- src/reader.rt:556:31
 seek-after-requires : tie.Need-seek-after-requires
 seek-after-requires c κs = search needs
 
--- src/reader.rt:556:5
 check-or-requires : tie.Need-check-or-requires
 check-or-requires c κs = search needs
 
--- src/reader.rt:550:1
 returns : tie.Need-returns
 returns c =
     let item-at = c .before .before .before in

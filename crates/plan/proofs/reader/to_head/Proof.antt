@@ -1,26 +1,20 @@
+-- `plan::reader::to_head` meets its contract. Assumes nothing.
 use borrow.Author.Tests.{lt-ltb, le-ltb}
 use Rattle.plan.specs.Reader.{toHead}
 use borrow.Author.Needs.{needs}
 use Rattle.plan.proofs.reader.to_head.Statement.{statement}
 use Rattle.plan.proofs.reader.to_head.Tie as tie
-use Rattle.plan.proofs.reader.to_head.Reads as reads
-use Rattle.plan.proofs.reader.to_head.Lts as lts
-use Rattle.plan.proofs.reader.turn.Reads as turn-reads
 
--- src/reader.rt:417:9
 turn-requires : tie.Need-turn-requires
 turn-requires c κs = search needs
 
--- src/reader.rt:419:9
 turn-requires-2 : tie.Need-turn-requires-2
 turn-requires-2 c κs = search needs
 
--- src/reader.rt:412:1
 returns : tie.Need-returns
 unfolding toHead
 returns c = rw (c .turn .ensures, lt-ltb _ _ (c .before .if1 .taken))
 
--- src/reader.rt:412:1
 returns-2 : tie.Need-returns-2
 unfolding toHead
 returns-2 c = rw (c .turn2 .ensures, le-ltb _ _ (c .before .if1 .left))

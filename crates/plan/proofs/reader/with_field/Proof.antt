@@ -1,16 +1,12 @@
+-- `plan::reader::with_field` meets its contract. Assumes nothing.
 use mir.Facts.{toZ-ofZ}
 use borrow.Author.Needs.{needs}
 use Rattle.plan.proofs.reader.with_field.Statement.{statement}
 use Rattle.plan.proofs.reader.with_field.Tie as tie
-use Rattle.plan.proofs.reader.with_field.Reads as reads
-use Rattle.plan.proofs.reader.with_field.Lts as lts
-use Rattle.plan.proofs.reader.put_ground.Reads as put-ground-reads
 
--- src/reader.rt:322:9
 put-ground-requires : tie.Need-put-ground-requires
 put-ground-requires c κs = search needs
 
--- src/reader.rt:318:1
 returns : tie.Need-returns
 returns c = rw (c .before .put-ground .ensures) (simp (toZ-ofZ (c .before .before .before .fits .z)))
 

@@ -1,16 +1,12 @@
+-- `plan::fields::head_item` meets its contract. Assumes nothing.
 use mir.Facts.{toZ-ofZ}
 use borrow.Author.Tests.{lt-ltb, le-ltb}
-use borrow.Author.Needs.{needs}
-use Rattle.plan.proofs.reader.head_item.Statement.{statement}
-use Rattle.plan.proofs.reader.head_item.Tie as tie
-use Rattle.plan.proofs.reader.head_item.Reads as reads
-use Rattle.plan.proofs.reader.head_item.Lts as lts
+use Rattle.plan.proofs.fields.head_item.Statement.{statement}
+use Rattle.plan.proofs.fields.head_item.Tie as tie
 
--- src/reader.rt:177:1
 returns : tie.Need-returns
 returns c = simp (toZ-ofZ (c .before .fits .z), lt-ltb (c .before .args .i) 2 (c .if1 .taken))
 
--- src/reader.rt:177:1
 returns-2 : tie.Need-returns-2
 returns-2 c = simp (toZ-ofZ (c .before .fits .z), le-ltb (c .before .args .i) 2 (c .if1 .left))
 

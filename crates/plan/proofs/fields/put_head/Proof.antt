@@ -1,13 +1,10 @@
+-- `plan::fields::put_head` meets its contract. Assumes nothing.
 use mir.Facts.{toZ-ofZ}
 use borrow.Author.Tests.{eq-eqb, ne-eqb}
-use Rattle.plan.proofs.Laws.{kept}
-use borrow.Author.Needs.{needs}
-use Rattle.plan.proofs.reader.put_head.Statement.{statement}
-use Rattle.plan.proofs.reader.put_head.Tie as tie
-use Rattle.plan.proofs.reader.put_head.Reads as reads
-use Rattle.plan.proofs.reader.put_head.Lts as lts
+use Rattle.plan.proofs.Conditions.{kept}
+use Rattle.plan.proofs.fields.put_head.Statement.{statement}
+use Rattle.plan.proofs.fields.put_head.Tie as tie
 
--- src/reader.rt:121:9
 returns : tie.Need-returns
 returns c =
     let a = c .before .before in
@@ -15,7 +12,6 @@ returns c =
     let told = c .struct-told .given in
     simp (eq-eqb (a .args .i) 0 (c .before .if1 .taken), toZ-ofZ (a .fits .z), kept (h .y) (told .1 .0 .1), kept (h .radius) (told .1 .1 .0 .1))
 
--- src/reader.rt:128:9
 returns-2 : tie.Need-returns-2
 returns-2 c =
     let a = c .before .before .before in
@@ -23,7 +19,6 @@ returns-2 c =
     let told = c .struct-told2 .given in
     simp (ne-eqb (a .args .i) 0 (c .before .before .if1 .left), eq-eqb (a .args .i) 1 (c .before .if2 .taken), toZ-ofZ (a .fits .z), kept (h .x) (told .0 .1), kept (h .radius) (told .1 .1 .0 .1))
 
--- src/reader.rt:117:1
 returns-3 : tie.Need-returns-3
 returns-3 c =
     let a = c .before .before .before in

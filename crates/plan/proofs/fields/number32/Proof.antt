@@ -1,51 +1,40 @@
+-- `plan::fields::number32` meets its contract. Assumes nothing.
 use mir.Facts.{sfits-toZ, toZ-ofZ}
-use Rattle.plan.proofs.Laws.{high-number}
+use Rattle.plan.proofs.Conditions.{high-number}
 use Prim.Native.Nat.{_+_, _*_, _<_}
 use native.Mathlib.Omega.{arith}
 use mir.Syntax.{w32}
 use borrow.Author.Needs.{needs}
-use Rattle.plan.proofs.reader.number32.Statement.{statement}
-use Rattle.plan.proofs.reader.number32.Tie as tie
-use Rattle.plan.proofs.reader.number32.Reads as reads
-use Rattle.plan.proofs.reader.number32.Lts as lts
+use Rattle.plan.proofs.fields.number32.Statement.{statement}
+use Rattle.plan.proofs.fields.number32.Tie as tie
 
--- src/reader.rt:74:26
 mul-n : tie.Need-mul-n
 mul-n c = search needs
 
--- src/reader.rt:74:13
 add-n : tie.Need-add-n
 add-n c = search needs
 
--- src/reader.rt:74:45
 mul-n-2 : tie.Need-mul-n-2
 mul-n-2 c = search needs
 
--- src/reader.rt:74:13
 add-n-2 : tie.Need-add-n-2
 add-n-2 c = search needs
 
--- src/reader.rt:74:66
 mul-n-3 : tie.Need-mul-n-3
 mul-n-3 c = search needs
 
--- src/reader.rt:74:13
 add-n-3 : tie.Need-add-n-3
 add-n-3 c = search needs
 
--- src/reader.rt:76:9
 cast-result : tie.Need-cast-result
 cast-result c = search needs
 
--- src/reader.rt:78:16
 sub-result : tie.Need-sub-result
 sub-result c = search needs
 
--- src/reader.rt:78:15
 cast-result-2 : tie.Need-cast-result-2
 cast-result-2 c = search needs
 
--- src/reader.rt:78:9
 sub-result-2 : tie.Need-sub-result-2
 sub-result-2 c =
     let a = c .before .args in
@@ -53,11 +42,9 @@ sub-result-2 c =
     let small : n < 4294967296 = omega arith in
     rw (high-number n (c .if1 .left) small) (sfits-toZ {w = w32} (record { fits = small }))
 
--- src/reader.rt:71:1
 returns : tie.Need-returns
 returns c = search needs
 
--- src/reader.rt:71:1
 returns-2 : tie.Need-returns-2
 returns-2 c =
     let a = c .before .args in

@@ -1,13 +1,10 @@
+-- `plan::fields::put_ground` meets its contract. Assumes nothing.
 use mir.Facts.{toZ-ofZ}
 use borrow.Author.Tests.{eq-eqb, ne-eqb}
-use Rattle.plan.proofs.Laws.{kept}
-use borrow.Author.Needs.{needs}
-use Rattle.plan.proofs.reader.put_ground.Statement.{statement}
-use Rattle.plan.proofs.reader.put_ground.Tie as tie
-use Rattle.plan.proofs.reader.put_ground.Reads as reads
-use Rattle.plan.proofs.reader.put_ground.Lts as lts
+use Rattle.plan.proofs.Conditions.{kept}
+use Rattle.plan.proofs.fields.put_ground.Statement.{statement}
+use Rattle.plan.proofs.fields.put_ground.Tie as tie
 
--- src/reader.rt:86:9
 returns : tie.Need-returns
 returns c =
     let a = c .before .before in
@@ -15,7 +12,6 @@ returns c =
     let told = c .struct-told .given in
     simp (eq-eqb (a .args .i) 0 (c .before .if1 .taken), toZ-ofZ (a .fits .z), kept (g .y) (told .1 .0 .1), kept (g .width) (told .1 .1 .0 .1), kept (g .height) (told .1 .1 .1 .0 .1))
 
--- src/reader.rt:94:9
 returns-2 : tie.Need-returns-2
 returns-2 c =
     let a = c .before .before .before in
@@ -23,7 +19,6 @@ returns-2 c =
     let told = c .struct-told2 .given in
     simp (ne-eqb (a .args .i) 0 (c .before .before .if1 .left), eq-eqb (a .args .i) 1 (c .before .if2 .taken), toZ-ofZ (a .fits .z), kept (g .x) (told .0 .1), kept (g .width) (told .1 .1 .0 .1), kept (g .height) (told .1 .1 .1 .0 .1))
 
--- src/reader.rt:102:9
 returns-3 : tie.Need-returns-3
 returns-3 c =
     let a = c .before .before .before .before in
@@ -31,7 +26,6 @@ returns-3 c =
     let told = c .struct-told3 .given in
     simp (ne-eqb (a .args .i) 0 (c .before .before .before .if1 .left), ne-eqb (a .args .i) 1 (c .before .before .if2 .left), eq-eqb (a .args .i) 2 (c .before .if3 .taken), toZ-ofZ (a .fits .z), kept (g .x) (told .0 .1), kept (g .y) (told .1 .0 .1), kept (g .height) (told .1 .1 .1 .0 .1))
 
--- src/reader.rt:82:1
 returns-4 : tie.Need-returns-4
 returns-4 c =
     let a = c .before .before .before .before in
