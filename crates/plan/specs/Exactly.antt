@@ -16,6 +16,7 @@ use lib.Pow.{pow-pos, pow-mono, shr-shr}
 use lib.Signed.{_≤ℤ_, leZ, leZ-yes}
 use borrow.Author.Tests.{ltb-true, leb-true, lt-ltb, le-leb}
 use Rattle.heads.specs.declared.Head.{Head}
+use Rattle.heads.specs.Limits.{within}
 use Rattle.plan.specs.declared.Answer.{Answer}
 use Rattle.plan.specs.declared.Answer.the-variants.{Taken, Refused}
 use Rattle.plan.specs.declared.Edit.{Edit}
@@ -24,7 +25,7 @@ use Rattle.plan.specs.declared.Item.the-variants.{Count, Map, Coordinate
 use Rattle.plan.specs.declared.Lent.{Lent}
 use Rattle.plan.specs.declared.Needed.{Needed}
 use Rattle.plan.specs.declared.Plan.{Plan}
-use Rattle.plan.specs.Table.{within, holds, refusalOf, numberOf}
+use Rattle.plan.specs.Table.{holds, refusalOf, numberOf}
 use Rattle.plan.specs.Checks.{firstFailed, groundItems, fieldItems, headsItems, planItems, editItems, planAnswer, callAnswer, editAnswer}
 
 -- ---- each condition, as document 01 words it
@@ -78,7 +79,6 @@ T-exactly true = ((λ e. tt), (λ t. refl))
 T-exactly false = ((λ e. absurd (false≢true e)), (λ t. absurd t))
 
 within-exactly : (low high z : ℤ) → (within low high z ≡ true) ↔ Within low high z
-unfolding within
 within-exactly low high z =
     let both = and-exactly (leZ low z) (leZ z high) in
     let at-least = T-exactly (leZ low z) in

@@ -20,6 +20,7 @@ pub fn number32(a: u8, b: u8, c: u8, d: u8) -> i32
     }
 }
 
+// The box with another field i: centre x, centre y, width, height.
 pub(crate) fn put_ground(i: usize, z: i32, g: Ground) -> Ground
     ensures { λ r. ⌜ r ≡ putGround i z g ⌝ }
 {
@@ -55,6 +56,7 @@ pub(crate) fn put_ground(i: usize, z: i32, g: Ground) -> Ground
     }
 }
 
+// The head with another field i: x, y, radius.
 pub(crate) fn put_head(i: usize, z: i32, h: Head) -> Head
     ensures { λ r. ⌜ r ≡ putHead i z h ⌝ }
 {
@@ -79,7 +81,7 @@ pub(crate) fn put_head(i: usize, z: i32, h: Head) -> Head
     }
 }
 
-// What is checked of field i of the box, and of a head.
+// What is checked of field i of the box.
 pub(crate) fn ground_item(i: usize, z: i32) -> Item
     ensures { λ r. ⌜ r ≡ groundItem i z ⌝ }
 {
@@ -90,6 +92,7 @@ pub(crate) fn ground_item(i: usize, z: i32) -> Item
     }
 }
 
+// What is checked of field i of a head.
 pub(crate) fn head_item(i: usize, z: i32) -> Item
     ensures { λ r. ⌜ r ≡ headItem i z ⌝ }
 {

@@ -73,6 +73,7 @@ fn next_offset(at: u64) -> u64
     }
 }
 
+// How many fields a target has.
 fn count_of(target: Target) -> usize
     ensures { λ r. ⌜ r ≡ countOf target ⌝ }
 {
@@ -83,6 +84,7 @@ fn count_of(target: Target) -> usize
     }
 }
 
+// What is checked of field i of a target.
 fn item_of(target: Target, i: usize, z: i32) -> Item
     ensures { λ r. ⌜ r ≡ itemOf target i z ⌝ }
 {
@@ -227,7 +229,7 @@ fn with_field(plan: Plan, i: usize, z: i32) -> Plan
     }
 }
 
-// What a field leaves of the plan and of the head.
+// What a field of the target leaves of the plan: a field of the box is the plan's at once.
 fn plan_put(target: Target, i: usize, z: i32, plan: Plan) -> Plan
     ensures { λ r. ⌜ r ≡ planPut target i z plan ⌝ }
 {
@@ -238,6 +240,7 @@ fn plan_put(target: Target, i: usize, z: i32, plan: Plan) -> Plan
     }
 }
 
+// What it leaves of the head.
 fn head_put(target: Target, i: usize, z: i32, head: Head) -> Head
     ensures { λ r. ⌜ r ≡ headPut target i z head ⌝ }
 {
@@ -289,7 +292,7 @@ fn to_field(r: Reader, i: usize) -> Reader
     }
 }
 
-// A record comes to its end.
+// A target is complete: another plan, another target, what the next byte is, and what is handed out.
 fn turn(r: Reader, plan: Plan, target: Target, stage: Stage, handed: Handed) -> Reader
     ensures { λ q. ⌜ q ≡ turned r plan target stage handed ⌝ }
 {
