@@ -1,1 +1,3 @@
-pub mod Laws
+pub mod Conditions
+pub mod Answers
+pub mod Reading

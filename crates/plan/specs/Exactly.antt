@@ -2,31 +2,31 @@
 -- refused without cause. The conditions are stated as plain orders; `Table.antt` and `Checks.antt` compute them.
 use Prim.Native.Nat.{ℕ, zero, suc, _+_, _*_, _/_, _%_, _^_, _≤_, _<_}
 use mathlib.Core.Path.{_≡_, refl, sym, ap, _∙_, subst}
-use mathlib.Core.Bool.{Bool, true, false, false≢true, _&&_, cond}
+use mathlib.Core.Bool.{Bool, true, false, false≢true, _&&_}
 use mathlib.Core.List.{List, [], _∷_, _++_}
 use mathlib.Core.Logic.{_↔_, _⊎_, inl, inr, ⊎-elim}
-use native.Mathlib.Nat.{div-eq-of-lt, div-lt-iff-lt-mul, lt-of-lt-of-le, one-mul, le-add-right, not-le-of-lt}
+use native.Mathlib.Nat.{div-eq-of-lt, div-lt-iff-lt-mul, lt-of-lt-of-le, one-mul, le-add-right}
 use native.Mathlib.Decide.{decLe}
 use native.Mathlib.Omega.{arith}
 use lib.Arith.{bin-ind}
-use lib.Dec.{T, leb, ltb}
+use lib.Dec.{T, leb}
 use lib.IntN.{ℤ, pos, negℤ}
 use lib.ListN.{take, getD, length}
 use lib.Pow.{pow-pos, pow-mono, shr-shr}
 use lib.Signed.{_≤ℤ_, leZ, leZ-yes}
-use borrow.Author.Tests.{ltb-true, ltb-false, leb-true, leb-false, lt-ltb, le-leb, lt-leb, le-ltb}
+use borrow.Author.Tests.{ltb-true, leb-true, lt-ltb, le-leb}
 use Rattle.heads.specs.declared.Head.{Head}
+use Rattle.heads.specs.Limits.{within}
 use Rattle.plan.specs.declared.Answer.{Answer}
 use Rattle.plan.specs.declared.Answer.the-variants.{Taken, Refused}
 use Rattle.plan.specs.declared.Edit.{Edit}
-use Rattle.plan.specs.declared.Ground.{Ground}
 use Rattle.plan.specs.declared.Item.{Item}
 use Rattle.plan.specs.declared.Item.the-variants.{Count, Map, Coordinate, Side, Radius, HeadNumber, Tables}
 use Rattle.plan.specs.declared.Lent.{Lent}
 use Rattle.plan.specs.declared.Needed.{Needed}
 use Rattle.plan.specs.declared.Plan.{Plan}
-use Rattle.plan.specs.Table.{within, holds, refusalOf, numberOf, examined}
-use Rattle.plan.specs.Checks.{firstOf, firstFailed, groundItems, fieldItems, headsItems, planItems, editItems, planAnswer, callAnswer, editAnswer}
+use Rattle.plan.specs.Table.{holds, refusalOf, numberOf}
+use Rattle.plan.specs.Checks.{firstFailed, groundItems, fieldItems, headsItems, planItems, editItems, planAnswer, callAnswer, editAnswer}
 
 -- ---- each condition, as document 01 words it
 
@@ -79,7 +79,6 @@ T-exactly true = ((λ e. tt), (λ t. refl))
 T-exactly false = ((λ e. absurd (false≢true e)), (λ t. absurd t))
 
 within-exactly : (low high z : ℤ) → (within low high z ≡ true) ↔ Within low high z
-unfolding within
 within-exactly low high z =
     let both = and-exactly (leZ low z) (leZ z high) in
     let at-least = T-exactly (leZ low z) in
@@ -401,3 +400,50 @@ module _ (p : Plan) (e : Edit) (needed : Needed) (lent : Lent) (long : length (p
             (parts .0 (is .0 q))),
         (λ q. is .1 (parts .1 (inr (limits .1 (q .0), after .1 (inr (edits .1 (q .1), inl (short needed lent .1 (q .2), refl))))))),
       )
+
+-- ---- the same for a plan alone, and for a plan with lent tables
+
+-- a plan alone: 2 if n is above 10, and otherwise the number of the first field outside its limits
+pub plan-number : (p : Plan) (k : ℕ) → 0 < k → (answerNumber (planAnswer p) ≡ k) ↔ (((10 < p .n) × (2 ≡ k)) ⊎ ((p .n ≤ 10) × FirstUnmet k (fields p)))
+unfolding planAnswer planItems
+plan-number p k h =
+    let is = number-exactly (planItems p) k h in (
+      (λ q. ⊎-elim (λ u. inl (omega arith, u .1)) (λ u. inr u) (is .0 q)),
+      ⊎-elim (λ u. is .1 (inl ((λ le. omega arith), u .1))) (λ u. is .1 (inr u)),
+    )
+
+-- a plan with lent tables: the plan's own number, and 7 exactly if the plan is within the limits and a table is too short
+pub call-seven : (p : Plan) (needed : Needed) (lent : Lent) → length (p .heads) ≡ 10 → (answerNumber (callAnswer p needed lent) ≡ 7) ↔ (Acceptable p × TooShort needed lent)
+unfolding callAnswer
+call-seven p needed lent long =
+    let tables = Tables needed lent ∷ [] in
+    let is = number-exactly (planItems p ++ tables) 7 (omega arith) in
+    let parts = unmet-append 7 (planItems p) tables in
+    let plan = free-plan 7 p (omega arith) (omega arith) (omega arith) in
+    let limits = plan-met p long in (
+      (λ q.
+          ⊎-elim (λ u. absurd (free 7 (planItems p) plan u))
+          (λ u. (limits .0 (u .0), ⊎-elim (λ w. short needed lent .0 (w .0)) (λ w. absurd (w .1)) (u .1)))
+          (parts .0 (is .0 q))),
+      (λ q. is .1 (parts .1 (inr (limits .1 (q .0), inl (short needed lent .1 (q .1), refl))))),
+    )
+
+pub call-number : (p : Plan) (needed : Needed) (lent : Lent) (k : ℕ) → 0 < k → (7 ≡ k → ⊥) → (answerNumber (callAnswer p needed lent) ≡ k) ↔ (answerNumber (planAnswer p) ≡ k)
+unfolding callAnswer planAnswer
+call-number p needed lent k h seven =
+    let tables = Tables needed lent ∷ [] in
+    let is = number-exactly (planItems p ++ tables) k h in
+    let alone = number-exactly (planItems p) k h in
+    let parts = unmet-append k (planItems p) tables in (
+      (λ q. ⊎-elim (λ u. alone .1 u) (λ u. ⊎-elim (λ w. absurd (seven (w .1))) (λ w. absurd (w .1)) (u .1)) (parts .0 (is .0 q))),
+      (λ q. is .1 (parts .1 (inl (alone .0 q)))),
+    )
+
+-- a plan with lent tables is taken exactly if it is within the limits and the tables are long enough
+pub call-taken : (p : Plan) (needed : Needed) (lent : Lent) → length (p .heads) ≡ 10 → (callAnswer p needed lent ≡ Taken) ↔ (Acceptable p × Met (Tables needed lent))
+unfolding callAnswer
+call-taken p needed lent long =
+    let taken = taken-exactly (planItems p ++ (Tables needed lent ∷ [])) in
+    let parts = met-append (planItems p) (Tables needed lent ∷ []) in
+    let limits = plan-met p long in
+    ((λ q. let all = parts .0 (taken .0 q) in (limits .0 (all .0), all .1 .0)), (λ q. taken .1 (parts .1 (limits .1 (q .0), (q .1, tt)))))

@@ -18,7 +18,7 @@ pub struct Booked {
 }
 
 // The heads with another head k, and as they are where k is none of the ten.
-pub fn set_head(heads: [Head; 10], k: usize, head: Head) -> [Head; 10]
+fn set_head(heads: [Head; 10], k: usize, head: Head) -> [Head; 10]
     ensures { λ r. ⌜ r ≡ set heads k head ⌝ }
 {
     if 10 <= k {
@@ -30,7 +30,7 @@ pub fn set_head(heads: [Head; 10], k: usize, head: Head) -> [Head; 10]
 }
 
 // The plan with another head k.
-pub fn with_head(plan: Plan, k: usize, head: Head) -> Plan
+pub(crate) fn with_head(plan: Plan, k: usize, head: Head) -> Plan
     ensures { λ r. ⌜ r ≡ withHead plan k head ⌝ }
 {
     let before = plan.heads;

@@ -1,13 +1,15 @@
-// A plan (the box and its heads), an edit of one head, and the checks of document 01 in reading order.
-// No floats. The table of refusals is `specs/Table.antt`.
+// A plan (the box and its heads), an edit of one head, and document 01's table of refusals. No floats.
+// The table is `specs/Table.antt`; the limits of a field are those of the crate of heads.
 ghost use mathlib.Core.Path.{_≡_};
 ghost use Prim.Native.Nat.{_*_, _^_};
 ghost use mathlib.Core.Bool.{_&&_};
 ghost use lib.Dec.{leb, ltb};
-ghost use Rattle.plan.specs.Table.{numberOf, refusalOf, holds, within, examined};
+ghost use Rattle.plan.specs.Table.{numberOf, refusalOf, holds, examined};
 
-mod book;
-mod check;
+pub mod book;
+pub mod check;
+pub mod fields;
+pub mod reader;
 
 use heads::Head;
 
@@ -106,12 +108,6 @@ fn refused_by(item: Item) -> Refusal
     }
 }
 
-fn within(low: i32, high: i32, z: i32) -> bool
-    ensures { λ r. ⌜ r ≡ within low high z ⌝ }
-{
-    if low <= z { z <= high } else { false }
-}
-
 // Document 01's condition of an item.
 fn item_holds(item: Item) -> bool
     ensures { λ r. ⌜ r ≡ holds item ⌝ }
@@ -119,9 +115,9 @@ fn item_holds(item: Item) -> bool
     match item {
         Item::Count(n) => n <= 10,
         Item::Map { fields, map } => fits_map(fields, map),
-        Item::Coordinate(z) => within(-20000, 20000, z),
-        Item::Side(z) => within(1, 40000, z),
-        Item::Radius(z) => within(1, 20000, z),
+        Item::Coordinate(z) => heads::position_in_limits(z),
+        Item::Side(z) => heads::side_in_limits(z),
+        Item::Radius(z) => heads::radius_in_limits(z),
         Item::HeadNumber { head, n } => head < n,
         Item::Tables(needed, lent) => long_enough(
             needed.rows,
@@ -153,7 +149,7 @@ fn long_enough(needed: usize, width: usize, rows: usize, gradients: usize) -> bo
 }
 
 // One check: taken, or refused at the byte offset `at`.
-pub fn examine(item: Item, at: u64) -> Answer
+pub(crate) fn examine(item: Item, at: u64) -> Answer
     ensures { λ r. ⌜ r ≡ examined item at ⌝ }
 {
     if item_holds(item) {
