@@ -34,6 +34,7 @@ abbrev pub Part : Type 0 → Type 0
 Part A = ℕ → List ℕ → Got A
 
 module _ {A B : Type 0} where
+  -- a value is handed on to what follows, and a refusal stands
   abbrev pub followed : (A → Part B) → Got A → Got B
   followed f (got a at s) = f a at s
   followed f (stop r at) = stop r at
@@ -47,6 +48,7 @@ module _ {A B : Type 0} where
   _>>_ p q at s = followed (λ a. q) (p at s)
 
 module _ {A : Type 0} where
+  -- a value that takes no byte
   abbrev pub give : A → Part A
   give a at s = got a at s
 
@@ -71,6 +73,7 @@ require item from at s = cond (holds item) (got tt at s) (stop (refusalOf item) 
 abbrev pub signed32 : ℕ → ℕ → ℕ → ℕ → ℤ
 signed32 a b c d = toZ w32 (a + b * 256 + c * 65536 + d * 16777216)
 
+-- a number of the file
 abbrev pub number : Part ℤ
 number = do
   a ← byte
@@ -95,9 +98,11 @@ putGround i z g =
     (cond (eqb i 2) (record { x = g .x; y = g .y; width = z; height = g .height })
     (record { x = g .x; y = g .y; width = g .width; height = z })))
 
+-- of which the first two are coordinates and the others sides
 abbrev pub groundItem : ℕ → ℤ → Item
 groundItem i z = cond (ltb i 2) (Coordinate z) (Side z)
 
+-- the box: four fields
 abbrev pub groundLayout : Layout Ground
 groundLayout = record { count = 4; item = groundItem; put = putGround }
 
@@ -107,9 +112,11 @@ putHead i z h =
     cond (eqb i 0) (record { x = z; y = h .y; radius = h .radius })
     (cond (eqb i 1) (record { x = h .x; y = z; radius = h .radius }) (record { x = h .x; y = h .y; radius = z }))
 
+-- of which the first two are coordinates
 abbrev pub headItem : ℕ → ℤ → Item
 headItem i z = cond (ltb i 2) (Coordinate z) (Radius z)
 
+-- a head, and an edit: three fields
 abbrev pub headLayout : Layout Head
 headLayout = record { count = 3; item = headItem; put = putHead }
 
@@ -165,6 +172,7 @@ planPart = do
 
 -- ---- the edits
 
+-- an edit of head k to the head h
 abbrev pub editTo : ℕ → Head → Edit
 editTo k h = record { head = k; x = h .x; y = h .y; radius = h .radius }
 
@@ -196,6 +204,7 @@ edits zero p at s = ends Taken
 edits (suc most) p at [] = ends Taken
 edits (suc most) p at (b ∷ s) = thenEdit (λ e. edits most (applied p e)) (editPart p at (b ∷ s))
 
+-- the plan, and then the edits
 abbrev pub thenEdits : ℕ → Got Plan → File
 thenEdits most (got p at s) = givesPlan p (edits most p at s)
 thenEdits most (stop r at) = ends (Refused r at)
