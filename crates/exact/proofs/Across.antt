@@ -1,9 +1,9 @@
 -- What is left across, where the foot of the chord lies inside the circle of radius r by 2 ^ -33: r² less the square of its distance f is at least
 -- 2 ^ -33, so each point lies at least 2 ^ -17 from the foot, and the two points differ. Rests on Squares and Coordinates.
-use mathlib.Core.Path.{_≡_, refl, sym, ap, ap₂, _∙_, subst}
+use mathlib.Core.Path.{_≡_, refl, sym, ap, _∙_}
 use mathlib.Core.Logic.{_⊎_, inl, inr}
-use mathlib.Core.Bool.{Bool, true, false}
-use Prim.Native.Nat.{ℕ, suc, _+_, _-_, _*_, _^_, _≤_, _<_}
+use mathlib.Core.Bool.{false}
+use Prim.Native.Nat.{ℕ, _+_, _-_, _*_, _^_, _≤_, _<_}
 use native.Mathlib.Nat.{le-refl, le-trans, le-of-eq, lt-of-lt-of-le, mul-le-mul, mul-le-mul-left, mul-le-mul-right}
 use native.Mathlib.Omega.{arith}
 use lib.Dec.{eqb, eqb→eq, not-T}
@@ -11,7 +11,7 @@ use lib.Ieee.{Float, binary64, add, sub, mul, div, eq}
 use lib.Ieee.Bits.{is-false}
 use Rattle.binary64.specs.Units.{pow2, one, Finite, mag, plus, minus}
 use Rattle.binary64.specs.Rounding.{Rounded}
-use Rattle.binary64.specs.Magnitude.{Most, Least}
+use Rattle.binary64.specs.Magnitude.{Most}
 use Rattle.binary64.proofs.Naturals.{lt-or-ge}
 use Rattle.binary64.proofs.Units.{one-pos, pow2-pos, pow2-mono, pow2-split, plus-minus, eq-units}
 use Rattle.binary64.proofs.Rounding.{plus-le, plus-ge, minus-none}
@@ -19,8 +19,8 @@ use Rattle.binary64.proofs.Operations.{sub-result, result-rounded}
 use Rattle.binary64.proofs.Magnitude.{bound-digits, add-most, sub-most, one-sided}
 use Rattle.binary64.proofs.Error.{add-near, sub-near}
 use Rattle.elementary.proofs.Squares.{root-finite, at-most, at-least}
-use Rattle.exact.proofs.Distance.{margin, Is, is-mag, is-most}
-use Rattle.exact.proofs.Squares.{float, rest, across, square-is, square-parts}
+use Rattle.exact.proofs.Distance.{margin, is-most}
+use Rattle.exact.proofs.Squares.{rest, across, square-is, square-parts}
 use Rattle.exact.proofs.Coordinates.{product-most, part-most, product-least, quotient-least, Leg, offset-most}
 
 module _ (r : ℕ) (P : 1 ≤ r) (L : r ≤ 20000) {f : Float} (F : Most (r * 2 ^ 33 - 1) 1041 f) where

@@ -1,6 +1,6 @@
 -- Two crossing circles over whole numbers: the foot of the chord lies within the first circle by more than all that is rounded. D is the squared
 -- distance of the centres, r₁ and r₂ are the radii, t is their difference and s their sum. Nothing here is about floats.
-use mathlib.Core.Path.{_≡_, refl, sym, ap, _∙_}
+use mathlib.Core.Path.{_≡_, ap}
 use mathlib.Core.Logic.{_⊎_, inl, inr}
 use Prim.Native.Nat.{ℕ, zero, suc, _+_, _-_, _*_, _^_, _≤_, _<_}
 use native.Mathlib.Nat.{lt-irrefl, lt-of-lt-of-le, mul-le-mul, mul-le-mul-left, mul-le-mul-right}

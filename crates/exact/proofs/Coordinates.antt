@@ -1,12 +1,12 @@
 -- The coordinates of the points where two outlines meet: finite, and how large they are at most. The foot of the chord lies at most r₁ from the first
 -- centre along each axis, and each point at most 2 r₁ from the foot. Rests on binary64's Operations.
-use mathlib.Core.Path.{_≡_, refl, sym, ap, _∙_, subst}
-use Prim.Native.Nat.{ℕ, _+_, _*_, _^_, _≤_, _<_}
+use mathlib.Core.Path.{_≡_, sym, ap}
+use Prim.Native.Nat.{ℕ, _*_, _^_, _≤_, _<_}
 use native.Mathlib.Nat.{le-trans, le-of-eq, lt-of-lt-of-le, mul-assoc, mul-pos, mul-le-mul, mul-le-mul-left, mul-le-mul-right}
 use native.Mathlib.Omega.{arith}
-use lib.Ieee.{Float, binary64, add, sub, mul, div, round, unlike}
+use lib.Ieee.{Float, binary64, add, mul, div, unlike}
 use Rattle.binary64.specs.Units.{pow2, one, Finite, mag, negative}
-use Rattle.binary64.specs.Magnitude.{Most, Least}
+use Rattle.binary64.specs.Magnitude.{Most}
 use Rattle.binary64.proofs.Units.{one-pos}
 use Rattle.binary64.proofs.Rounding.{rnd-le, rnd-ge, rnd-twice}
 use Rattle.binary64.proofs.Operations.{round-finite, mul-round, mul-mag, div-round, div-mag}

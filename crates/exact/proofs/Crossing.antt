@@ -1,30 +1,25 @@
 -- Two circles that cross: the foot of the chord lies inside the first circle by at least 2 ^ -33, so something is left across, and the two points differ
 -- by more than the errors of their coordinates. Every bound is a float itself, so rounding does not pass it; 2 ^ -37 is `margin` units.
 -- Rests on Chord, Distance, Squares and Coordinates.
-use mathlib.Core.Path.{_≡_, refl, sym, ap, ap₂, _∙_, subst}
+use mathlib.Core.Path.{_≡_, ap}
 use mathlib.Core.Logic.{_⊎_, inl, inr}
-use mathlib.Core.Bool.{Bool, true, false}
-use Prim.Native.Nat.{ℕ, suc, _+_, _-_, _*_, _^_, _≤_, _<_}
-use native.Mathlib.Nat.{le-refl, le-trans, le-of-eq, le-of-lt, lt-of-lt-of-le, mul-pos, mul-le-mul, mul-le-mul-left, mul-le-mul-right}
+use Prim.Native.Nat.{ℕ, _+_, _-_, _*_, _^_, _≤_, _<_}
+use native.Mathlib.Nat.{le-refl, le-trans, le-of-lt, lt-of-lt-of-le, mul-pos, mul-le-mul, mul-le-mul-left, mul-le-mul-right}
 use native.Mathlib.Omega.{arith}
-use lib.IntN.{pos}
-use lib.Ieee.{Float, binary64, add, sub, mul, div, eq, ofInt}
-use Rattle.binary64.specs.Units.{pow2, one, Finite, mag, negative, plus, minus}
-use Rattle.binary64.specs.Rounding.{Near}
+use lib.Ieee.{Float, binary64, add, mul}
+use Rattle.binary64.specs.Units.{pow2, one, Finite, mag, plus, minus}
 use Rattle.binary64.specs.Constants.{two64}
-use Rattle.binary64.specs.Magnitude.{Most, Least}
+use Rattle.binary64.specs.Magnitude.{Most}
 use Rattle.binary64.proofs.Naturals.{lt-or-ge}
-use Rattle.binary64.proofs.Units.{one-pos, pow2-pos, pow2-mono, pow2-split, plus-minus, eq-units}
+use Rattle.binary64.proofs.Units.{pow2-pos, pow2-split}
 use Rattle.binary64.proofs.Operations.{add-result, result-finite, result-le}
-use Rattle.binary64.proofs.Magnitude.{bound-digits, bound-limit, most-finer, add-most, sub-most, mul-most, mul-least, div-most}
-use Rattle.binary64.proofs.Error.{add-near, sub-near}
-use Rattle.elementary.specs.Root.{root, wholeRoot}
+use Rattle.binary64.proofs.Magnitude.{bound-digits, bound-limit}
+use Rattle.elementary.specs.Root.{wholeRoot}
 use Rattle.elementary.proofs.Whole.{Floor, floor}
-use Rattle.elementary.proofs.Squares.{root-finite, at-most, at-least}
 use Rattle.exact.proofs.Chord.{reach, reach-square, reach-most, inside}
-use Rattle.exact.proofs.Distance.{margin, Is, whole-is, is-mag, is-most, rootOf, root-is-finite, root-most, root-at-most-fine, root-at-least-fine}
-use Rattle.exact.proofs.Squares.{float, two-is, difference, along, rest, across, square-is, square-parts, difference-finite, difference-parts}
-use Rattle.exact.proofs.Coordinates.{product-most, quotient-most, product-least, quotient-least}
+use Rattle.exact.proofs.Distance.{margin, Is, whole-is, is-mag, rootOf, root-is-finite, root-most, root-at-most-fine, root-at-least-fine}
+use Rattle.exact.proofs.Squares.{two-is, difference, along, square-parts, difference-finite, difference-parts}
+use Rattle.exact.proofs.Coordinates.{product-most, quotient-most, product-least}
 
 module _ (r₁ r₂ D t : ℕ) (P₁ : 1 ≤ r₁) (L₁ : r₁ ≤ 20000) (P₂ : 1 ≤ r₂) (L₂ : r₂ ≤ 20000) (T : t * t + 2 * (r₁ * r₂) ≡ r₁ * r₁ + r₂ * r₂) (low : t * t < D) (high : D < (r₁ + r₂) * (r₁ + r₂)) where
   -- ---- the distance

@@ -1,19 +1,18 @@
 -- The distance of two centres is the root of D, rounded, and this is how it compares with a whole number n: as D does with n². Where the two
 -- differ, the distance differs from n by at least 2 ^ -37. Rests on the root of a whole number (elementary's Integers).
-use mathlib.Core.Path.{_≡_, refl, sym, ap, ap₂, _∙_, subst}
+use mathlib.Core.Path.{_≡_, refl, sym, _∙_}
 use mathlib.Core.Logic.{_⊎_, inl, inr}
-use mathlib.Core.Bool.{Bool, true, false}
-use Prim.Native.Nat.{ℕ, zero, suc, _+_, _-_, _*_, _^_, _≤_, _<_}
+use Prim.Native.Nat.{ℕ, _+_, _-_, _*_, _^_, _≤_, _<_}
 use native.Mathlib.Nat.{le-trans, le-of-eq, mul-le-mul, mul-le-mul-right}
 use native.Mathlib.Omega.{arith}
 use lib.Dec.{ltb, ltb→lt, lt→ltb}
-use lib.IntN.{ℤ, pos, natAbs, _-ℤ_}
+use lib.IntN.{pos, natAbs, _-ℤ_}
 use lib.Ieee.{Float, binary64, lt, ofInt}
 use Rattle.heads.specs.declared.Head.{Head}
 use Rattle.heads.specs.Pair.{squaredDistance}
 use Rattle.heads.specs.Distance.{InLimits}
-use Rattle.binary64.specs.Units.{pow2, one, Finite, mag, negative, plus, minus}
-use Rattle.binary64.specs.Magnitude.{Most, Least}
+use Rattle.binary64.specs.Units.{pow2, one, Finite, mag, plus, minus}
+use Rattle.binary64.specs.Magnitude.{Most}
 use Rattle.binary64.proofs.Naturals.{lt-or-ge, same-test}
 use Rattle.binary64.proofs.Units.{pow2-split, plus-is, plus-minus, lt-units}
 use Rattle.binary64.proofs.Magnitude.{bound-digits}

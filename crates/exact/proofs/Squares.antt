@@ -1,13 +1,13 @@
 -- The squares of the radii and their difference as floats, all exact; and a difference that comes out exactly. Rests on binary64's Rounding.
-use mathlib.Core.Path.{_≡_, refl, sym, ap, _∙_, subst}
+use mathlib.Core.Path.{_≡_, refl, sym, ap, _∙_}
 use mathlib.Core.Bool.{Bool, true, false}
 use mathlib.Core.Logic.{_⊎_, inl, inr}
-use Prim.Native.Nat.{ℕ, _+_, _-_, _*_, _^_, _≤_, _<_}
-use native.Mathlib.Nat.{le-refl, le-add-right, mul-le-mul, mul-one}
+use Prim.Native.Nat.{ℕ, _+_, _-_, _*_, _≤_, _<_}
+use native.Mathlib.Nat.{le-refl, mul-le-mul, mul-one}
 use native.Mathlib.Omega.{arith}
 use lib.IntN.{pos}
 use lib.Ieee.{Float, binary64, add, sub, mul, div, ofInt, unlike}
-use Rattle.binary64.specs.Units.{pow2, one, Finite, mag, negative, plus, minus, Digits53}
+use Rattle.binary64.specs.Units.{one, Finite, mag, negative, plus, minus, Digits53}
 use Rattle.binary64.specs.Rounding.{Rounded}
 use Rattle.binary64.proofs.Naturals.{lt-or-ge}
 use Rattle.binary64.proofs.Units.{plus-is, plus-minus}

@@ -16,12 +16,12 @@ use Rattle.heads.specs.Relation as relation
 use Rattle.heads.specs.Pair.{squaredDistance, radiusOf, containsOf}
 use Rattle.heads.specs.Cases.{gap-le, contains-facts}
 use Rattle.heads.specs.Distance.{InLimits, natAbs-diff}
-use Rattle.binary64.specs.Units.{pow2, one, Finite, mag, negative, plus, minus}
+use Rattle.binary64.specs.Units.{one, Finite, plus, minus}
 use Rattle.binary64.specs.Rounding.{Rounded}
 use Rattle.binary64.specs.Functions.{absolute}
 use Rattle.binary64.specs.Whole.{eqZ}
 use Rattle.binary64.proofs.Naturals.{lt-or-ge, same-test, not-ltb}
-use Rattle.binary64.proofs.Units.{one-pos, pow2-pos, pow2-split, plus-minus, same-float, neg-finite, neg-sign, neg-mag, le-units, le-not-lt}
+use Rattle.binary64.proofs.Units.{one-pos, pow2-pos, pow2-split, same-float, neg-finite, neg-sign, neg-mag, le-units, le-not-lt}
 use Rattle.binary64.proofs.Rounding.{plus-le, plus-ge, minus-none}
 use Rattle.binary64.proofs.Operations.{add-result, result-rounded}
 use Rattle.binary64.proofs.Magnitude.{bound-digits, add-most}

@@ -16,19 +16,18 @@ use borrow.Author.Tests.{lt-ltb, le-ltb, eq-eqb, ne-eqb}
 use Rattle.heads.specs.declared.Head.{Head}
 use Rattle.heads.specs.declared.Relation.{Relation}
 use Rattle.heads.specs.declared.Relation.the-variants.{Apart, TouchingOutside, Crossing, TouchingInside, Holding, Identical}
-use Rattle.heads.specs.Limits.{inLimits}
 use Rattle.heads.specs.Relation.{gap, identical, relation, meets, meeting, touching, points}
 use Rattle.heads.specs.Cases.{Case, gap-le, gap-zero, relation-is, case-of, meets-relation, meetsOnce-relation, meets-facts}
 use Rattle.heads.specs.Pair.{squaredDistance, radiusOf, relationOf, meetsOf, meetsOnceOf}
 use Rattle.heads.specs.Distance.{InLimits, limits-of, distance-fits, meetsOf-comm}
-use Rattle.binary64.specs.Units.{one, mag}
+use Rattle.binary64.specs.Units.{one}
 use Rattle.binary64.specs.Magnitude.{Most, Least}
 use Rattle.binary64.proofs.Naturals.{lt-or-ge}
 use Rattle.geometry.specs.declared.point.Point.{Point}
 use Rattle.geometry.specs.Circle as circle
 use Rattle.geometry.specs.Point.{at, distance}
 use Rattle.exact.specs.Circle.{circleOf}
-use Rattle.exact.specs.Decisions.{Decided, Bounded, DecidesExactly, StaysBounded, NoPointsUnlessMet, sum, difference}
+use Rattle.exact.specs.Decisions.{DecidesExactly, StaysBounded, NoPointsUnlessMet, sum, difference}
 use Rattle.exact.proofs.Distance.{rootOf, distance-is, root-is-finite, root-most, root-at-least}
 use Rattle.exact.proofs.Tests.{identical-is, apart-is, intersects-is, contains-heads, beyond-is}
 use Rattle.exact.proofs.Meeting.{Found, touching as found-touching, crossed as found-crossed}

@@ -1,30 +1,28 @@
 -- Two circles that touch, so that their distance is the whole number n: every step is exact. The foot of the chord is the point of touch, r₁ from the
 -- first centre, nothing is left across, and both points are equal. Rests on Squares and Coordinates.
-use mathlib.Core.Path.{_≡_, refl, sym, ap, ap₂, _∙_, subst}
+use mathlib.Core.Path.{_≡_, sym, ap, ap₂, _∙_}
 use mathlib.Core.Logic.{_⊎_, inl, inr}
-use mathlib.Core.Bool.{Bool, true, false}
+use mathlib.Core.Bool.{true}
 use Prim.Native.Nat.{ℕ, _+_, _-_, _*_, _^_, _≤_, _<_}
-use native.Mathlib.Nat.{le-refl, le-trans, le-of-eq, lt-of-lt-of-le, le-antisymm, mul-pos, mul-le-mul, mul-le-mul-right}
+use native.Mathlib.Nat.{le-refl, le-of-eq, mul-pos, mul-le-mul}
 use native.Mathlib.Omega.{arith}
-use lib.IntN.{pos}
-use lib.Ieee.{Float, binary64, add, sub, mul, div, eq, ofInt, unlike}
+use lib.Ieee.{Float, binary64, add, sub, mul, eq}
 use lib.Dec.{eqb}
 use lib.Ieee.Bits.{is-true}
 use lib.Ieee.Fits.{eq→eqb}
-use Rattle.binary64.specs.Units.{pow2, one, Finite, mag, negative, plus, minus}
+use Rattle.binary64.specs.Units.{one, Finite, mag, plus, minus}
 use Rattle.binary64.specs.Rounding.{rnd}
 use Rattle.binary64.specs.Magnitude.{Most}
 use Rattle.binary64.proofs.Units.{one-pos, plus-minus, eq-units}
 use Rattle.binary64.proofs.Rounding.{rnd-exact, plus-none, minus-none}
-use Rattle.binary64.proofs.Operations.{add-result, sub-result, result-finite, result-rounded, mul-mag, mul-sign, div-mag}
+use Rattle.binary64.proofs.Operations.{add-result, sub-result, result-finite, result-rounded, mul-mag, div-mag}
 use Rattle.binary64.proofs.Magnitude.{bound-digits, bound-limit, add-most, sub-most}
 use Rattle.binary64.proofs.Whole.{mul-ofInt-pos}
-use Rattle.elementary.specs.Root.{root}
 use Rattle.elementary.proofs.Squares.{root-finite, at-most}
 use Rattle.binary64.specs.Constants.{two64}
 use Rattle.exact.proofs.Distance.{Is, whole-is, is-mag, is-most}
 use Rattle.exact.proofs.Squares.{float, two-is, difference, along, rest, across, exact-parts, square-is, square-parts, difference-finite, difference-parts}
-use Rattle.exact.proofs.Coordinates.{product-most, quotient-most, Leg}
+use Rattle.exact.proofs.Coordinates.{product-most, quotient-most}
 
 module _ (r₁ r₂ n : ℕ) (L₁ : r₁ ≤ 20000) (L₂ : r₂ ≤ 20000) (N : 1 ≤ n) (M : n ≤ 40000)
     (touch : (r₁ * r₁ + n * n ≡ r₂ * r₂ + 2 * (r₁ * n)) ⊎ (r₂ * r₂ ≡ r₁ * r₁ + n * n + 2 * (r₁ * n))) where
