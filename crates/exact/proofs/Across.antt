@@ -20,7 +20,7 @@ use Rattle.binary64.proofs.Magnitude.{bound-digits, add-most, sub-most, one-sid
 use Rattle.binary64.proofs.Error.{add-near, sub-near}
 use Rattle.elementary.proofs.Squares.{root-finite, at-most, at-least}
 use Rattle.exact.proofs.Distance.{margin, is-most}
-use Rattle.exact.proofs.Squares.{rest, across, square-is, square-parts}
+use Rattle.exact.proofs.Steps.{rest, across, square-is, square-parts}
 use Rattle.exact.proofs.Coordinates.{product-most, part-most, product-least, quotient-least, Leg, offset-most}
 
 module _ (r : ℕ) (P : 1 ≤ r) (L : r ≤ 20000) {f : Float} (F : Most (r * 2 ^ 33 - 1) 1041 f) where

@@ -5,16 +5,15 @@ use mathlib.Core.Logic.{_⊎_, inl, inr}
 use Prim.Native.Nat.{ℕ, _+_, _-_, _*_, _^_, _≤_, _<_}
 use native.Mathlib.Nat.{le-trans, le-of-eq, mul-le-mul, mul-le-mul-right}
 use native.Mathlib.Omega.{arith}
-use lib.Dec.{ltb, ltb→lt, lt→ltb}
 use lib.IntN.{pos, natAbs, _-ℤ_}
-use lib.Ieee.{Float, binary64, lt, ofInt}
+use lib.Ieee.{Float, binary64, ofInt}
 use Rattle.heads.specs.declared.Head.{Head}
 use Rattle.heads.specs.Pair.{squaredDistance}
 use Rattle.heads.specs.Distance.{InLimits}
 use Rattle.binary64.specs.Units.{pow2, one, Finite, mag, plus, minus}
 use Rattle.binary64.specs.Magnitude.{Most}
-use Rattle.binary64.proofs.Naturals.{lt-or-ge, same-test}
-use Rattle.binary64.proofs.Units.{pow2-split, plus-is, plus-minus, lt-units}
+use Rattle.binary64.proofs.Naturals.{lt-or-ge}
+use Rattle.binary64.proofs.Units.{pow2-split, plus-is, plus-minus}
 use Rattle.binary64.proofs.Magnitude.{bound-digits}
 use Rattle.binary64.proofs.Whole.{add-ofInt, sub-ofInt, square-ofInt}
 use Rattle.elementary.specs.Root.{root, hypot}
@@ -46,14 +45,6 @@ is-mag {x} w = sym (plus-minus x) ∙ omega (arith, w .up, w .down)
 
 pub is-most : {x : Float} {n j : ℕ} → Is x n → n ≤ j → Most j 1074 x
 is-most w h = record { finite = w .finite; bound = le-trans (le-of-eq (is-mag w)) (mul-le-mul-right one h) }
-
--- ---- the tests < and ≤ as tests of natural numbers
-
-module _ {x y : Float} (h : Finite x) (k : Finite y) (p q : ℕ) where
-  pub lt-as : (p < q → plus x + minus y < plus y + minus x) → (plus x + minus y < plus y + minus x → p < q) → lt x y ≡ ltb p q
-  lt-as f g =
-      lt-units h k
-      ∙ same-test (ltb (plus x + minus y) (plus y + minus x)) (ltb p q) (λ t. lt→ltb p q (g (ltb→lt (plus x + minus y) (plus y + minus x) t))) (λ t. lt→ltb (plus x + minus y) (plus y + minus x) (f (ltb→lt p q t)))
 
 -- ---- the distance
 

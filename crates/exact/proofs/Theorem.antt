@@ -4,7 +4,7 @@ use mathlib.Core.Path.{_≡_, refl, sym, ap, ap₂, _∙_, subst, subst₂}
 use mathlib.Core.Logic.{_⊎_, inl, inr, _↔_}
 use mathlib.Core.Bool.{Bool, true, false, true≢false, false≢true, _&&_, _||_, cond, or-true, and-comm}
 use mathlib.Core.List.{List, [], _∷_}
-use Prim.Native.Nat.{ℕ, zero, suc, _+_, _-_, _*_, _^_, _≤_, _<_}
+use Prim.Native.Nat.{ℕ, zero, suc, _+_, _*_, _^_, _≤_, _<_}
 use native.Mathlib.Nat.{le-trans, le-of-eq, mul-le-mul}
 use native.Mathlib.Omega.{arith}
 use lib.Dec.{T, ltb, eqb, ltb→lt}
@@ -23,30 +23,18 @@ use Rattle.heads.specs.Distance.{InLimits, limits-of, distance-fits, meetsOf-co
 use Rattle.binary64.specs.Units.{one}
 use Rattle.binary64.specs.Magnitude.{Most, Least}
 use Rattle.binary64.proofs.Naturals.{lt-or-ge}
+use Rattle.binary64.proofs.Whole.{ofInt-sign, ofInt-most, ofInt-least}
 use Rattle.geometry.specs.declared.point.Point.{Point}
 use Rattle.geometry.specs.Circle as circle
 use Rattle.geometry.specs.Point.{at, distance}
 use Rattle.exact.specs.Circle.{circleOf}
-use Rattle.exact.specs.Decisions.{DecidesExactly, StaysBounded, NoPointsUnlessMet, sum, difference}
+use Rattle.exact.specs.Decisions.{IsDrawn, DecidesExactly, StaysBounded, NoPointsUnlessMet, sum, difference}
+use Rattle.exact.proofs.Chord.{gap-either}
 use Rattle.exact.proofs.Distance.{rootOf, distance-is, root-is-finite, root-most, root-at-least}
-use Rattle.exact.proofs.Tests.{identical-is, apart-is, intersects-is, contains-heads, beyond-is}
+use Rattle.exact.proofs.Tests.{identical-is, apart-is, intersects-is, contains-heads, beyond-is, within-is}
 use Rattle.exact.proofs.Meeting.{Found, touching as found-touching, crossed as found-crossed}
 
--- ---- the difference of the radii
-
--- the larger radius is the smaller and the difference
-gap-either : (a b : ℕ) → (a ≡ b + gap a b) ⊎ (b ≡ a + gap a b)
-unfolding gap
-gap-either a b = go (lt-or-ge a b)
-  where
-    go : (a < b) ⊎ (b ≤ a) → (a ≡ b + ((a - b) + (b - a))) ⊎ (b ≡ a + ((a - b) + (b - a)))
-    go (inl h) = inr (omega arith)
-    go (inr h) = inl (omega arith)
-
--- t² + 2 r₁ r₂ = r₁² + r₂²
-gap-square : (a b t : ℕ) → (a ≡ b + t) ⊎ (b ≡ a + t) → t * t + 2 * (a * b) ≡ a * a + b * b
-gap-square a b t (inl e) = omega (arith, ap (λ (k : ℕ). k * k) e, ap (λ (k : ℕ). k * b) e)
-gap-square a b t (inr e) = omega (arith, ap (λ (k : ℕ). k * k) e, ap (λ (k : ℕ). a * k) e)
+-- ---- touch from inside
 
 -- where the circles touch from inside, r₁² - r₂² + t² is 2 r₁ t or -2 r₁ t
 touch-inside : (a b t : ℕ) → (a ≡ b + t) ⊎ (b ≡ a + t) → (a * a + t * t ≡ b * b + 2 * (a * t)) ⊎ (b * b ≡ a * a + t * t + 2 * (a * t))
@@ -115,7 +103,7 @@ module _ {a b : Head} (la : InLimits a) (lb : InLimits b) (L : squaredDistance a
 
   found-cross : t * t < D → D < s * s → Found crossing 2
   found-cross h k =
-      found-crossed (a .x) (a .y) (b .x) (b .y) (la .x) (la .y) (lb .x) (lb .y) r₁ r₂ (la .least) (la .most) (lb .least) (lb .most) L (omega arith) t (gap-square r₁ r₂ t (gap-either r₁ r₂)) h k
+      found-crossed (a .x) (a .y) (b .x) (b .y) (la .x) (la .y) (lb .x) (lb .y) r₁ r₂ (la .least) (la .most) (lb .least) (lb .most) L (omega arith) h k
 
   found-in : (r : Relation) → Case r D r₁ r₂ → Found (cond (identical D r₁ r₂) [] (cond (ltb (s * s) D || ltb D (t * t)) [] crossing)) (points r)
   found-in Apart h = none-chosen crossing (identical D r₁ r₂) (ltb (s * s) D || ltb D (t * t)) (inr (ap (λ (p : Bool). p || ltb D (t * t)) (lt-ltb (s * s) D h)))
@@ -191,6 +179,18 @@ meet-apart D a b e = go (lt-or-ge 0 D) (meets-facts D a b .0 e)
     go (inl h) f = h
     go (inr h) f = absurd (f .2 (omega arith) (gap-zero a b (none (gap a b) (le-trans (f .0) h))))
 
+-- The circle of a head within the limits.
+pub is-drawn : IsDrawn
+is-drawn h t =
+    let l = limits-of h t in
+    record {
+      x = ofInt-most (h .x) (omega (arith, l .x)) (l .x);
+      y = ofInt-most (h .y) (omega (arith, l .y)) (l .y);
+      most = rw (l .whole) (ofInt-most (pos (radiusOf h)) (omega (arith, l .most)) (l .most));
+      least = rw (l .whole) (ofInt-least (pos (radiusOf h)) (omega (arith, l .most)) (l .least));
+      positive = rw (l .whole) (ofInt-sign (pos (radiusOf h)) (omega (arith, l .most)));
+    }
+
 -- Two heads within the limits: the float code decides as whole numbers do.
 pub decides-exactly : DecidesExactly
 decides-exactly a b ha hb = record {
@@ -202,6 +202,7 @@ decides-exactly a b ha hb = record {
   crossed = e;
   crossing = (λ h. crosses (squaredDistance a b) (radiusOf a) (radiusOf b) .0 (sym e ∙ h), λ h. e ∙ crosses (squaredDistance a b) (radiusOf a) (radiusOf b) .1 h);
   outside = beyond-is la lb L;
+  inside = within-is la lb L;
 }
   where
     la : InLimits a
