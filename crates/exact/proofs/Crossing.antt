@@ -24,6 +24,7 @@ use Rattle.exact.proofs.Coordinates.{product-most, quotient-most, produ
 module _ (r₁ r₂ D : ℕ) (P₁ : 1 ≤ r₁) (L₁ : r₁ ≤ 20000) (P₂ : 1 ≤ r₂) (L₂ : r₂ ≤ 20000) (low : gap r₁ r₂ * gap r₁ r₂ < D) (high : D < (r₁ + r₂) * (r₁ + r₂)) where
   -- ---- the distance
 
+  -- D is below s², and s at most 40000
   far : D ≤ 1600000000
   far = omega (arith, mul-le-mul {n₁ = r₁ + r₂} {m₁ = r₁ + r₂} {n₂ = 40000} {m₂ = 40000} (omega arith) (omega arith))
 
@@ -48,6 +49,7 @@ module _ (r₁ r₂ D : ℕ) (P₁ : 1 ≤ r₁) (L₁ : r₁ ≤ 20000) (P₂ :
       go (inl h) = absurd (omega (arith, mul-le-mul h h, q-floor .least, high))
       go (inr h) = h
 
+  -- so that the distance lies between q and q + 1
   d-least : q * margin ≤ mag d
   d-least = root-at-least-fine D D-below q (omega (arith, q-most)) (q-floor .least)
 
@@ -103,6 +105,7 @@ module _ (r₁ r₂ D : ℕ) (P₁ : 1 ≤ r₁) (L₁ : r₁ ≤ 20000) (P₂ :
           let f = result-finite (le-refl 1) r (bound-digits 1054 few) up down (bound-limit few (omega arith)) in
           record { finite = f; bound = result-le (le-refl 1) r (bound-digits 1054 few) up down f }
 
+  -- 2 d is at least 2 q / 2 ^ 37
   two-whole : Is two64 2
   two-whole = rw two-is (whole-is 2 (omega arith))
 

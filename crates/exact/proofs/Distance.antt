@@ -34,6 +34,7 @@ pub record Is (x : Float) (n : ℕ) : Type 0 where
   pub up : plus x ≡ n * one
   pub down : minus x ≡ 0
 
+-- a whole number up to 2 ^ 53 is so, and its size
 pub whole-is : (n : ℕ) → n ≤ 2 ^ 53 → Is (ofInt binary64 (pos n)) n
 whole-is n h =
     let u = ofInt-units n h in
@@ -76,6 +77,7 @@ distance-is {a} {b} la lb L =
     refl
 
 module _ (D : ℕ) (L : D < 2 ^ 32) where
+  -- D is exact; its root is finite and not below zero
   radicand : Is (ofInt binary64 (pos D)) D
   radicand = whole-is D (omega arith)
 
@@ -92,7 +94,7 @@ module _ (D : ℕ) (L : D < 2 ^ 32) where
   pub root-most : Most (2 ^ 16) 1074 (rootOf D)
   root-most = record { finite = root-is-finite; bound = whole-le (radicand .finite) (radicand .down) D (is-mag radicand) (2 ^ 16) (omega arith) (omega arith) }
 
-  -- against a whole number n
+  -- against a whole number n: at most n, at least n, beyond n and short of n by the margin, as D and n² compare
   module _ (n : ℕ) (N : n ≤ 2 ^ 16 - 1) where
     pub root-at-most : D ≤ n * n → mag (rootOf D) ≤ n * one
     root-at-most h = whole-le (radicand .finite) (radicand .down) D (is-mag radicand) n (omega arith) h
@@ -110,7 +112,7 @@ module _ (D : ℕ) (L : D < 2 ^ 32) where
         le-trans (omega arith)
         (shortfall (radicand .finite) (radicand .down) D (is-mag radicand) n 1 37 1037 refl (omega arith) (omega arith) (omega arith))
 
-  -- against v / 2 ^ 37
+  -- against v / 2 ^ 37, as D * 2 ^ 74 and v² compare
   module _ (v : ℕ) (few : v ≤ 2 ^ 53) where
     -- both squares, in units of 2 ^ -37 squared
     squares : (mag (ofInt binary64 (pos D)) * one ≡ D * 2 ^ 74 * (margin * margin)) × (v * margin * (v * margin) ≡ v * v * (margin * margin))

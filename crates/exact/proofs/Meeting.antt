@@ -48,11 +48,13 @@ leg-of D L u v p q h =
       within = root-at-least D L (natAbs (u -ℤ v)) (omega arith) h;
     })
 
+-- and so is what it is below zero
 pub leg-neg : {Δ d : Float} {m : ℕ} → Leg Δ d m → Leg (neg Δ) d m
 leg-neg {Δ} g = record { finite = neg-finite (g .finite); size = neg-mag Δ ∙ g .size; small = g .small; within = g .within }
 
 -- ---- one point or two
 
+-- equal in both coordinates: one; different in one of them: two
 one-of : (p q : Point) → eq (p .x) (q .x) ≡ true → eq (p .y) (q .y) ≡ true → distinct p q ≡ p ∷ []
 one-of p q e f = ap₂ (λ (i j : Bool). cond (i && j) (p ∷ []) (p ∷ q ∷ [])) e f
 

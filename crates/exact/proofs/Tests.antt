@@ -44,6 +44,7 @@ lt-as {x} {y} h k p q f g = go (lt-or-ge p q)
     go (inr l) = not-lt-of-units h k (g l) ∙ sym (le-ltb p q l)
 
 module _ (D n : ℕ) (L : D < 2 ^ 32) (N : n ≤ 2 ^ 16 - 1) where
+  -- both as floats
   w : Is (ofInt binary64 (pos n)) n
   w = whole-is n (omega arith)
 
@@ -79,6 +80,7 @@ absolute-ofInt (negsuc n) h =
     sym (absolute-of-negative (ofInt binary64 (negsuc n)) (ofInt-sign (negsuc n) h))
     ∙ same-float (neg-finite f) (ofInt-finite (pos (suc n)) h) (neg-sign f ∙ ap not (ofInt-sign (negsuc n) h) ∙ sym (ofInt-sign (pos (suc n)) h)) (neg-mag (ofInt binary64 (negsuc n)) ∙ ofInt-mag (negsuc n) h ∙ sym (ofInt-mag (pos (suc n)) h))
 
+-- the floats' sum and the size of their difference are those of the whole numbers
 module _ (r₁ r₂ : ℕ) (L₁ : r₁ ≤ 20000) (L₂ : r₂ ≤ 20000) where
   pub sum-is : add binary64 (ofInt binary64 (pos r₁)) (ofInt binary64 (pos r₂)) ≡ ofInt binary64 (pos (r₁ + r₂))
   sum-is = add-ofInt (pos r₁) (pos r₂) (omega arith) (omega arith)
@@ -244,6 +246,7 @@ module _ {a b : Head} (la : InLimits a) (lb : InLimits b) (L : squaredDistance a
   pub intersects-is : circle.intersects (circleOf a) (circleOf b) ≡ (ltb D (s * s) && ltb (t * t) D)
   intersects-is = ap₂ (λ (i j : Bool). i && j) (ap₂ lt (distance-is la lb L) sum ∙ above-root D s L s-most) (ap₂ lt difference (distance-is la lb L) ∙ below-root D t L t-most)
 
+  -- a contains b: rA ≥ rB and D ≤ (rA - rB)²
   pub contains-heads : circle.contains (circleOf a) (circleOf b) ≡ containsOf a b
   contains-heads =
       ap₂ le (ap₂ (λ (x : Float) (z : ℤ). add binary64 x (ofInt binary64 z)) (distance-is la lb L) (lb .whole)) (ap (λ (z : ℤ). ofInt binary64 z) (la .whole))

@@ -17,7 +17,7 @@ use Rattle.heads.specs.declared.Head.{Head}
 use Rattle.heads.specs.declared.Relation.{Relation}
 use Rattle.heads.specs.declared.Relation.the-variants.{Apart, TouchingOutside, Crossing, TouchingInside, Holding, Identical}
 use Rattle.heads.specs.Relation.{gap, identical, relation, meets, meeting, touching, points}
-use Rattle.heads.specs.Cases.{Case, gap-le, gap-zero, relation-is, case-of, meets-relation, meetsOnce-relation, meets-facts}
+use Rattle.heads.specs.Cases.{Case, gap-le, gap-square-le, gap-zero, relation-is, case-of, meets-relation, meetsOnce-relation, meets-facts}
 use Rattle.heads.specs.Pair.{squaredDistance, radiusOf, relationOf, meetsOf, meetsOnceOf}
 use Rattle.heads.specs.Distance.{InLimits, limits-of, distance-fits, meetsOf-comm}
 use Rattle.binary64.specs.Units.{one}
@@ -26,6 +26,7 @@ use Rattle.binary64.proofs.Naturals.{lt-or-ge}
 use Rattle.binary64.proofs.Whole.{ofInt-sign, ofInt-most, ofInt-least}
 use Rattle.geometry.specs.declared.point.Point.{Point}
 use Rattle.geometry.specs.Circle as circle
+use Rattle.geometry.specs.Meeting.{number-of-points}
 use Rattle.geometry.specs.Point.{at, distance}
 use Rattle.exact.specs.Circle.{circleOf}
 use Rattle.exact.specs.Decisions.{IsDrawn, DecidesExactly, StaysBounded, NoPointsUnlessMet, sum, difference}
@@ -43,6 +44,7 @@ touch-inside a b t (inr e) = inr (omega (arith, ap (λ (k : ℕ). k * k) e))
 
 -- ---- the tests before the points
 
+-- c are the points, i and o the tests that turn the circles away: identical, and not met
 module _ (c : List Point) where
   none-chosen : (i o : Bool) → (i ≡ true) ⊎ (o ≡ true) → Found (cond i [] (cond o [] c)) 0
   none-chosen true o h = record { count = refl; placed = tt }
@@ -77,47 +79,52 @@ module _ {a b : Head} (la : InLimits a) (lb : InLimits b) (L : squaredDistance a
   abbrev t : ℕ
   t = difference a b
 
-  -- the circle of a head, its radius as a natural number
-  abbrev crossing : List Point
-  crossing = circle.crossing (circle.around (at (ofInt binary64 (a .x)) (ofInt binary64 (a .y))) (ofInt binary64 (pos r₁))) (circle.around (at (ofInt binary64 (b .x)) (ofInt binary64 (b .y))) (ofInt binary64 (pos r₂))) (rootOf D)
+  -- `crossing` of the two circles, with the radii as the integers u and v
+  abbrev crossingOf : ℤ → ℤ → List Point
+  crossingOf u v = circle.crossing (circle.around (at (ofInt binary64 (a .x)) (ofInt binary64 (a .y))) (ofInt binary64 u)) (circle.around (at (ofInt binary64 (b .x)) (ofInt binary64 (b .y))) (ofInt binary64 v)) (rootOf D)
 
-  points-are : circle.intersectionPoints (circleOf a) (circleOf b) ≡ cond (identical D r₁ r₂) [] (cond (ltb (s * s) D || ltb D (t * t)) [] crossing)
+  abbrev crossing : List Point
+  crossing = crossingOf (pos r₁) (pos r₂)
+
+  -- D > s² or D < t²
+  abbrev missing : Bool
+  missing = ltb (s * s) D || ltb D (t * t)
+
+  -- the meeting points, with the tests on whole numbers
+  abbrev pointsBy : List Point
+  pointsBy = cond (identical D r₁ r₂) [] (cond missing [] crossing)
+
+  points-are : circle.intersectionPoints (circleOf a) (circleOf b) ≡ pointsBy
   points-are =
       ap (λ (d : Float). cond (circle.identical (circleOf a) (circleOf b)) [] (cond (circle.apart (circleOf a) (circleOf b) d) [] (circle.crossing (circleOf a) (circleOf b) d))) (distance-is la lb L)
-      ∙ ap₂ (λ (i o : Bool). cond i [] (cond o [] (circle.crossing (circleOf a) (circleOf b) (rootOf D)))) (identical-is la lb L) (apart-is la lb L)
-      ∙ ap₂
-      (λ (u v : ℤ). cond (identical D r₁ r₂) []
-      (cond (ltb (s * s) D || ltb D (t * t)) [] (circle.crossing (circle.around (at (ofInt binary64 (a .x)) (ofInt binary64 (a .y))) (ofInt binary64 u)) (circle.around (at (ofInt binary64 (b .x)) (ofInt binary64 (b .y))) (ofInt binary64 v)) (rootOf D))))
-      (la .whole) (lb .whole)
+      ∙ ap₂ (λ (i o : Bool). cond i [] (cond o [] (crossingOf (a .radius) (b .radius)))) (identical-is la lb L) (apart-is la lb L)
+      ∙ ap₂ (λ (u v : ℤ). cond (identical D r₁ r₂) [] (cond missing [] (crossingOf u v))) (la .whole) (lb .whole)
 
-  -- neither apart nor one within the other
-  within : t * t ≤ D → D ≤ s * s → (ltb (s * s) D || ltb D (t * t)) ≡ false
-  within h k = ap₂ (λ (p q : Bool). p || q) (le-ltb (s * s) D k) (le-ltb D (t * t) h)
-
-  t-below : t * t ≤ s * s
-  t-below = mul-le-mul (gap-le r₁ r₂) (gap-le r₁ r₂)
-
+  -- one point where the circles touch
   found-touch : (n : ℕ) → D ≡ n * n → 1 ≤ n → n ≤ 40000 → (r₁ * r₁ + n * n ≡ r₂ * r₂ + 2 * (r₁ * n)) ⊎ (r₂ * r₂ ≡ r₁ * r₁ + n * n + 2 * (r₁ * n)) → Found crossing 1
   found-touch n e p q h =
       found-touching (a .x) (a .y) (b .x) (b .y) (la .x) (la .y) (lb .x) (lb .y) r₁ r₂ (la .least) (la .most) (lb .least) (lb .most) L (omega (arith, mul-le-mul p p)) n e p q h
 
+  -- two where they cross
   found-cross : t * t < D → D < s * s → Found crossing 2
   found-cross h k =
       found-crossed (a .x) (a .y) (b .x) (b .y) (la .x) (la .y) (lb .x) (lb .y) r₁ r₂ (la .least) (la .most) (lb .least) (lb .most) L (omega arith) h k
 
-  found-in : (r : Relation) → Case r D r₁ r₂ → Found (cond (identical D r₁ r₂) [] (cond (ltb (s * s) D || ltb D (t * t)) [] crossing)) (points r)
-  found-in Apart h = none-chosen crossing (identical D r₁ r₂) (ltb (s * s) D || ltb D (t * t)) (inr (ap (λ (p : Bool). p || ltb D (t * t)) (lt-ltb (s * s) D h)))
+  -- either is met, since no test before turns it away
+  met : {n : ℕ} → 0 < D → t * t ≤ D → D ≤ s * s → Found crossing n → Found pointsBy n
+  met z h k f = chosen crossing (identical D r₁ r₂) missing (not-identical D r₁ r₂ z) (ap₂ (λ (p q : Bool). p || q) (le-ltb (s * s) D k) (le-ltb D (t * t) h)) f
+
+  -- in each case of the relation as many points as it has
+  found-in : (r : Relation) → Case r D r₁ r₂ → Found pointsBy (points r)
+  found-in Apart h = none-chosen crossing (identical D r₁ r₂) missing (inr (ap (λ (p : Bool). p || ltb D (t * t)) (lt-ltb (s * s) D h)))
   found-in TouchingOutside h =
-      chosen crossing (identical D r₁ r₂) (ltb (s * s) D || ltb D (t * t)) (not-identical D r₁ r₂ (omega arith)) (within (omega arith) (le-of-eq (h .1)))
-      (found-touch s (h .1) (omega (arith, la .least)) (omega (arith, la .most, lb .most)) (inl (omega arith)))
-  found-in Crossing h =
-      chosen crossing (identical D r₁ r₂) (ltb (s * s) D || ltb D (t * t)) (not-identical D r₁ r₂ (omega arith)) (within (omega arith) (omega arith))
-      (found-cross (h .0) (h .1))
+      met (omega arith) (omega arith) (le-of-eq (h .1)) (found-touch s (h .1) (omega (arith, la .least)) (omega (arith, la .most, lb .most)) (inl (omega arith)))
+  found-in Crossing h = met (omega arith) (omega arith) (omega arith) (found-cross (h .0) (h .1))
   found-in TouchingInside h =
-      chosen crossing (identical D r₁ r₂) (ltb (s * s) D || ltb D (t * t)) (not-identical D r₁ r₂ (omega (arith, mul-le-mul (h .0) (h .0)))) (within (le-of-eq (sym (h .1))) (le-trans (le-of-eq (h .1)) t-below))
+      met (omega (arith, mul-le-mul (h .0) (h .0))) (le-of-eq (sym (h .1))) (le-trans (le-of-eq (h .1)) (gap-square-le r₁ r₂))
       (found-touch t (h .1) (h .0) (omega (arith, gap-le r₁ r₂, la .most, lb .most)) (touch-inside r₁ r₂ t (gap-either r₁ r₂)))
-  found-in Holding h = none-chosen crossing (identical D r₁ r₂) (ltb (s * s) D || ltb D (t * t)) (inr (ap (λ (p : Bool). ltb (s * s) D || p) (lt-ltb D (t * t) h) ∙ or-true (ltb (s * s) D)))
-  found-in Identical h = none-chosen crossing (identical D r₁ r₂) (ltb (s * s) D || ltb D (t * t)) (inl (ap₂ (λ (p q : Bool). p && q) (eq-eqb D 0 (h .0)) (eq-eqb r₁ r₂ (h .1))))
+  found-in Holding h = none-chosen crossing (identical D r₁ r₂) missing (inr (ap (λ (p : Bool). ltb (s * s) D || p) (lt-ltb D (t * t) h) ∙ or-true (ltb (s * s) D)))
+  found-in Identical h = none-chosen crossing (identical D r₁ r₂) missing (inl (ap₂ (λ (p q : Bool). p && q) (eq-eqb D 0 (h .0)) (eq-eqb r₁ r₂ (h .1))))
 
   -- as many points as the relation has, each placed
   found : Found (circle.intersectionPoints (circleOf a) (circleOf b)) (points (relationOf a b))
@@ -129,6 +136,7 @@ module _ {a b : Head} (la : InLimits a) (lb : InLimits b) (L : squaredDistance a
 abbrev Counted : List Point → Bool → Bool → Type 0
 Counted l m o = ((l ≡ []) ↔ (m ≡ false)) × ((length l ≡ 1) ↔ (o ≡ true)) × ((length l ≡ 2) ↔ ((m ≡ true) × (o ≡ false)))
 
+-- it counts as the relation says
 module _ (l : List Point) where
   no-points : length l ≡ 0 → Counted l false false
   no-points e = ((λ _. refl, λ _. empty l e), (λ h. absurd (omega arith), λ h. absurd (false≢true h)), (λ h. absurd (omega arith), λ h. absurd (false≢true (h .0))))
@@ -195,6 +203,7 @@ is-drawn h t =
 pub decides-exactly : DecidesExactly
 decides-exactly a b ha hb = record {
   count = f .count;
+  answer = λ m h. number-of-points m ∙ ap length h ∙ f .count;
   none = c .0;
   one = c .1;
   two = c .2;

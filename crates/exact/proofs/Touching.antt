@@ -26,6 +26,7 @@ use Rattle.exact.proofs.Coordinates.{product-most, quotient-most}
 
 module _ (r₁ r₂ n : ℕ) (L₁ : r₁ ≤ 20000) (L₂ : r₂ ≤ 20000) (N : 1 ≤ n) (M : n ≤ 40000)
     (touch : (r₁ * r₁ + n * n ≡ r₂ * r₂ + 2 * (r₁ * n)) ⊎ (r₂ * r₂ ≡ r₁ * r₁ + n * n + 2 * (r₁ * n))) where
+  -- n² and 2 n
   d-squared : Is (mul binary64 (float n) (float n)) (n * n)
   d-squared = rw (mul-ofInt-pos n n (omega arith) (omega arith)) (whole-is (n * n) (omega (arith, mul-le-mul M M)))
 
@@ -62,6 +63,7 @@ module _ (r₁ r₂ n : ℕ) (L₁ : r₁ ≤ 20000) (L₂ : r₂ ≤ 20000) (N 
   quotient : mag numerator * one ≡ r₁ * one * mag (mul binary64 two64 (float n))
   quotient = rw (numerator-exact .size, is-mag d-twice) (omega arith)
 
+  -- the foot's distance along, and its size
   pub along-most : Most r₁ 1074 (along r₁ r₂ (float n))
   along-most = quotient-most (numerator-exact .finite) (d-twice .finite) (omega arith) (omega arith) d-twice-pos (le-of-eq quotient)
 
@@ -95,6 +97,7 @@ module _ (r₁ r₂ n : ℕ) (L₁ : r₁ ≤ 20000) (L₂ : r₂ ≤ 20000) (N 
       let a = square-is r₁ L₁ in
       exact (rw (a .up, a .down, squared-is .up, squared-is .down) at (sub-result (a .finite) (squared-is .finite))) (bound-digits 1074 (omega arith)) (bound-limit {j = 0} (omega arith) (omega arith)) (inl (omega arith))
 
+  -- so its root is a zero
   pub across-none : Most 0 1074 (across r₁ (along r₁ r₂ (float n)))
   across-none = record {
     finite = root-finite nothing (nothing-exact .finite .fit);

@@ -17,6 +17,8 @@ use Rattle.binary64.specs.Units.{negative}
 use Rattle.binary64.specs.Functions.{absolute}
 use Rattle.binary64.specs.Magnitude.{Most, Least}
 use Rattle.geometry.specs.declared.circle.Circle.{Circle}
+use Rattle.geometry.specs.declared.meeting.Meeting.{Meeting}
+use Rattle.geometry.specs.Meeting as meeting
 use Rattle.geometry.specs.Floats.{_+ᶠ_, _-ᶠ_, _≤ᶠ_}
 use Rattle.geometry.specs.Point.{distance}
 use Rattle.geometry.specs.Circle.{contains, intersects, intersectionPoints}
@@ -42,6 +44,8 @@ difference a b = gap (radiusOf a) (radiusOf b)
 pub record Decided (a b : Head) : Type 0 where
   -- as many meeting points as the relation has: none, one or two
   pub count : length (intersectionPoints (circleOf a) (circleOf b)) ≡ points (relationOf a b)
+  -- and so the answer of `intersection_points`: the number of its case, None, One or Two, is that of the relation
+  pub answer : (m : Meeting) → meeting.points m ≡ intersectionPoints (circleOf a) (circleOf b) → meeting.number m ≡ points (relationOf a b)
   -- "Two heads meet exactly if t² ≤ D ≤ s² and they are not identical."
   pub none : (intersectionPoints (circleOf a) (circleOf b) ≡ []) ↔ (meetsOf a b ≡ false)
   -- "One point exactly if also D = t² or D = s²,
