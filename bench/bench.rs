@@ -7,6 +7,8 @@ use std::time::Instant;
 extern "C" {
     fn watered_root(x: f64) -> f64;
     fn watered_hypot(a: f64, b: f64) -> f64;
+    fn watered_sin(v: f64) -> f64;
+    fn watered_cos(v: f64) -> f64;
 }
 
 extern "C" fn machine_root(x: f64) -> f64 {
@@ -17,6 +19,22 @@ extern "C" fn machine_hypot(a: f64, b: f64) -> f64 {
     a.hypot(b)
 }
 
+extern "C" fn machine_sin(v: f64) -> f64 {
+    v.sin()
+}
+
+extern "C" fn machine_cos(v: f64) -> f64 {
+    v.cos()
+}
+
+extern "C" fn ours_sin(v: f64) -> f64 {
+    unsafe { watered_sin(v) }
+}
+
+extern "C" fn ours_cos(v: f64) -> f64 {
+    unsafe { watered_cos(v) }
+}
+
 extern "C" fn ours_root(x: f64) -> f64 {
     unsafe { watered_root(x) }
 }
@@ -25,13 +43,13 @@ extern "C" fn ours_hypot(a: f64, b: f64) -> f64 {
     unsafe { watered_hypot(a, b) }
 }
 
-// Inputs spread over the squared distances and coordinates of a plan.
-fn inputs() -> Vec<f64> {
+// 4096 numbers evenly spread from low to high.
+fn spread(low: f64, high: f64) -> Vec<f64> {
     let mut state = 0x9E37_79B9_7F4A_7C15u64;
     (0..4096)
         .map(|_| {
             state = state.wrapping_mul(6364136223846793005).wrapping_add(1442695040888963407);
-            (state >> 33) as f64 / 64.0
+            low + (high - low) * ((state >> 11) as f64 / (1u64 << 53) as f64)
         })
         .collect()
 }
@@ -81,7 +99,12 @@ fn show(name: &str, ours: (f64, f64), machine: (f64, f64)) {
 
 fn main() {
     let calls = 1_000_000 * std::env::args().nth(1).and_then(|a| a.parse::<u64>().ok()).expect("how many million calls");
-    let xs = inputs();
-    show("root", one(ours_root, &xs, calls), one(machine_root, &xs, calls));
-    show("hypot", two(ours_hypot, &xs, calls), two(machine_hypot, &xs, calls));
+    // squared distances, coordinate differences and angles of plans
+    let squares = spread(0.0, 3.2e9);
+    let differences = spread(-40000.0, 40000.0);
+    let angles = spread(-7.0, 7.0);
+    show("root", one(ours_root, &squares, calls), one(machine_root, &squares, calls));
+    show("hypot", two(ours_hypot, &differences, calls), two(machine_hypot, &differences, calls));
+    show("sin", one(ours_sin, &angles, calls), one(machine_sin, &angles, calls));
+    show("cos", one(ours_cos, &angles, calls), one(machine_cos, &angles, calls));
 }

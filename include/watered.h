@@ -14,6 +14,11 @@ double watered_root(double x);
 /* watered_root(a * a + b * b), each step rounded. */
 double watered_hypot(double a, double b);
 
+/* Sine and cosine for |v| <= 16: within 2^-40 of the first 40 terms of the Taylor series at v, and in -1 to 1. Any other v,
+ * NaN and infinities included, gives +0. */
+double watered_sin(double v);
+double watered_cos(double v);
+
 #ifdef __cplusplus
 }
 #endif

@@ -1,4 +1,4 @@
-// Ordered pairs of circles by category, the same in every run: random ones, and those on which rounding could change an answer.
+// Pairs of circles by category and seed: random ones, and those on which rounding could change an answer.
 
 #[derive(Clone, Copy, PartialEq)]
 pub struct Head {
@@ -8,9 +8,18 @@ pub struct Head {
 }
 
 // xorshift64*
-pub struct Random(pub u64);
+pub struct Random(u64);
 
 impl Random {
+    // The numbers of a seed, another row of them for each category.
+    pub fn of(seed: u64, category: usize) -> Self {
+        let mut random = Random(seed.wrapping_mul(0x9E37_79B9_7F4A_7C15) ^ (category as u64 + 1) << 32 | 1);
+        for _ in 0..16 {
+            random.next();
+        }
+        random
+    }
+
     pub fn next(&mut self) -> u64 {
         self.0 ^= self.0 >> 12;
         self.0 ^= self.0 << 25;

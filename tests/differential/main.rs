@@ -1,5 +1,6 @@
 // The differential run: the Rust's files as modules of this program, and our functions beside them.
-// main COUNT compares on about COUNT ordered pairs of circles; main list N prints the Rust's answers for N of them.
+// `differential COUNT SEED` compares on about COUNT ordered pairs of circles; `differential list COUNT SEED` prints the Rust's
+// answers for so many. What is compared stands in a file of its own (pairs.rs), with the exports of crate `probe` that it calls.
 
 #[allow(dead_code)]
 mod constants;
@@ -46,13 +47,14 @@ mod whole;
 
 fn main() {
     let words: Vec<String> = std::env::args().skip(1).collect();
-    let count = |i: usize| words.get(i).and_then(|w| w.parse().ok()).expect("how many");
+    let number = |i: usize| words.get(i).and_then(|w| w.parse().ok()).expect("a count and a seed");
     if words[0] == "list" {
-        pairs::list(count(1));
+        pairs::list(number(1), number(2));
         return;
     }
     whole::answers();
     let mut tally = tally::Tally::new();
-    pairs::compare(count(0), &mut tally);
+    println!("seed {}", number(1));
+    pairs::compare(number(0), number(1), &mut tally);
     tally.end();
 }

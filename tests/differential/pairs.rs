@@ -78,6 +78,20 @@ fn intersection_points(tally: &mut Tally, a: Head, b: Head, theirs: &[Point]) {
     }
 }
 
+// Document 01's facts to hold, over whole numbers: in how many points two heads of the domain meet, and whether a contains b.
+fn by_whole_numbers(a: Head, b: Head) -> Option<(u64, u64)> {
+    let numbers = [a.x, a.y, a.r, b.x, b.y, b.r];
+    if numbers.iter().any(|&n| (n as i64) as f64 != n || n.abs() > 20000.0) {
+        return None;
+    }
+    let [x1, y1, r1, x2, y2, r2] = numbers.map(|n| n as i64);
+    let (squared, sum, difference) = ((x1 - x2) * (x1 - x2) + (y1 - y2) * (y1 - y2), r1 + r2, r1 - r2);
+    let meet = difference * difference <= squared && squared <= sum * sum && a != b;
+    let touch = squared == difference * difference || squared == sum * sum;
+    let contains = r1 >= r2 && squared <= difference * difference;
+    Some((if !meet { 0 } else if touch { 1 } else { 2 }, contains as u64))
+}
+
 fn pair(tally: &mut Tally, a: Head, b: Head) {
     let input = || words(&[a.x, a.y, a.r, b.x, b.y, b.r]);
     let (first, second) = (circle(a), circle(b));
@@ -93,6 +107,11 @@ fn pair(tally: &mut Tally, a: Head, b: Head) {
     tally.whole("intersects", ours as u64, first.intersects(&second) as u64, input);
     let points = first.intersection_points(&second);
     intersection_points(tally, a, b, &points);
+    if let Some((number, contained)) = by_whole_numbers(a, b) {
+        let ours = unsafe { probe_intersection_points(a.x, a.y, a.r, b.x, b.y, b.r) };
+        tally.whole("how many points, against whole numbers", ours.number as u64, number, input);
+        tally.whole("contains, against whole numbers", first.contains(&second) as u64, contained, input);
+    }
     contains_point(tally, a, second.center());
     for p in &points {
         contains_point(tally, a, p);
@@ -101,9 +120,9 @@ fn pair(tally: &mut Tally, a: Head, b: Head) {
 }
 
 // Each pair that a category makes is compared in both orders.
-pub fn compare(count: u64, tally: &mut Tally) {
-    let mut random = Random(0x9E37_79B9_7F4A_7C15);
-    for category in &CATEGORIES {
+pub fn compare(count: u64, seed: u64, tally: &mut Tally) {
+    for (i, category) in CATEGORIES.iter().enumerate() {
+        let mut random = Random::of(seed, i);
         tally.begin(category.name);
         for _ in 0..(count * category.share / 200).max(1) {
             let (a, b) = (category.pair)(&mut random);
@@ -116,9 +135,9 @@ pub fn compare(count: u64, tally: &mut Tally) {
 
 // The Rust's answers as lines for the crate `replay`, whose file pair.rt says how a line reads. Circles that are identical, and
 // pairs with a NaN or an infinity, have no line.
-pub fn list(count: u64) {
-    let mut random = Random(0xD1B5_4A32_D192_ED03);
-    for category in &CATEGORIES {
+pub fn list(count: u64, seed: u64) {
+    for (i, category) in CATEGORIES.iter().enumerate() {
+        let mut random = Random::of(seed, i);
         for _ in 0..(count * category.share / 200).max(1) {
             let (a, b) = (category.pair)(&mut random);
             list_pair(a, b);

@@ -1,7 +1,7 @@
 #!/usr/bin/env python3
-"""scan.py ASSEMBLY UNDEFINED: whatever the Rust's program takes from outside (UNDEFINED: what `nm -u` prints of its object)
-must be one of ours, the memory's or the runtime's, or fmod, which is exact; and its assembly may hold no square root
-instruction. Prints what it found, and fails on anything else."""
+"""scan.py WHOSE ASSEMBLY UNDEFINED: whatever WHOSE code takes from outside (UNDEFINED: what `nm -u` prints of its object) must be
+one of ours, the memory's or the runtime's, or fmod, which is exact; and its assembly may hold no square root instruction.
+Prints what it found, and fails on anything else."""
 import re
 import sys
 
@@ -11,13 +11,13 @@ RUNTIME = re.compile(r"mem(cpy|move|set|cmp)|bcmp|_Unwind_Resume|rust_eh_persona
 
 
 def main() -> None:
-    roots = re.findall(r"^\s+v?r?sqrt[sp][sd]\b.*", open(sys.argv[1]).read(), re.M)
-    taken = {line.split()[-1] for line in open(sys.argv[2]) if line.strip()}
+    whose, assembly, undefined = sys.argv[1:]
+    roots = re.findall(r"\bv?r?sqrt[sp][sd]\b.*", open(assembly).read())
+    taken = {line.split()[-1] for line in open(undefined) if re.match(r"\s+U\s", line)}
     ours = sorted(name for name in taken if OURS.fullmatch(name))
-    rest = taken - set(ours) - EXACT
-    strange = sorted(name for name in rest if not RUNTIME.fullmatch(name))
-    print(f"the Rust's program calls {', '.join(ours)}; of the machine's functions {', '.join(taken & EXACT) or 'none'}")
-    if strange or roots or not ours:
+    strange = sorted(name for name in taken - set(ours) - EXACT if not RUNTIME.fullmatch(name))
+    print(f"{whose} calls of ours: {', '.join(ours) or 'none'}; of the machine's functions: {', '.join(taken & EXACT) or 'none'}")
+    if strange or roots:
         sys.exit(f"left of the machine's own functions: {strange + roots}")
 
 

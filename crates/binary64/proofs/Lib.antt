@@ -8,3 +8,6 @@ pub mod Magnitude
 pub mod Error
 pub mod Whole
 pub mod Functions
+pub mod Remainder
+pub mod Constants
+mod Examples

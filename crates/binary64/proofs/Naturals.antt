@@ -1,11 +1,12 @@
 -- Facts about natural numbers and tests that the other files share. Nothing here is about floats.
 use mathlib.Core.Path.{_≡_, refl, sym, ap, _∙_}
-use mathlib.Core.Logic.{_⊎_, inl, inr}
+use mathlib.Core.Logic.{_⊎_, inl, inr, ⊎-elim}
 use native.Mathlib.Omega.{arith}
 use Prim.Native.Nat.{ℕ, _+_, _*_, _^_, _≤_, _<_}
-use native.Mathlib.Nat.{lt-of-mul-lt-mul-right, mul-lt-mul-of-pos-right, eq-of-mul-eq-mul-right, le-of-suc-le-suc, lt-of-not-le, not-le-of-lt}
-use mathlib.Core.Bool.{Bool, true, false, not, _&&_}
+use native.Mathlib.Nat.{le-of-lt, le-of-eq, le-antisymm, lt-of-mul-lt-mul-right, mul-lt-mul-of-pos-right, eq-of-mul-eq-mul-right, le-of-suc-le-suc, lt-of-not-le, not-le-of-lt}
+use mathlib.Core.Bool.{Bool, true, false, not, _&&_, _||_}
 use lib.Dec.{T, leb, leb→le, le→leb, eqb, eqb→eq, lt→ltb, ltb, ltb→lt, nltb→le}
+use lib.Ieee.Bits.{is-true, is-false}
 use lib.Ieee.Fits.{eq→eqb, and-i, and-l, and-r}
 use lib.Arith.{le→nltb}
 use lib.Pow.{pow-lt, pow-mono}
@@ -25,6 +26,7 @@ same-test true false f g = absurd (f tt)
 same-test false true f g = absurd (g tt)
 same-test false false f g = refl
 
+-- powers of two are in the order of their exponents
 pub pow-le-back : (a l : ℕ) → 2 ^ a ≤ 2 ^ l → a ≤ l
 pow-le-back a l h = le-of-suc-le-suc (lt-of-not-le (λ (g : l < a). not-le-of-lt (pow-lt g) h))
 
@@ -64,3 +66,13 @@ both-zero a b =
 
     parts : (a b : ℕ) → a + b ≡ 0 → (a ≡ b) × (a ≡ 0)
     parts a b p = omega arith
+
+-- a ≤ b is a < b or a = b, as tests
+pub lt-or-eq : (a b : ℕ) → (ltb a b || eqb a b) ≡ leb a b
+lt-or-eq a b = ⊎-elim less others (lt-or-ge a b)
+  where
+    less : a < b → (ltb a b || eqb a b) ≡ leb a b
+    less l = rw (is-true (ltb a b) (lt→ltb a b l), is-true (leb a b) (le→leb a b (le-of-lt l)))
+
+    others : b ≤ a → (ltb a b || eqb a b) ≡ leb a b
+    others g = rw (is-false (ltb a b) (le→nltb a b g)) (same-test (eqb a b) (leb a b) (λ t. le→leb a b (le-of-eq (eqb→eq a b t))) (λ t. eq→eqb (le-antisymm (leb→le a b t) g)))

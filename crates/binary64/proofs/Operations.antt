@@ -1,21 +1,23 @@
 -- What +, -, * and / give in units: each is the `Result` of a signed fraction, and three laws say of every `Result` that it is `Rounded`, when it is
 -- finite, and how large it is. Then the magnitude and the sign of a product and a quotient. Rests on Units, Rounding and lib.Ieee.{Exact, Scale}.
-use mathlib.Core.Path.{_≡_, refl, sym, ap, _∙_, subst}
+use mathlib.Core.Path.{_≡_, refl, sym, ap, ap₂, _∙_, subst}
 use Prim.Native.Nat.{ℕ, _+_, _-_, _*_, _/_, _^_, _≤_, _<_}
-use native.Mathlib.Nat.{le-trans, le-of-eq, lt-of-le-of-lt, mul-one, mul-assoc, mul-pos}
+use native.Mathlib.Nat.{le-trans, le-of-eq, lt-of-le-of-lt, lt-of-lt-of-le, add-zero, zero-add, sub-eq-zero-of-le, mul-one, mul-assoc, mul-pos}
 use native.Mathlib.Omega.{arith}
-use mathlib.Core.Bool.{Bool, true, false, not, cond, true≢false, false≢true}
+use mathlib.Core.Bool.{Bool, true, false, not, _&&_, cond, true≢false, false≢true}
 use lib.Dec.{T, ltb, ltb→lt, nltb→le}
+use lib.Arith.{le→nltb}
+use lib.Ieee.Bits.{is-false}
 use lib.Ieee.{Float, inf, binary64, up, down, unlike, fits, odd, units, round, sum, add, sub, mul, div, neg}
 use lib.Ieee.Exact.{HasValue, units-val}
 use lib.Ieee.Fits.{round-is, round-fits}
 use lib.Ieee.Order.{drop, kept}
 use lib.Ieee.Scale.{finite, round-same}
-use Rattle.binary64.specs.Units.{one, limit, Finite, mag, negative, plus, minus, Digits53}
+use Rattle.binary64.specs.Units.{one, limit, Finite, mag, negative, plus, minus, ofUnits, signedZero, Digits53}
 use Rattle.binary64.specs.Rounding.{rnd, Rounded, Result}
 use Rattle.binary64.proofs.Values.{add-values, mul-values, div-values}
-use Rattle.binary64.proofs.Units.{mag-value, one-is, one-pos, limit-pow, value-mag, value-sign, value-finite, plus-is, minus-is, plus-sign, minus-sign, neg-finite, neg-plus, neg-minus}
-use Rattle.binary64.proofs.Rounding.{rnd-is, rnd-same, rnd-le, rnd-zero}
+use Rattle.binary64.proofs.Units.{is-ofUnits, ofUnits-zero, mag-value, one-is, one-pos, limit-pow, value-mag, value-sign, value-finite, plus-is, minus-is, plus-sign, minus-sign, neg-finite, neg-plus, neg-minus}
+use Rattle.binary64.proofs.Rounding.{plus-exact, minus-exact, rnd-is, rnd-same, rnd-le, rnd-zero}
 
 -- ---- `round` in units
 
@@ -55,6 +57,7 @@ module _ (s : Bool) (a c : ℕ) where
   pub round-finite : {w : ℕ} → 0 < c → Digits53 w → w < limit → a * one ≤ w * c → Finite (round binary64 s a c)
   round-finite C d l h = value-finite (round binary64 s a c) s (rnd (a * one) c) one (round-fits binary64 s a c) (round-value (lt-of-le-of-lt (rnd-le (a * one) c C d h) l))
 
+  -- Finite, it has that magnitude and the sign s.
   pub round-mag : Finite (round binary64 s a c) → mag (round binary64 s a c) ≡ rnd (a * one) c
   round-mag f = value-mag (round binary64 s a c) s (rnd (a * one) c) (round-value (round-below (f .number)))
 
@@ -82,6 +85,7 @@ module _ {z : Float} {p n c : ℕ} (C : 0 < c) (r : Result z p n c) where
   pub result-mag : Finite z → mag z ≡ rnd (r .size) c
   result-mag f = value-mag z (r .minus?) (rnd (r .size) c) (value (below f))
 
+  -- z is (p - n) / c, rounded, by its parts above and below zero.
   pub result-rounded : Finite z → Rounded z p n c
   result-rounded f = go (r .minus?) (result-sign f) (r .above) (r .below)
     where
@@ -162,8 +166,46 @@ pub sub-is : (x y : Float) → sub binary64 x y ≡ add binary64 x (neg y)
 unfolding sub
 sub-is x y = refl
 
+-- x - y is (plus x + minus y) - (minus x + plus y), rounded.
 pub sub-result : {x y : Float} → Finite x → Finite y → Result (sub binary64 x y) (plus x + minus y) (minus x + plus y) 1
 sub-result {x} {y} h k = rw (sub-is x y) (rw (neg-plus k, neg-minus k) at (add-result h (neg-finite k)))
+
+-- ---- results as floats
+
+-- A Result that has 53 digits, and is not zero, is the float of so many units.
+module _ {z : Float} {p n c w : ℕ} (C : 0 < c) (r : Result z p n c) (W : 0 < w) (d : Digits53 w) (l : w < limit) where
+  pub result-plus : p ≡ n + w * c → z ≡ ofUnits false w
+  result-plus e =
+      let f = result-finite C r d (omega arith) (omega arith) l in
+      let u = plus-exact C (result-rounded C r f) d e in
+      let v = plus-is z (plus-sign z (lt-of-lt-of-le W (le-of-eq (sym u)))) in
+      is-ofUnits f ∙ ap₂ ofUnits (plus-sign z (lt-of-lt-of-le W (le-of-eq (sym u)))) (sym (v .0) ∙ u)
+
+  pub result-minus : n ≡ p + w * c → z ≡ ofUnits true w
+  result-minus e =
+      let f = result-finite C r d (omega arith) (omega arith) l in
+      let u = minus-exact C (result-rounded C r f) d e in
+      let v = minus-is z (minus-sign z (lt-of-lt-of-le W (le-of-eq (sym u)))) in
+      is-ofUnits f ∙ ap₂ ofUnits (minus-sign z (lt-of-lt-of-le W (le-of-eq (sym u)))) (sym (v .1) ∙ u)
+
+not-less : (a b : ℕ) → b ≤ a → ltb a b ≡ false
+not-less a b h = is-false (ltb a b) (le→nltb a b h)
+
+-- A sum that is exactly zero is -0 where both are negative, and +0 otherwise.
+sum-zero : (s t : Bool) (A B : ℕ) → cond s 0 A + cond t 0 B ≡ cond s A 0 + cond t B 0 → sum binary64 s A t B one ≡ ofUnits (s && t) 0
+unfolding sum
+sum-zero false false A B e = let h : A + B ≡ 0 = omega arith in ap (λ (n : ℕ). ofUnits false n) h
+sum-zero true true A B e = let h : A + B ≡ 0 = omega arith in ap (λ (n : ℕ). ofUnits true n) h
+sum-zero false true A B e = rw (not-less A B (omega arith)) (ap (λ (n : ℕ). ofUnits false n) (sub-eq-zero-of-le (le-of-eq (sym (add-zero A) ∙ e ∙ zero-add B))))
+sum-zero true false A B e = rw (not-less A B (omega arith), not-less B A (omega arith)) (ap (λ (n : ℕ). ofUnits false n) (sub-eq-zero-of-le (le-of-eq (sym (add-zero A) ∙ sym e ∙ zero-add B))))
+
+-- So x + y, where it is exactly zero, is the zero with that sign.
+pub add-zero-sum : {x y : Float} → Finite x → Finite y → plus x + plus y ≡ minus x + minus y → add binary64 x y ≡ signedZero (negative x && negative y)
+unfolding plus minus
+add-zero-sum {x} {y} h k e =
+    add-values x y (negative x) (negative y) (mag x) (mag y) one one-pos (mag-value h) (mag-value k)
+    ∙ sum-zero (negative x) (negative y) (mag x) (mag y) e
+    ∙ ofUnits-zero (negative x && negative y)
 
 -- ---- the product and the quotient
 
@@ -217,6 +259,7 @@ div-result-minus {x} {y} h k Y =
 -- ---- magnitude and sign of a product and a quotient, that of a zero included
 
 module _ {x y : Float} (h : Finite x) (k : Finite y) where
+  -- A product has the sign of unlike factors, and the rounded product of the magnitudes.
   pub mul-sign : Finite (mul binary64 x y) → negative (mul binary64 x y) ≡ unlike (negative x) (negative y)
   mul-sign = subst (λ (z : Float). Finite z → negative z ≡ unlike (negative x) (negative y)) (sym (mul-round h k)) (round-sign (unlike (negative x) (negative y)) (mag x * mag y) (one * one))
 
@@ -227,6 +270,7 @@ module _ {x y : Float} (h : Finite x) (k : Finite y) where
       round-mag (unlike (negative x) (negative y)) (mag x * mag y) (one * one) f
       ∙ rnd-same (mag x * mag y * one) (one * one) (mag x * mag y) one (mul-pos one-pos one-pos) one-pos (mul-assoc (mag x * mag y) one one))
 
+  -- A quotient has the sign of unlike operands, and the rounded quotient of the magnitudes.
   pub div-sign : 0 < mag y → Finite (div binary64 x y) → negative (div binary64 x y) ≡ unlike (negative x) (negative y)
   div-sign Y = subst (λ (z : Float). Finite z → negative z ≡ unlike (negative x) (negative y)) (sym (div-round h k Y)) (round-sign (unlike (negative x) (negative y)) (mag x) (mag y))
 

@@ -1,11 +1,11 @@
 -- A finite f64 in units of 2^-1074: that the division in `mag` is exact, which numbers of units are magnitudes, that sign and magnitude
 -- determine a float, and comparisons as comparisons of natural numbers. Rests on lib.Ieee.{Exact, Fits, Bits}.
 use mathlib.Core.Path.{_≡_, refl, sym, ap, ap₂, _∙_, subst}
-use mathlib.Core.Logic.{_⊎_, inl, inr}
-use Prim.Native.Nat.{ℕ, zero, suc, _+_, _-_, _*_, _/_, _%_, _^_, _≤_, _<_}
-use native.Mathlib.Nat.{lt-irrefl, le-of-lt, le-trans, le-of-eq, lt-of-lt-of-le, lt-of-le-of-lt, eq-or-lt-of-le, add-comm, zero-add, add-zero, zero-mul, mul-one, one-mul, mul-assoc, mul-right-comm, mul-pos, mul-le-mul-right, mul-lt-mul-of-pos-right, lt-of-mul-lt-mul-right, mul-div-cancel, pow-succ'}
+use mathlib.Core.Logic.{_⊎_, inl, inr, ⊎-elim}
+use Prim.Native.Nat.{ℕ, zero, suc, _+_, _-_, _*_, _/_, _%_, _^_, _≤_, _<_, zero-le}
+use native.Mathlib.Nat.{lt-irrefl, le-trans, le-of-eq, lt-of-lt-of-le, lt-of-le-of-lt, eq-or-lt-of-le, add-comm, zero-add, add-zero, zero-mul, div-one, mul-one, one-mul, mul-assoc, mul-right-comm, mul-pos, mul-le-mul-right, mul-lt-mul-of-pos-right, lt-of-mul-lt-mul-right, mul-div-cancel, pow-succ'}
 use native.Mathlib.Omega.{arith}
-use mathlib.Core.Bool.{Bool, true, false, not, _&&_, _||_, cond}
+use mathlib.Core.Bool.{Bool, true, false, not, _&&_, cond}
 use lib.IntN.{ℤ, pos, negsuc}
 use lib.Dec.{T, not-T, leb, ltb, eqb, leb→le, le→leb, ltb→lt, lt→ltb, nltb→le, eqb→eq, lit<}
 use lib.Arith.{le→nltb}
@@ -15,12 +15,14 @@ use lib.Ieee.Digits.{back}
 use lib.Ieee.Exact.{HasValue, round-exact}
 use lib.Ieee.Fits.{up-pos, down-pos, and-l, and-r, eq→eqb, round-fits, neg-fits}
 use lib.Ieee.Bits.{ofBits-toBits, is-true, is-false}
-use Rattle.binary64.proofs.Naturals.{same-test, and-true, both-zero, not-ltb, pow-le-back}
+use Rattle.binary64.proofs.Naturals.{same-test, lt-or-eq, and-true, both-zero, not-ltb, pow-le-back}
 use Rattle.binary64.proofs.Values.{lt-values, eq-values}
-use Rattle.binary64.specs.Units.{pow2, one, limit, Finite, mag, negative, plus, minus, ofUnits, Digits53}
+use Rattle.binary64.specs.Constants.{zero64, zero64-is}
+use Rattle.binary64.specs.Units.{pow2, one, limit, Finite, mag, negative, plus, minus, ofUnits, signedZero, Digits53}
 
 -- ---- powers of two
 
+-- what `pow2` is; it is above 0, turns sums into products, and grows
 pub pow2-is : (k : ℕ) → pow2 k ≡ 2 ^ k
 unfolding pow2
 pow2-is k = refl
@@ -42,6 +44,7 @@ pub pow2-mono : {i k : ℕ} → i ≤ k → pow2 i ≤ pow2 k
 unfolding pow2
 pow2-mono h = pow-mono h
 
+-- The number 1 is 2 ^ 1074 units, and all finite floats lie below 2 ^ 2098 units, which is the number 2 ^ 1024.
 pub one-is : one ≡ 2 ^ 1074
 one-is = pow2-is 1074
 
@@ -103,12 +106,13 @@ place-mag s m e t =
 pub mag-exact : (s : Bool) (m : ℕ) (e : ℤ) → T (fits binary64 (fin s m e)) → mag (fin s m e) * down e ≡ m * up e * one
 mag-exact s m e t = let p = place-mag s m e t in ap (λ (x : ℕ). x * down e) (p .1) ∙ sym (p .2)
 
+-- A finite float is ±mag x / one.
 pub mag-value : {x : Float} → Finite x → HasValue x (negative x) (mag x) one
 mag-value {x = nan} h = absurd (h .number)
 mag-value {x = inf s} h = absurd (h .number)
 mag-value {x = fin s m e} h = (refl, sym (mag-exact s m e (h .fit)))
 
--- What has the value ±a units is finite, and has that sign and that magnitude.
+-- What has the value ±a units has that magnitude and that sign, and is finite.
 pub value-mag : (x : Float) (s : Bool) (a : ℕ) → HasValue x s a one → mag x ≡ a
 value-mag nan s a h = absurd h
 value-mag (inf t) s a h = absurd h
@@ -126,6 +130,7 @@ value-finite (fin u m e) s a c t h = record { fit = t; number = tt }
 
 -- ---- which numbers of units are magnitudes: those of at most 53 digits before their closing zeros, below `limit`
 
+-- A magnitude has 53 digits, and is below the limit.
 pub mag-digits : {x : Float} → Finite x → Digits53 (mag x)
 mag-digits {x = nan} h = absurd (h .number)
 mag-digits {x = inf s} h = absurd (h .number)
@@ -184,6 +189,7 @@ bits-mag {x = nan} h = absurd (h .number)
 bits-mag {x = inf s} h = absurd (h .number)
 bits-mag {x = fin s m e} h = unfold toBits mag pow2 in refl
 
+-- Two finite floats with the same sign and the same magnitude are the same float.
 pub same-float : {x y : Float} → Finite x → Finite y → negative x ≡ negative y → mag x ≡ mag y → x ≡ y
 same-float {x} {y} h k s n =
     sym (ofBits-toBits binary64 x (h .fit))
@@ -206,6 +212,7 @@ not-nan {x = fin s m e} h = tt
 
 -- ---- plus and minus
 
+-- The two parts make up the magnitude.
 pub plus-minus : (x : Float) → plus x + minus x ≡ mag x
 unfolding plus minus
 plus-minus x = go (negative x) (mag x)
@@ -224,6 +231,14 @@ pub minus-is : (x : Float) → negative x ≡ true → (plus x ≡ 0) × (minus 
 unfolding plus minus
 minus-is x h = (ap (λ (s : Bool). cond s 0 (mag x)) h, ap (λ (s : Bool). cond s (mag x) 0) h)
 
+-- x is all above zero, or all below
+pub one-sided : (x : Float) → ((plus x ≡ mag x) × (minus x ≡ 0)) ⊎ ((plus x ≡ 0) × (minus x ≡ mag x))
+one-sided x = go (negative x) refl
+  where
+    go : (s : Bool) → negative x ≡ s → ((plus x ≡ mag x) × (minus x ≡ 0)) ⊎ ((plus x ≡ 0) × (minus x ≡ mag x))
+    go false e = inl (plus-is x e)
+    go true e = inr (minus-is x e)
+
 -- what has a part above zero has not the sign bit, and what has one below has it
 pub plus-sign : (x : Float) → 0 < plus x → negative x ≡ false
 unfolding plus
@@ -241,8 +256,40 @@ minus-sign x = go (negative x)
     go true h = refl
     go false h = absurd (lt-irrefl 0 h)
 
+-- ---- zero
+
+-- A zero of either sign is finite and has no units.
+pub zero-finite : (s : Bool) → Finite (signedZero s)
+unfolding fits
+zero-finite s = record { fit = tt; number = tt }
+
+pub zero-mag : (s : Bool) → mag (signedZero s) ≡ 0
+zero-mag s = mag-fin s 0 (pos 0) ∙ div-one (0 * 1 * one) ∙ zero-mul one
+
+pub zero-plus : (s : Bool) → plus (signedZero s) ≡ 0
+unfolding plus
+zero-plus true = refl
+zero-plus false = zero-mag false
+
+pub zero-minus : (s : Bool) → minus (signedZero s) ≡ 0
+unfolding minus
+zero-minus true = zero-mag true
+zero-minus false = refl
+
+-- What has no units is a zero.
+pub is-zero : {x : Float} → Finite x → mag x ≡ 0 → x ≡ signedZero (negative x)
+is-zero {x} h e = same-float h (zero-finite (negative x)) refl (e ∙ sym (zero-mag (negative x)))
+
+-- No units, with a sign, are the zero with that sign.
+pub ofUnits-zero : (s : Bool) → ofUnits s 0 ≡ signedZero s
+ofUnits-zero s =
+    let d = digits53 0 0 zero-le in
+    let l = below-limit 0 0 zero-le zero-le in
+    is-zero (ofUnits-finite s 0 d l) (ofUnits-mag s 0 d l) ∙ ap signedZero (ofUnits-sign s 0 d l)
+
 -- ---- the float -x
 
+-- It has the magnitude of x and the other sign, so its parts are those of x the other way round.
 pub neg-mag : (x : Float) → mag (neg x) ≡ mag x
 unfolding neg mag
 neg-mag nan = refl
@@ -261,21 +308,17 @@ neg-finite {x = nan} h = absurd (h .number)
 neg-finite {x = inf s} h = absurd (h .number)
 neg-finite {x = fin s m e} h = record { fit = neg-fits binary64 (fin s m e) (h .fit); number = tt }
 
+cond-not : (s : Bool) (m n : ℕ) → cond (not s) m n ≡ cond s n m
+cond-not true m n = refl
+cond-not false m n = refl
+
 pub neg-plus : {x : Float} → Finite x → plus (neg x) ≡ minus x
 unfolding plus minus
-neg-plus {x} h = ap₂ (λ (s : Bool) (n : ℕ). cond s 0 n) (neg-sign h) (neg-mag x) ∙ turned (negative x) (mag x)
-  where
-    turned : (s : Bool) (n : ℕ) → cond (not s) 0 n ≡ cond s n 0
-    turned true n = refl
-    turned false n = refl
+neg-plus {x} h = ap₂ (λ (s : Bool) (n : ℕ). cond s 0 n) (neg-sign h) (neg-mag x) ∙ cond-not (negative x) 0 (mag x)
 
 pub neg-minus : {x : Float} → Finite x → minus (neg x) ≡ plus x
 unfolding plus minus
-neg-minus {x} h = ap₂ (λ (s : Bool) (n : ℕ). cond s n 0) (neg-sign h) (neg-mag x) ∙ turned (negative x) (mag x)
-  where
-    turned : (s : Bool) (n : ℕ) → cond (not s) n 0 ≡ cond s 0 n
-    turned true n = refl
-    turned false n = refl
+neg-minus {x} h = ap₂ (λ (s : Bool) (n : ℕ). cond s n 0) (neg-sign h) (neg-mag x) ∙ cond-not (negative x) (mag x) 0
 
 -- ---- comparisons
 
@@ -303,38 +346,14 @@ pub lt-units : {x y : Float} → Finite x → Finite y → lt x y ≡ ltb (plus 
 unfolding plus minus
 lt-units {x} {y} h k = lt-values x y (negative x) (negative y) (mag x) (mag y) one one-pos (mag-value h) (mag-value k) ∙ below-parts (negative x) (negative y) (mag x) (mag y)
 
+-- x = y: -0 equals +0
 pub eq-units : {x y : Float} → Finite x → Finite y → eq x y ≡ eqb (plus x + minus y) (plus y + minus x)
 unfolding plus minus
 eq-units {x} {y} h k = eq-values x y (negative x) (negative y) (mag x) (mag y) one one-pos (mag-value h) (mag-value k) ∙ level-parts (negative x) (negative y) (mag x) (mag y)
 
 pub le-units : {x y : Float} → Finite x → Finite y → le x y ≡ leb (plus x + minus y) (plus y + minus x)
 unfolding le
-le-units {x} {y} h k = rw (lt-units h k, eq-units h k) (either (plus x + minus y) (plus y + minus x))
-  where
-    or-l : (a b : Bool) → T a → T (a || b)
-    or-l true b t = tt
-    or-l false b t = absurd t
-
-    weak : (a b : Bool) (p : Type 0) → (T a → p) → (T b → p) → T (a || b) → p
-    weak true b p f g t = f tt
-    weak false b p f g t = g t
-
-    more : (a b : ℕ) → (ltb a b ≡ true) ⊎ (ltb a b ≡ false) → a ≤ b → T (ltb a b || eqb a b)
-    more a b (inl e) l = subst (λ (z : Bool). T (z || eqb a b)) (sym e) tt
-    more a b (inr e) l = subst (λ (z : Bool). T (z || eqb a b)) (sym e) (eq→eqb (same a b l (nltb→le a b (subst (λ (z : Bool). T (not z)) (sym e) tt))))
-      where
-        same : (a b : ℕ) → a ≤ b → b ≤ a → a ≡ b
-        same a b p q = omega arith
-
-    dec : (b : Bool) → (b ≡ true) ⊎ (b ≡ false)
-    dec true = inl refl
-    dec false = inr refl
-
-    either : (a b : ℕ) → (ltb a b || eqb a b) ≡ leb a b
-    either a b =
-        same-test (ltb a b || eqb a b) (leb a b)
-        (weak (ltb a b) (eqb a b) (T (leb a b)) (λ t. le→leb a b (le-of-lt (ltb→lt a b t))) (λ t. le→leb a b (le-of-eq (eqb→eq a b t))))
-        (λ t. more a b (dec (ltb a b)) (leb→le a b t))
+le-units {x} {y} h k = rw (lt-units h k, eq-units h k) (lt-or-eq (plus x + minus y) (plus y + minus x))
 
 -- what a test of the code says, and what it takes to pass or fail it
 pub units-of-lt : {x y : Float} → Finite x → Finite y → lt x y ≡ true → plus x + minus y < plus y + minus x
@@ -349,6 +368,57 @@ lt-of-units {x} {y} h k l = lt-units h k ∙ is-true (ltb (plus x + minus y) (pl
 pub not-lt-of-units : {x y : Float} → Finite x → Finite y → plus y + minus x ≤ plus x + minus y → lt x y ≡ false
 not-lt-of-units {x} {y} h k l = lt-units h k ∙ is-false (ltb (plus x + minus y) (plus y + minus x)) (le→nltb (plus x + minus y) (plus y + minus x) l)
 
+pub units-of-le : {x y : Float} → Finite x → Finite y → le x y ≡ true → plus x + minus y ≤ plus y + minus x
+units-of-le {x} {y} h k e = leb→le (plus x + minus y) (plus y + minus x) (subst (λ (b : Bool). T b) (sym e ∙ le-units h k) tt)
+
+pub le-of-units : {x y : Float} → Finite x → Finite y → plus x + minus y ≤ plus y + minus x → le x y ≡ true
+le-of-units {x} {y} h k l = le-units h k ∙ is-true (leb (plus x + minus y) (plus y + minus x)) (le→leb (plus x + minus y) (plus y + minus x) l)
+
+pub eq-of-units : {x y : Float} → Finite x → Finite y → plus x + minus y ≡ plus y + minus x → eq x y ≡ true
+eq-of-units {x} {y} h k e = eq-units h k ∙ is-true (eqb (plus x + minus y) (plus y + minus x)) (eq→eqb e)
+
+-- what is below is not equal
+pub lt-not-eq : {x y : Float} → Finite x → Finite y → lt x y ≡ true → eq x y ≡ false
+lt-not-eq {x} {y} h k e =
+    let l = units-of-lt h k e in
+    eq-units h k ∙ is-false (eqb (plus x + minus y) (plus y + minus x)) (not-T (eqb (plus x + minus y) (plus y + minus x)) (λ t. let q = eqb→eq (plus x + minus y) (plus y + minus x) t in omega arith))
+
 -- among finite floats x ≤ y just where y < x fails
 pub le-not-lt : {x y : Float} → Finite x → Finite y → le x y ≡ not (lt y x)
 le-not-lt {x} {y} h k = le-units h k ∙ sym (not-ltb (plus y + minus x) (plus x + minus y)) ∙ ap not (sym (lt-units k h))
+
+-- ---- tests against zero
+
+-- the literal 0.0
+pub zero64-finite : Finite zero64
+zero64-finite = subst (λ (x : Float). Finite x) (sym zero64-is) (zero-finite false)
+
+pub zero64-plus : plus zero64 ≡ 0
+zero64-plus = ap plus zero64-is ∙ zero-plus false
+
+pub zero64-minus : minus zero64 ≡ 0
+zero64-minus = ap minus zero64-is ∙ zero-minus false
+
+-- one part of a float is 0: the smaller one
+no-plus : (x : Float) → plus x ≤ minus x → plus x ≡ 0
+no-plus x l = ⊎-elim (λ s. omega (arith, s)) (λ s. s .0) (one-sided x)
+
+no-minus : (x : Float) → minus x ≤ plus x → minus x ≡ 0
+no-minus x l = ⊎-elim (λ s. s .1) (λ s. omega (arith, s)) (one-sided x)
+
+module _ {x : Float} (h : Finite x) where
+  -- x < 0.0
+  pub below-zero : lt x zero64 ≡ true → (plus x ≡ 0) × (0 < minus x)
+  below-zero e = let l : plus x < minus x = omega (arith, units-of-lt h zero64-finite e, zero64-plus, zero64-minus) in (no-plus x (omega arith), omega arith)
+
+  -- x < 0.0 fails: x is a zero or above
+  pub not-below-zero : lt x zero64 ≡ false → minus x ≡ 0
+  not-below-zero e = no-minus x (omega (arith, units-of-not-lt h zero64-finite e, zero64-plus, zero64-minus))
+
+  -- 0.0 < x
+  pub above-zero : lt zero64 x ≡ true → (0 < plus x) × (minus x ≡ 0)
+  above-zero e = let l : minus x < plus x = omega (arith, units-of-lt zero64-finite h e, zero64-plus, zero64-minus) in (omega arith, no-minus x (omega arith))
+
+  -- 0.0 < x fails: x is a zero or below
+  pub not-above-zero : lt zero64 x ≡ false → plus x ≡ 0
+  not-above-zero e = no-plus x (omega (arith, units-of-not-lt zero64-finite h e, zero64-plus, zero64-minus))

@@ -60,7 +60,7 @@ level-same s t a b c A B d C D p q = rw (same a b c A B d C D p q, same a 0 c A 
 -- ---- the operations
 
 -- m / e is a / c: then m * d over e * d is too, either way round
-crossed : (m e d a c : ℕ) → m * c ≡ a * e → (m * d * c ≡ a * (e * d)) × (m * d * c ≡ a * (d * e))
+pub crossed : (m e d a c : ℕ) → m * c ≡ a * e → (m * d * c ≡ a * (e * d)) × (m * d * c ≡ a * (d * e))
 crossed m e d a c p =
     let h : m * d * c ≡ a * (e * d) = simp (mul-assoc, mul-comm, mul-left-comm) (simp (mul-assoc, mul-comm) at (ap (λ (z : ℕ). z * d) p)) in
     (h, h ∙ ap (λ (z : ℕ). a * z) (mul-comm e d))
@@ -96,6 +96,7 @@ eq-values (fin u m e) (fin v n d) s t a b c C h k =
     ap₂ (λ (i j : Bool). level i (m * up e * down d) j (n * up d * down e)) (h .0) (k .0)
     ∙ level-same s t (m * up e * down d) (n * up d * down e) (down e * down d) a b c (mul-pos (down-pos e) (down-pos d)) C (crossed (m * up e) (down e) (down d) a c (h .1) .0) (crossed (n * up d) (down d) (down e) b c (k .1) .1)
 
+-- x is ±a / c and y is ±b / d
 pub mul-values : (x y : Float) (s t : Bool) (a b c d : ℕ) → 0 < c → 0 < d → HasValue x s a c → HasValue y t b d → mul binary64 x y ≡ round binary64 (unlike s t) (a * b) (c * d)
 unfolding mul
 mul-values nan y s t a b c d C D h k = absurd h

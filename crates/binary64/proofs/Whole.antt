@@ -46,6 +46,7 @@ in-units (fin t m e) s n h = (h .0, regroup (m * up e) n (down e) one (h .1))
     regroup m n d u p = omega (arith, ap (λ (x : ℕ). x * u) p)
 
 module _ (s : Bool) (n : ℕ) (h : n ≤ 2 ^ 53) where
+  -- finite, with n times `one` units and the sign s, and so bounded by whole numbers on either side of n
   pub whole-finite : Finite (whole s n)
   whole-finite = value-finite (whole s n) s n 1 (round-fits binary64 s n 1) (whole-value s n h)
 
@@ -62,6 +63,7 @@ module _ (s : Bool) (n : ℕ) (h : n ≤ 2 ^ 53) where
   whole-least l = record { finite = whole-finite; bound = le-trans (mul-le-mul-right one l) (le-of-eq (sym whole-mag)) }
 
 module _ (z : ℤ) (h : natAbs z ≤ 2 ^ 53) where
+  -- the same of an integer z
   pub ofInt-finite : Finite (ofInt binary64 z)
   ofInt-finite = rw (ofInt-whole z) (whole-finite (below0 z) (natAbs z) h)
 
@@ -90,6 +92,7 @@ ofInt-negsuc n h = let w = minus-is (ofInt binary64 (negsuc n)) (ofInt-sign (neg
 pub mul-whole : (s t : Bool) (a b : ℕ) → a ≤ 2 ^ 53 → b ≤ 2 ^ 53 → mul binary64 (whole s a) (whole t b) ≡ whole (unlike s t) (a * b)
 mul-whole s t a b h k = mul-values (whole s a) (whole t b) s t a b 1 1 (le-refl 1) (le-refl 1) (whole-value s a h) (whole-value t b k)
 
+-- the sum and the difference, by lib.Ieee's `sum`: a zero is -0 only as the sum of two
 pub add-whole : (s t : Bool) (a b : ℕ) → a ≤ 2 ^ 53 → b ≤ 2 ^ 53 → add binary64 (whole s a) (whole t b) ≡ sum binary64 s a t b 1
 add-whole s t a b h k = add-values (whole s a) (whole t b) s t a b 1 (le-refl 1) (whole-value s a h) (whole-value t b k)
 
@@ -137,6 +140,7 @@ difference-ofInt a (pos (suc b)) = sum-ofInt a (negsuc b)
 difference-ofInt (pos a) (pos zero) = less-zero a
 difference-ofInt (negsuc a) (pos zero) = more-zero a
 
+-- The sum of two integers as floats is their sum as a float; so is the difference.
 pub add-ofInt : (a b : ℤ) → natAbs a ≤ 2 ^ 53 → natAbs b ≤ 2 ^ 53 → add binary64 (ofInt binary64 a) (ofInt binary64 b) ≡ ofInt binary64 (a +ℤ b)
 add-ofInt a b h k = rw (ofInt-whole a, ofInt-whole b) (add-whole (below0 a) (below0 b) (natAbs a) (natAbs b) h k ∙ sum-ofInt a b)
 
@@ -191,6 +195,7 @@ leZ-not (negsuc a) (pos b) = refl
 leZ-not (negsuc a) (negsuc b) = not-ltb a b
 
 module _ (a b : ℤ) (h : natAbs a ≤ 2 ^ 53) (k : natAbs b ≤ 2 ^ 53) where
+  -- Integers as floats compare as integers.
   pub lt-ofInt : lt (ofInt binary64 a) (ofInt binary64 b) ≡ ltZ a b
   lt-ofInt = lt-values (ofInt binary64 a) (ofInt binary64 b) (below0 a) (below0 b) (natAbs a) (natAbs b) 1 (le-refl 1) (ofInt-value a h) (ofInt-value b k) ∙ below-ltZ a b
 

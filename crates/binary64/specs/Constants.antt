@@ -4,7 +4,7 @@ use mathlib.Core.Path.{_≡_, refl}
 use Prim.Native.Nat.{_^_}
 use mathlib.Core.Bool.{false}
 use lib.Ieee.{Float, binary64, round, mul, ofBits}
-use Rattle.binary64.specs.Units.{zero}
+use Rattle.binary64.specs.Units.{signedZero}
 
 -- ---- exact constants
 
@@ -12,7 +12,7 @@ use Rattle.binary64.specs.Units.{zero}
 abbrev pub zero64 : Float
 zero64 = ofBits binary64 0
 
-pub zero64-is : zero64 ≡ zero false
+pub zero64-is : zero64 ≡ signedZero false
 unfolding ofBits
 zero64-is = refl
 

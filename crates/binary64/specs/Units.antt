@@ -49,8 +49,8 @@ abbrev pub ofUnits : Bool → ℕ → Float
 ofUnits s n = round binary64 s n one
 
 -- The zero with the sign s.
-abbrev pub zero : Bool → Float
-zero s = fin s 0 (pos 0)
+abbrev pub signedZero : Bool → Float
+signedZero s = fin s 0 (pos 0)
 
 -- n has at most 53 binary digits before its closing zeros. Below `limit`, these are the magnitudes of the finite floats.
 pub record Digits53 (n : ℕ) : Type 0 where

@@ -1,6 +1,6 @@
 -- Document 01: "Root: IEEE 754 square root, rounded to nearest, ties to even, for every finite number not below zero; compared over whole
 -- numbers by squares", +0 outside that domain; and hypot. Rests on the units of binary64: the number 1 is `one` = 2 ^ 1074 of them.
-use Prim.Native.Nat.{ℕ, zero, suc, _+_, _-_, _*_, _/_, _^_, _≤_, _<_}
+use Prim.Native.Nat.{ℕ, zero, suc, _+_, _-_, _*_, _/_, _^_}
 use mathlib.Core.Bool.{true, false, cond}
 use lib.Dec.{leb}
 use lib.IntN.{pos}
@@ -23,6 +23,7 @@ unfoldable pub rootUnits : ℕ → ℕ
 unfolding nearestRoot size
 rootUnits n = let h = (size n - 1) / 2 in nearestRoot 53 (n * 2 ^ 104 / 4 ^ h) * 2 ^ (485 + h)
 
+-- the zero without a sign
 abbrev pub +0 : Float
 +0 = fin false 0 (pos 0)
 

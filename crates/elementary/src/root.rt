@@ -1,16 +1,18 @@
-// The square root of an f64, correctly rounded, and hypot. The 53 digits of the root are the whole
-// number nearest to the root of a whole number of 105 or 106 digits (specs/Root.antt).
+// The square root of an f64, correctly rounded, and hypot (specs/Root.antt). The root's 53 digits are
+// the whole number nearest to the root of a whole number of 105 or 106 digits: a guess by floats,
+// which exact integers test, and the root digit by digit where that fails.
 ghost use mathlib.Core.Path.{_≡_};
 ghost use Prim.Native.Nat.{_*_, _^_, _≤_, _<_};
 ghost use lib.Ieee.{binary64, ofBits};
 ghost use Rattle.binary64.specs.Units.{mag};
-ghost use Rattle.elementary.specs.Root.{nearestRoot};
-ghost use Rattle.elementary.specs.Root.{root as rootOf};
-ghost use Rattle.elementary.specs.Root.{hypot as hypotOf};
-ghost use Rattle.elementary.specs.Steps.{Near, Balanced, Leading};
+ghost use Rattle.elementary.specs.Root.{nearestRoot, root as rootOf, hypot as hypotOf};
+ghost use Rattle.elementary.specs.RootSteps.{Near, Balanced, Leading};
 
 // The bits of the positive infinity: those of the positive finite numbers lie below.
 const INFINITY: u64 = 0x7FF0_0000_0000_0000;
+
+// 2^52: the first of a normal number's 53 digits, which its bits leave out.
+const FIRST_DIGIT: u64 = 0x10_0000_0000_0000;
 
 // The root of x; +0 where x is no number, infinite or below zero. The zeros are their own roots.
 pub fn root(x: f64) -> f64
@@ -58,7 +60,7 @@ fn split(bits: u64) -> Parts
         };
     }
     Parts {
-        digits: bits % 0x10_0000_0000_0000 + 0x10_0000_0000_0000,
+        digits: bits % FIRST_DIGIT + FIRST_DIGIT,
         lead: field + 51,
     }
 }
@@ -76,31 +78,38 @@ fn positive(bits: u64) -> f64
     f64::from_bits(((lead / 2 + 485) << 52) + digits)
 }
 
-// A guess at the root of the positive finite number with the given bits, promised nothing: for a
-// normal number its digits are those of the root, or one off. Newton's steps for 1 / root(x), from a
-// first guess in the bits (off by at most 2^-4.8, then 2^-9, 2^-17, 2^-34), and one from
-// x / root(x) to the root.
+// A guess at the root of the positive finite number with the given bits. Nothing is promised of it:
+// `settle` tests it. For a normal number its digits are the root's, or one off. From a first guess
+// in the bits r goes to 1 / root(x) and y to root(x) by Newton's factor (3 - y * r) / 2, which is
+// used without its half, so that both are 2, 16 and 8192 times as large. They are off by at most
+// 2^-4.8, then 2^-9, 2^-17, 2^-34; the last line takes up what rounding left.
 fn guess(bits: u64) -> f64
     requires { ⌜ bits < 2047 * 2 ^ 52 ⌝ }
 {
     let x = f64::from_bits(bits);
-    let half = 0.5 * x;
     let r0 = f64::from_bits(0x5FE6_EB50_C7B5_37A9 - (bits >> 1));
-    let r1 = r0 * (1.5 - half * r0 * r0);
-    let r2 = r1 * (1.5 - half * r1 * r1);
-    let r3 = r2 * (1.5 - half * r2 * r2);
-    let y = x * r3;
-    y + 0.5 * r3 * (x - y * y)
+    let y0 = x * r0;
+    let t0 = 3.0 - y0 * r0;
+    let r1 = r0 * t0;
+    let y1 = y0 * t0;
+    let t1 = 12.0 - y1 * r1;
+    let r2 = r1 * t1;
+    let y2 = y1 * t1;
+    let t2 = 768.0 - y2 * r2;
+    // 2^-14 and 2^-13
+    let half = r2 * 0.00006103515625 * t2;
+    let y = y2 * 0.0001220703125 * t2;
+    y + half * (x - y * y)
 }
 
-// The whole number nearest to the root of m * 2^52: the digits of a guess, settled by exact
-// integers; where that fails, digit by digit.
+// The whole number nearest to the root of m * 2^52, from the digits of a guess; where these do not
+// settle it, digit by digit.
 fn nearest(m: u64, guess: f64) -> u64
     requires { ⌜ (2 ^ 52 ≤ m) × (m < 2 ^ 54) ⌝ }
     ensures { λ r. ⌜ r ≡ nearestRoot 53 (m * 2 ^ 52) ⌝ }
 {
     if 0.0 < guess {
-        let digits = f64::to_bits(guess) % 0x10_0000_0000_0000 + 0x10_0000_0000_0000;
+        let digits = f64::to_bits(guess) % FIRST_DIGIT + FIRST_DIGIT;
         let q = settle(m, digits);
         if 0 < q {
             return q;
@@ -169,7 +178,7 @@ struct Scales {
 }
 
 // The square of q against m * 2^52, by exact products in halves: q * q is (high - 1) * 2^54 + low,
-// and m * 2^52 is m_high * 2^54 and two more digits. Both sides are 0 where they are too far apart.
+// and m * 2^52 is m_high * 2^54 + (m % 4) * 2^52. Both are 0 where they are too far apart.
 fn weigh(m: u64, q: u64) -> Scales
     requires { ⌜ (m < 2 ^ 54) × (q < 2 ^ 53) ⌝ }
     ensures { λ r. ⌜ Balanced (m * 2 ^ 52) (q * q) (r .square) (r .radicand) ⌝ }

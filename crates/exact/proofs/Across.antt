@@ -13,12 +13,13 @@ use Rattle.binary64.specs.Units.{pow2, one, Finite, mag, plus, minus}
 use Rattle.binary64.specs.Rounding.{Rounded, Near}
 use Rattle.binary64.specs.Magnitude.{Most}
 use Rattle.binary64.proofs.Naturals.{lt-or-ge}
-use Rattle.binary64.proofs.Units.{one-pos, pow2-pos, pow2-mono, pow2-split, plus-minus, eq-units}
+use Rattle.binary64.proofs.Units.{one-pos, pow2-pos, pow2-mono, pow2-split, plus-minus, one-sided, eq-units}
 use Rattle.binary64.proofs.Rounding.{plus-le, plus-ge, minus-none}
 use Rattle.binary64.proofs.Operations.{sub-result, result-rounded}
-use Rattle.binary64.proofs.Magnitude.{bound-digits, add-most, sub-most, one-sided}
+use Rattle.binary64.proofs.Magnitude.{bound-digits, add-most, sub-most}
 use Rattle.binary64.proofs.Error.{add-near, sub-near}
-use Rattle.elementary.proofs.Squares.{root-finite, at-most, at-least}
+use Rattle.elementary.proofs.root.Values.{root-finite}
+use Rattle.elementary.proofs.root.Squares.{at-most, at-least}
 use Rattle.exact.proofs.Distance.{margin, is-most}
 use Rattle.exact.proofs.Steps.{rest, across, square-is, square-parts}
 use Rattle.exact.proofs.Coordinates.{product-most, part-most, product-least, quotient-least, Leg, offset-most}

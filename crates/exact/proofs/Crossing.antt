@@ -15,7 +15,7 @@ use Rattle.binary64.proofs.Units.{pow2-pos, pow2-split}
 use Rattle.binary64.proofs.Operations.{add-result, result-finite, result-le}
 use Rattle.binary64.proofs.Magnitude.{bound-digits, bound-limit}
 use Rattle.elementary.specs.Root.{wholeRoot}
-use Rattle.elementary.proofs.Whole.{Floor, floor}
+use Rattle.elementary.proofs.root.Whole.{Floor, floor}
 use Rattle.exact.proofs.Chord.{gap-within, reach, reach-square, reach-most, inside}
 use Rattle.exact.proofs.Distance.{margin, Is, whole-is, is-mag, rootOf, root-is-finite, root-most, root-at-most-fine, root-at-least-fine}
 use Rattle.exact.proofs.Steps.{two-is, difference, along, square-parts, difference-exact}

@@ -13,12 +13,13 @@ use Rattle.heads.specs.Distance.{InLimits}
 use Rattle.binary64.specs.Units.{pow2, one, Finite, mag, plus, minus}
 use Rattle.binary64.specs.Magnitude.{Most}
 use Rattle.binary64.proofs.Naturals.{lt-or-ge}
-use Rattle.binary64.proofs.Units.{pow2-split, plus-is, plus-minus}
+use Rattle.binary64.proofs.Units.{pow2-split, plus-minus}
 use Rattle.binary64.proofs.Magnitude.{bound-digits}
-use Rattle.binary64.proofs.Whole.{add-ofInt, sub-ofInt, square-ofInt}
+use Rattle.binary64.proofs.Whole.{ofInt-finite, ofInt-pos, add-ofInt, sub-ofInt, square-ofInt}
 use Rattle.elementary.specs.Root.{root, hypot}
-use Rattle.elementary.proofs.Squares.{root-finite, root-minus, at-most, at-least}
-use Rattle.elementary.proofs.Integers.{ofInt-units, whole-le, whole-ge, excess, shortfall}
+use Rattle.elementary.proofs.root.Values.{root-finite, root-minus}
+use Rattle.elementary.proofs.root.Squares.{at-most, at-least}
+use Rattle.elementary.proofs.root.Integers.{whole-le, whole-ge, excess, shortfall}
 use Rattle.geometry.specs.Point.{distance}
 use Rattle.exact.specs.Circle.{circleOf}
 
@@ -37,9 +38,8 @@ pub record Is (x : Float) (n : ℕ) : Type 0 where
 -- a whole number up to 2 ^ 53 is so, and its size
 pub whole-is : (n : ℕ) → n ≤ 2 ^ 53 → Is (ofInt binary64 (pos n)) n
 whole-is n h =
-    let u = ofInt-units n h in
-    let p = plus-is (ofInt binary64 (pos n)) (u .1) in
-    record { finite = u .0; up = p .0 ∙ u .2; down = p .1 }
+    let p = ofInt-pos n h in
+    record { finite = ofInt-finite (pos n) h; up = p .0; down = p .1 }
 
 pub is-mag : {x : Float} {n : ℕ} → Is x n → mag x ≡ n * one
 is-mag {x} w = sym (plus-minus x) ∙ omega (arith, w .up, w .down)

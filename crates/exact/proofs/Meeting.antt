@@ -18,7 +18,7 @@ use Rattle.binary64.proofs.Naturals.{lt-or-ge}
 use Rattle.binary64.proofs.Units.{neg-finite, neg-mag}
 use Rattle.binary64.proofs.Magnitude.{most-weaken, most-coarser, add-most, sub-most}
 use Rattle.binary64.proofs.Whole.{sub-ofInt, ofInt-finite, ofInt-mag, ofInt-most}
-use Rattle.elementary.proofs.Integers.{root-square}
+use Rattle.elementary.proofs.root.Integers.{root-square}
 use Rattle.geometry.specs.declared.point.Point.{Point}
 use Rattle.geometry.specs.declared.circle.Circle.{Circle}
 use Rattle.geometry.specs.Point.{at}

@@ -18,7 +18,8 @@ use Rattle.binary64.proofs.Rounding.{rnd-exact}
 use Rattle.binary64.proofs.Operations.{add-result, sub-result, result-rounded, mul-mag, div-mag}
 use Rattle.binary64.proofs.Magnitude.{bound-digits, bound-limit, add-most, sub-most}
 use Rattle.binary64.proofs.Whole.{mul-ofInt-pos}
-use Rattle.elementary.proofs.Squares.{root-finite, at-most}
+use Rattle.elementary.proofs.root.Values.{root-finite}
+use Rattle.elementary.proofs.root.Squares.{at-most}
 use Rattle.binary64.specs.Constants.{two64}
 use Rattle.exact.proofs.Distance.{Is, whole-is, is-mag}
 use Rattle.exact.proofs.Steps.{float, two-is, difference, along, rest, across, Exact, exact, square-is, square-parts, difference-exact}

@@ -2,10 +2,10 @@
 use mathlib.Core.Bool.{Bool, _&&_, _||_, cond}
 use mathlib.Core.List.{List, []}
 use lib.Ieee.{Float, neg}
+use Rattle.binary64.specs.Constants.{pi, two64}
 use Rattle.binary64.specs.Functions.{absolute}
 use Rattle.elementary.specs.Root.{root}
 use Rattle.geometry.specs.Floats.{_+ᶠ_, _-ᶠ_, _*ᶠ_, _/ᶠ_, _<ᶠ_, _≤ᶠ_, _=ᶠ_}
-use Rattle.binary64.specs.Constants.{pi, two64}
 use Rattle.geometry.specs.Point.{at, distance}
 use Rattle.geometry.specs.Meeting.{distinct}
 use Rattle.geometry.specs.declared.point.Point.{Point}
@@ -15,6 +15,7 @@ use Rattle.geometry.specs.declared.circle.Circle.{Circle}
 abbrev pub around : Point → Float → Circle
 around c r = record { center = c; radius = r }
 
+-- PI times the radius, times the radius.
 abbrev pub area : Circle → Float
 area c = pi *ᶠ c .radius *ᶠ c .radius
 
@@ -22,6 +23,7 @@ area c = pi *ᶠ c .radius *ᶠ c .radius
 abbrev pub contains : Circle → Circle → Bool
 contains a b = distance (a .center) (b .center) +ᶠ b .radius ≤ᶠ a .radius
 
+-- The point lies within the radius, or on it.
 abbrev pub containsPoint : Circle → Point → Bool
 containsPoint c p = distance (c .center) p ≤ᶠ c .radius
 

@@ -23,6 +23,6 @@ x <ᶠ y = lt x y
 abbrev pub _≤ᶠ_ : Float → Float → Bool
 x ≤ᶠ y = le x y
 
--- +0 and -0 are equal, a NaN is equal to nothing
+-- Equal as floats are: +0 equals -0, and a NaN equals nothing.
 abbrev pub _=ᶠ_ : Float → Float → Bool
 x =ᶠ y = eq x y

@@ -11,6 +11,7 @@ use Rattle.geometry.specs.declared.rectangle.Rectangle.{Rectangle}
 abbrev pub around : Point → Float → Float → Rectangle
 around c w h = record { center = c; width = w; height = h }
 
+-- Width times height.
 abbrev pub area : Rectangle → Float
 area b = b .width *ᶠ b .height
 

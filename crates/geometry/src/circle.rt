@@ -16,19 +16,26 @@ pub struct Circle {
 impl Circle {
     // An arc of a smaller turn, or of a full turn but for less, is none.
     pub const ARC_EPS: f64 = 1e-9;
-    // Outlines so near to each other coincide: a distance, and the least share of the squared radius.
+
+    // Outlines at such a distance from each other coincide.
     pub const BOUNDARY_COINCIDENCE_GEOM_TOL: f64 = 1e-7;
 
+    // That distance as a share of the squared radius is at least this.
     pub const IMPLICIT_VALUE_FP_TOL: f64 = 1e-12;
-    // At the box: an angle so near to the end of an arc is the end, a point so near to the box is in it.
+
+    // Where an outline meets the box: an angle so near to the end of an arc is the end.
     pub const CLIP_ANGLE_TOL: f64 = 1e-12;
 
+    // A point so near to the box is in it.
     pub const CLIP_BOX_TOL: f64 = 1e-9;
+
     // Areas up to this count as none.
     pub const EPSILON: f64 = 1e-10;
 
+    // The f64 PI.
     pub const PI: f64 = 3.14159265358979323846264338327950288;
 
+    // No radius is refused: the checks of a plan refuse more than the Rust's maker does.
     pub fn new(center: Point, radius: f64) -> Self
         ensures { λ r. ⌜ r ≡ spec.around center radius ⌝ }
     {
@@ -41,6 +48,7 @@ impl Circle {
         Circle::PI * self.radius * self.radius
     }
 
+    // Whether the other circle lies within this one, touching included.
     pub fn contains(self, other: Circle) -> bool
         ensures { λ r. ⌜ r ≡ spec.contains self other ⌝ }
     {
@@ -48,12 +56,14 @@ impl Circle {
         center_distance + other.radius <= self.radius
     }
 
+    // Whether the point lies within this circle or on its outline.
     pub fn contains_point(self, point: Point) -> bool
         ensures { λ r. ⌜ r ≡ spec.containsPoint self point ⌝ }
     {
         self.center.distance(point) <= self.radius
     }
 
+    // Whether the outlines cross; circles that touch do not, as in the Rust.
     pub fn intersects(self, other: Circle) -> bool
         ensures { λ r. ⌜ r ≡ spec.intersects self other ⌝ }
     {
@@ -101,6 +111,7 @@ impl Circle {
         d > self.radius + other.radius || d < abs(self.radius - other.radius)
     }
 
+    // Where the outlines meet. Identical circles meet nowhere (docs/DIFFERENCES.md).
     pub fn intersection_points(self, other: Circle) -> Meeting
         ensures { λ r. ⌜ points r ≡ spec.intersectionPoints self other ⌝ }
     {

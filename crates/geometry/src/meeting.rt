@@ -12,7 +12,7 @@ pub enum Meeting {
 
 impl Meeting {
     // One point where both are equal, as floats are: +0 equals -0, and a NaN equals nothing.
-    pub fn of(p: Point, q: Point) -> Self
+    pub(crate) fn of(p: Point, q: Point) -> Self
         ensures { λ r. ⌜ spec.points r ≡ spec.distinct p q ⌝ }
     {
         if p.x == q.x {

@@ -15,6 +15,7 @@ impl Point {
         Self { x, y }
     }
 
+    // hypot of the differences.
     pub fn distance(self, other: Point) -> f64
         ensures { λ r. ⌜ r ≡ spec.distance self other ⌝ }
     {

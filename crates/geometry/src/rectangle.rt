@@ -28,6 +28,7 @@ impl Rectangle {
         self.width * self.height
     }
 
+    // Half a side each way from the centre.
     pub fn bounds(self) -> Bounds
         ensures { λ r. ⌜ r ≡ spec.bounds self ⌝ }
     {

@@ -1,7 +1,8 @@
 // For the differential run alone: the functions that it compares with the Rust's, and those that the
 // Rust calls in the machine's place, under plain C names. Circles and boxes come as their numbers.
 ghost use mathlib.Core.Path.{_≡_};
-ghost use Rattle.elementary.specs.Root as root_spec;
+ghost use Rattle.elementary.specs.Root.{root, hypot};
+ghost use Rattle.elementary.specs.Sine.{sine, cosine};
 ghost use Rattle.geometry.specs.Circle as circle;
 ghost use Rattle.geometry.specs.Meeting as meeting_spec;
 ghost use Rattle.geometry.specs.Point as point;
@@ -33,16 +34,30 @@ pub struct Extents {
 
 #[no_mangle]
 pub extern "C" fn probe_root(x: f64) -> f64
-    ensures { λ r. ⌜ r ≡ root_spec.root x ⌝ }
+    ensures { λ r. ⌜ r ≡ root x ⌝ }
 {
     elementary::root::root(x)
 }
 
 #[no_mangle]
 pub extern "C" fn probe_hypot(a: f64, b: f64) -> f64
-    ensures { λ r. ⌜ r ≡ root_spec.hypot a b ⌝ }
+    ensures { λ r. ⌜ r ≡ hypot a b ⌝ }
 {
     elementary::root::hypot(a, b)
+}
+
+#[no_mangle]
+pub extern "C" fn probe_sin(v: f64) -> f64
+    ensures { λ r. ⌜ r ≡ sine v ⌝ }
+{
+    elementary::sine::sin(v)
+}
+
+#[no_mangle]
+pub extern "C" fn probe_cos(v: f64) -> f64
+    ensures { λ r. ⌜ r ≡ cosine v ⌝ }
+{
+    elementary::sine::cos(v)
 }
 
 #[no_mangle]

@@ -6,6 +6,8 @@ mod pair;
 
 use libc::STDOUT_FILENO;
 
+const LETTER_P: u64 = 0x50;
+
 // How far the list was read: the place of the number that is being read in its line, the lines
 // read, and those of them on which an answer differs.
 struct Reading {
@@ -14,6 +16,7 @@ struct Reading {
     differing: u64,
 }
 
+// A part of the list, read; `over` says that there was none left.
 struct Part {
     reading: Reading,
     over: bool,
@@ -30,18 +33,20 @@ fn digit(b: u8) -> u64 {
     b as u64
 }
 
-// Whether every answer on the line that was read is ours. Its letter stands in the first place.
-fn agrees(words: &[u64; 32]) -> bool {
-    if words[0] == 80 {
+// Whether every answer on the line that was read is ours. Its letter stands in the first place, and
+// `last` is the place of its last number.
+fn agrees(words: &[u64; 32], last: usize) -> bool {
+    if words[0] == LETTER_P && last == 21 {
         return pair::agrees(words);
     }
     false
 }
 
+// The line is whole: it is compared, and the next begins.
 fn line_ended(words: &mut [u64; 32], r: Reading) -> Reading {
     let lines = std::num::wrapping_add_u64(r.lines, 1);
     let mut differing = r.differing;
-    if !agrees(words) {
+    if !agrees(words, r.at) {
         io::write_all(STDOUT_FILENO, b"differs: line ");
         io::print_decimal(STDOUT_FILENO, lines);
         io::write_all(STDOUT_FILENO, b"\n");
@@ -78,6 +83,7 @@ fn fed(words: &mut [u64; 32], r: Reading, b: u8) -> Reading {
     r
 }
 
+// The bytes of a part, one after the other.
 fn fed_all(words: &mut [u64; 32], start: Reading, bytes: &[u8]) -> Reading {
     let mut r = start;
     for i in 0..bytes.len() {
@@ -86,7 +92,7 @@ fn fed_all(words: &mut [u64; 32], start: Reading, bytes: &[u8]) -> Reading {
     r
 }
 
-// The next part of the list; `over` says that there was none.
+// Reads the next part of the list.
 fn next_part(words: &mut [u64; 32], r: Reading) -> Part {
     let mut buffer = io::large_buffer();
     let n = io::read_full(0, &mut buffer);

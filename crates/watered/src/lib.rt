@@ -1,6 +1,7 @@
 // The C interface, declared in include/watered.h: thin calls of the crates below, each with its callee's definition.
 ghost use mathlib.Core.Path.{_≡_};
 ghost use Rattle.elementary.specs.Root.{root, hypot};
+ghost use Rattle.elementary.specs.Sine.{sine, cosine};
 
 // The correctly rounded square root; +0 outside its domain.
 #[no_mangle]
@@ -16,4 +17,20 @@ pub extern "C" fn watered_hypot(a: f64, b: f64) -> f64
     ensures { λ r. ⌜ r ≡ hypot a b ⌝ }
 {
     elementary::root::hypot(a, b)
+}
+
+// The sine of an angle of magnitude at most 16; +0 outside.
+#[no_mangle]
+pub extern "C" fn watered_sin(v: f64) -> f64
+    ensures { λ r. ⌜ r ≡ sine v ⌝ }
+{
+    elementary::sine::sin(v)
+}
+
+// The cosine of an angle of magnitude at most 16; +0 outside.
+#[no_mangle]
+pub extern "C" fn watered_cos(v: f64) -> f64
+    ensures { λ r. ⌜ r ≡ cosine v ⌝ }
+{
+    elementary::sine::cos(v)
 }

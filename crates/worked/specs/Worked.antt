@@ -49,6 +49,7 @@ examples =
     ∷ (toBits binary64 (root (whole 2)) ≡ 0x3ff6_a09e_667f_3bcd)
     ∷ []
 
+-- Every example holds.
 pub worked : All examples
 unfolding add sub neg mul div lt le eq round ofInt ofBits toBits pow2 mag root hypot
 worked = (refl, (refl, (refl, (refl, (refl, (refl, (refl, (refl, tt))))))))

@@ -1,11 +1,8 @@
+-- `replay::fed_all` is safe and ends: i counts up to the number of bytes.
 use Prim.Native.Nat.{_-_, _≤_}
-use native.Mathlib.Omega.{arith}
 use borrow.Author.Needs.{needs}
 use Rattle.replay.proofs.fed_all.Statement.{statement}
 use Rattle.replay.proofs.fed_all.Tie as tie
-use Rattle.replay.proofs.fed_all.Reads as reads
-use Rattle.replay.proofs.fed_all.Lts as lts
-use Rattle.replay.proofs.fed.Reads as fed-reads
 
 abbrev Inv-loop : tie.InvT-loop
 Inv-loop words₀ bytes r₀ i₀ i-end words r i = i ≤ i-end
@@ -13,31 +10,24 @@ Inv-loop words₀ bytes r₀ i₀ i-end words r i = i ≤ i-end
 abbrev μ-loop : tie.MeasureT-loop
 μ-loop words₀ bytes r₀ i₀ i-end words r i = i-end - i
 
--- src/main.rt:83:5
 loop-holds : tie.Need-loop-holds Inv-loop μ-loop
 loop-holds c = search needs
 
--- src/main.rt:84:27
 shared-slice-read-fed : tie.Need-shared-slice-read-fed Inv-loop μ-loop
 shared-slice-read-fed c = search needs
 
--- src/main.rt:84:9
 fed-requires : tie.Need-fed-requires Inv-loop μ-loop
 fed-requires c κs = search needs
 
--- src/main.rt:83:9
 add-i : tie.Need-add-i Inv-loop μ-loop
 add-i c = search needs
 
--- src/main.rt:83:5
 loop-less : tie.Need-loop-less Inv-loop μ-loop
 loop-less c = search needs
 
--- src/main.rt:83:5
 loop-again : tie.Need-loop-again Inv-loop μ-loop
 loop-again c = search needs
 
--- src/main.rt:81:1
 returns : tie.Need-returns Inv-loop μ-loop
 returns c = search needs
 

@@ -1,7 +1,7 @@
 -- `root::guess` meets its contract: the patterns that it makes are no NaN's.
 use borrow.Author.Needs.{needs}
 use native.Mathlib.Omega.{arith}
-use Rattle.elementary.proofs.Cases.{number-bits}
+use Rattle.elementary.proofs.root.Cases.{number-bits}
 use Rattle.elementary.proofs.root.guess.Statement.{statement}
 use Rattle.elementary.proofs.root.guess.Tie as tie
 

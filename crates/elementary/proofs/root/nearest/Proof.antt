@@ -1,7 +1,7 @@
 -- `root::nearest` meets its contract: what `settle` gives is nearest, and only one number is.
 use borrow.Author.Needs.{needs}
-use Rattle.elementary.proofs.Cases.{above-number}
-use Rattle.elementary.proofs.Digits.{nearest-is}
+use Rattle.elementary.proofs.root.Cases.{above-number}
+use Rattle.elementary.proofs.root.Digits.{nearest-is}
 use Rattle.elementary.proofs.root.nearest.Statement.{statement}
 use Rattle.elementary.proofs.root.nearest.Tie as tie
 

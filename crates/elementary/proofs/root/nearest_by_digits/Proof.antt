@@ -1,12 +1,10 @@
 -- `root::nearest_by_digits` meets its contract: each turn takes one pair of digits.
-use Prim.Native.Nat.{ℕ, _^_, _-_, _<_}
+use Prim.Native.Nat.{_^_, _<_}
 use mathlib.Core.Logic.{⊎-elim}
 use native.Mathlib.Omega.{arith}
-use Rattle.elementary.proofs.Digits.{Taken, taken-none, taken-short, taken-one, taken-zero, taken-down, taken-up}
+use Rattle.elementary.proofs.root.Digits.{Taken, taken-none, taken-short, taken-one, taken-zero, taken-down, taken-up}
 use Rattle.elementary.proofs.root.nearest_by_digits.Statement.{statement}
 use Rattle.elementary.proofs.root.nearest_by_digits.Tie as tie
-use Rattle.elementary.proofs.root.nearest_by_digits.Reads as reads
-use Rattle.elementary.proofs.root.nearest_by_digits.Lts as lts
 
 abbrev Inv-loop : tie.InvT-loop
 Inv-loop m digits₀ root₀ rest₀ left₀ digits root rest left = Taken m digits root rest left

@@ -1,11 +1,9 @@
--- `root::positive` meets its contract: proofs/Leading.antt.
+-- `root::positive` meets its contract: proofs/root/Leading.antt.
 use borrow.Author.Needs.{needs}
 use native.Mathlib.Omega.{arith}
-use Rattle.elementary.proofs.Leading.{radicand-digits, root-bits-fit, root-bits-number, root-bits}
+use Rattle.elementary.proofs.root.Leading.{radicand-digits, root-bits-fit, root-bits-number, root-bits}
 use Rattle.elementary.proofs.root.positive.Statement.{statement}
 use Rattle.elementary.proofs.root.positive.Tie as tie
-use Rattle.elementary.proofs.root.positive.Reads as reads
-use Rattle.elementary.proofs.root.positive.Lts as lts
 
 split-requires : tie.Need-split-requires
 split-requires c κs = search needs

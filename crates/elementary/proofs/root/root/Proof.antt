@@ -1,15 +1,12 @@
--- `root::root` meets its contract: the cases of proofs/Cases.antt.
-use mathlib.Core.Path.{_≡_, sym, ap, _∙_, subst}
+-- `root::root` meets its contract: the cases of proofs/root/Cases.antt.
+use mathlib.Core.Path.{sym, ap, _∙_, subst}
 use lib.Dec.{T}
 use lib.Ieee.{binary64, fits}
 use lib.Ieee.Bits.{ofBits-toBits}
 use Rattle.elementary.specs.Root.{root}
-use Rattle.elementary.proofs.Cases.{above-number, above-bits, root-infinite, root-zero, root-other}
+use Rattle.elementary.proofs.root.Cases.{above-number, above-bits, root-infinite, root-zero, root-other}
 use Rattle.elementary.proofs.root.root.Statement.{statement}
 use Rattle.elementary.proofs.root.root.Tie as tie
-use Rattle.elementary.proofs.root.root.Reads as reads
-use Rattle.elementary.proofs.root.root.Lts as lts
-use Rattle.elementary.proofs.root.positive.Reads as positive-reads
 
 -- what a program holds fits
 held : (c : tie.Start) → T (fits binary64 (c .args .x))

@@ -3,7 +3,7 @@ use borrow.Author.Needs.{needs}
 use mathlib.Core.Path.{_≡_}
 use Prim.Native.Nat.{_+_, _*_, _^_}
 use native.Mathlib.Omega.{arith}
-use Rattle.elementary.proofs.Certificate.{settled, settled-up, settled-down}
+use Rattle.elementary.proofs.root.Certificate.{settled, settled-up, settled-down}
 use Rattle.elementary.proofs.root.settle.Statement.{statement}
 use Rattle.elementary.proofs.root.settle.Tie as tie
 

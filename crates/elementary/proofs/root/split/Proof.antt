@@ -1,8 +1,8 @@
 -- `root::split` meets its contract: subnormal numbers by their leading zeros, normal ones by their fields.
 use borrow.Author.Needs.{needs}
 use native.Mathlib.Omega.{arith}
-use Prim.Native.Nat.{_^_, _<_, _≤_}
-use Rattle.elementary.proofs.Leading.{zeros-range, leading-subnormal, leading-normal}
+use Prim.Native.Nat.{_^_, _<_}
+use Rattle.elementary.proofs.root.Leading.{zeros-range, leading-subnormal, leading-normal}
 use Rattle.elementary.proofs.root.split.Statement.{statement}
 use Rattle.elementary.proofs.root.split.Tie as tie
 

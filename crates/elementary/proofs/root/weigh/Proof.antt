@@ -1,8 +1,7 @@
--- `root::weigh` meets its contract: proofs/Certificate.antt.
+-- `root::weigh` meets its contract: proofs/root/Certificate.antt.
 use borrow.Author.Needs.{needs}
 use native.Mathlib.Omega.{arith}
-use Prim.Native.Nat.{_+_, _*_, _/_, _%_, _^_, _<_}
-use Rattle.elementary.proofs.Certificate.{cross-fits, upper-fits, lower-fits, balanced}
+use Rattle.elementary.proofs.root.Certificate.{cross-fits, upper-fits, lower-fits, balanced}
 use Rattle.elementary.proofs.root.weigh.Statement.{statement}
 use Rattle.elementary.proofs.root.weigh.Tie as tie
 

@@ -6,18 +6,13 @@ use Rattle.binary64.proofs.Functions.{equals-itself}
 use borrow.Author.Needs.{needs}
 use Rattle.replay.proofs.pair.same.Statement.{statement}
 use Rattle.replay.proofs.pair.same.Tie as tie
-use Rattle.replay.proofs.pair.same.Reads as reads
-use Rattle.replay.proofs.pair.same.Lts as lts
 
--- src/pair.rt:23:16
 float-to-bits-result : tie.Need-float-to-bits-result
 float-to-bits-result c = subst (λ (b : Bool). T (not b)) (sym (equals-itself (c .before .args .x) (c .if1 .taken))) tt
 
--- src/pair.rt:23:9
 returns : tie.Need-returns
 returns c = search needs
 
--- src/pair.rt:21:1
 returns-2 : tie.Need-returns-2
 returns-2 c = search needs
 

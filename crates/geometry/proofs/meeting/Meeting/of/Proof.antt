@@ -1,18 +1,13 @@
-use borrow.Author.Needs.{needs}
+-- `Meeting::of` meets its contract: one point where both tests hold, two otherwise.
 use Rattle.geometry.proofs.meeting.Meeting.of.Statement.{statement}
 use Rattle.geometry.proofs.meeting.Meeting.of.Tie as tie
-use Rattle.geometry.proofs.meeting.Meeting.of.Reads as reads
-use Rattle.geometry.proofs.meeting.Meeting.of.Lts as lts
 
--- src/meeting.rt:27:17
 returns : tie.Need-returns
 returns c = rw (c .before .before .before .if1 .taken, c .if2 .taken)
 
--- src/meeting.rt:22:5
 returns-2 : tie.Need-returns-2
 returns-2 c = rw (c .before .before .before .if1 .taken, c .if2 .left)
 
--- src/meeting.rt:22:5
 returns-3 : tie.Need-returns-3
 returns-3 c = rw (c .if1 .left)
 

@@ -1,0 +1,11 @@
+pub mod Integers
+pub mod Polynomial
+pub mod Alternating
+pub mod Sums
+pub mod Tests
+pub mod Exact
+pub mod Turns
+pub mod Cap
+pub mod Quarter
+pub mod Angles
+pub mod Fractions
