@@ -22,11 +22,11 @@ use Rattle.binary64.specs.Rounding.{Rounded}
 use Rattle.binary64.specs.Functions.{absolute}
 use Rattle.binary64.specs.Whole.{eqZ}
 use Rattle.binary64.proofs.Naturals.{lt-or-ge, same-test, not-ltb}
-use Rattle.binary64.proofs.Units.{one-pos, pow2-pos, pow2-split, same-float, neg-finite, neg-sign, neg-mag, le-units, le-not-lt, lt-of-units, not-lt-of-units}
+use Rattle.binary64.proofs.Units.{one-pos, pow2-pos, pow2-split, same-float, le-units, le-not-lt, lt-of-units, not-lt-of-units}
 use Rattle.binary64.proofs.Rounding.{plus-le, plus-ge, minus-none}
 use Rattle.binary64.proofs.Operations.{add-result, result-rounded}
 use Rattle.binary64.proofs.Magnitude.{bound-digits, add-most}
-use Rattle.binary64.proofs.Functions.{absolute-of-negative, absolute-of-other}
+use Rattle.binary64.proofs.Functions.{absolute-sign, absolute-mag, absolute-most}
 use Rattle.binary64.proofs.Whole.{add-ofInt, sub-ofInt, eq-ofInt, ofInt-finite, ofInt-sign, ofInt-mag, ofInt-most}
 use Rattle.geometry.specs.Circle as circle
 use Rattle.geometry.specs.Point.{distance}
@@ -74,11 +74,9 @@ module _ (D n : ℕ) (L : D < 2 ^ 32) (N : n ≤ 2 ^ 16 - 1) where
 
 -- the size of an integer, as a float
 absolute-ofInt : (z : ℤ) → natAbs z ≤ 2 ^ 53 → absolute (ofInt binary64 z) ≡ ofInt binary64 (pos (natAbs z))
-absolute-ofInt (pos n) h = sym (absolute-of-other (ofInt binary64 (pos n)) (ofInt-sign (pos n) h))
-absolute-ofInt (negsuc n) h =
-    let f = ofInt-finite (negsuc n) h in
-    sym (absolute-of-negative (ofInt binary64 (negsuc n)) (ofInt-sign (negsuc n) h))
-    ∙ same-float (neg-finite f) (ofInt-finite (pos (suc n)) h) (neg-sign f ∙ ap not (ofInt-sign (negsuc n) h) ∙ sym (ofInt-sign (pos (suc n)) h)) (neg-mag (ofInt binary64 (negsuc n)) ∙ ofInt-mag (negsuc n) h ∙ sym (ofInt-mag (pos (suc n)) h))
+absolute-ofInt z h =
+    same-float (absolute-most (ofInt-most z h (le-refl (natAbs z))) .finite) (ofInt-finite (pos (natAbs z)) h)
+    (absolute-sign (ofInt binary64 z) ∙ sym (ofInt-sign (pos (natAbs z)) h)) (absolute-mag (ofInt binary64 z) ∙ ofInt-mag z h ∙ sym (ofInt-mag (pos (natAbs z)) h))
 
 -- the floats' sum and the size of their difference are those of the whole numbers
 module _ (r₁ r₂ : ℕ) (L₁ : r₁ ≤ 20000) (L₂ : r₂ ≤ 20000) where

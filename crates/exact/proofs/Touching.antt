@@ -7,13 +7,10 @@ use Prim.Native.Nat.{ℕ, _+_, _-_, _*_, _^_, _≤_, _<_}
 use native.Mathlib.Nat.{le-refl, le-of-eq, mul-pos, mul-le-mul}
 use native.Mathlib.Omega.{arith}
 use lib.Ieee.{Float, binary64, add, sub, mul, eq}
-use lib.Dec.{eqb}
-use lib.Ieee.Bits.{is-true}
-use lib.Ieee.Fits.{eq→eqb}
 use Rattle.binary64.specs.Units.{one, mag, plus, minus}
 use Rattle.binary64.specs.Rounding.{rnd}
 use Rattle.binary64.specs.Magnitude.{Most}
-use Rattle.binary64.proofs.Units.{one-pos, plus-minus, eq-units}
+use Rattle.binary64.proofs.Units.{one-pos, plus-minus, eq-of-units}
 use Rattle.binary64.proofs.Rounding.{rnd-exact}
 use Rattle.binary64.proofs.Operations.{add-result, sub-result, result-rounded, mul-mag, div-mag}
 use Rattle.binary64.proofs.Magnitude.{bound-digits, bound-limit, add-most, sub-most}
@@ -118,4 +115,4 @@ same-side {x} {z} X Z J =
     let S = result-rounded (le-refl 1) (sub-result (X .finite) (Z .finite)) s in
     let up : plus (add binary64 x z) ≡ plus (sub binary64 x z) = A .up ∙ ap₂ (λ (i j : ℕ). rnd ((plus x + i) - (minus x + j)) 1) (p ∙ sym m) (m ∙ sym p) ∙ sym (S .up) in
     let down : minus (add binary64 x z) ≡ minus (sub binary64 x z) = A .down ∙ ap₂ (λ (i j : ℕ). rnd ((minus x + j) - (plus x + i)) 1) (p ∙ sym m) (m ∙ sym p) ∙ sym (S .down) in
-    eq-units a s ∙ is-true (eqb (plus (add binary64 x z) + minus (sub binary64 x z)) (plus (sub binary64 x z) + minus (add binary64 x z))) (eq→eqb (ap₂ (λ (i j : ℕ). i + j) up (sym down)))
+    eq-of-units a s (ap₂ (λ (i j : ℕ). i + j) up (sym down))
