@@ -1,28 +1,27 @@
 -- What is left across, where the foot of the chord lies inside the circle of radius r by 2 ^ -33: r² less the square of its distance f is at least
--- 2 ^ -33, so each point lies at least 2 ^ -17 from the foot, and the two points differ. Rests on Squares and Coordinates.
-use mathlib.Core.Path.{_≡_, refl, sym, ap, ap₂, _∙_, subst}
+-- 2 ^ -33, so each point lies at least 2 ^ -17 from the foot, and the two points differ. Rests on Steps and Coordinates.
+use mathlib.Core.Path.{_≡_, refl, sym, ap, _∙_}
 use mathlib.Core.Logic.{_⊎_, inl, inr}
-use mathlib.Core.Bool.{Bool, true, false}
-use Prim.Native.Nat.{ℕ, suc, _+_, _-_, _*_, _^_, _≤_, _<_}
+use mathlib.Core.Bool.{false}
+use Prim.Native.Nat.{ℕ, _+_, _-_, _*_, _^_, _≤_, _<_}
 use native.Mathlib.Nat.{le-refl, le-trans, le-of-eq, lt-of-lt-of-le, mul-le-mul, mul-le-mul-left, mul-le-mul-right}
 use native.Mathlib.Omega.{arith}
 use lib.Dec.{eqb, eqb→eq, not-T}
 use lib.Ieee.{Float, binary64, add, sub, mul, div, eq}
 use lib.Ieee.Bits.{is-false}
 use Rattle.binary64.specs.Units.{pow2, one, Finite, mag, plus, minus}
-use Rattle.binary64.specs.Rounding.{Rounded}
-use Rattle.binary64.specs.Magnitude.{Most, Least}
+use Rattle.binary64.specs.Rounding.{Rounded, Near}
+use Rattle.binary64.specs.Magnitude.{Most}
 use Rattle.binary64.proofs.Naturals.{lt-or-ge}
-use Rattle.binary64.proofs.Units.{one-pos, pow2-pos, pow2-mono, pow2-split, plus-minus, eq-units}
+use Rattle.binary64.proofs.Units.{one-pos, pow2-pos, pow2-mono, pow2-split, plus-minus, one-sided, eq-units}
 use Rattle.binary64.proofs.Rounding.{plus-le, plus-ge, minus-none}
 use Rattle.binary64.proofs.Operations.{sub-result, result-rounded}
 use Rattle.binary64.proofs.Magnitude.{bound-digits, add-most, sub-most}
-use Rattle.binary64.proofs.Units.{one-sided}
 use Rattle.binary64.proofs.Error.{add-near, sub-near}
 use Rattle.elementary.proofs.root.Values.{root-finite}
 use Rattle.elementary.proofs.root.Squares.{at-most, at-least}
-use Rattle.exact.proofs.Distance.{margin, Is, is-mag, is-most}
-use Rattle.exact.proofs.Squares.{float, rest, across, square-is, square-parts}
+use Rattle.exact.proofs.Distance.{margin, is-most}
+use Rattle.exact.proofs.Steps.{rest, across, square-is, square-parts}
 use Rattle.exact.proofs.Coordinates.{product-most, part-most, product-least, quotient-least, Leg, offset-most}
 
 module _ (r : ℕ) (P : 1 ≤ r) (L : r ≤ 20000) {f : Float} (F : Most (r * 2 ^ 33 - 1) 1041 f) where
@@ -57,6 +56,7 @@ module _ (r : ℕ) (P : 1 ≤ r) (L : r ≤ 20000) {f : Float} (F : Most (r * 2 
           let s = large w v l e (omega (arith, mul-le-mul P P)) in
           by 1050 v w h (omega (arith, mul-le-mul L L)) (omega arith) (s .0) (s .1) (pow2-mono (omega arith))
 
+  -- r² - f², of which only the last rounding is not exact
   rest-finite : Finite (rest r f)
   rest-finite =
       sub-most {j = 400000000} {k = 400000000} (is-most (square-is r L) (omega (arith, mul-le-mul L L))) (record { finite = squared .0; bound = omega (arith, squared .1, mul-le-mul-right one (mul-le-mul L L)) }) (omega arith) (omega arith) .finite
@@ -67,7 +67,7 @@ module _ (r : ℕ) (P : 1 ≤ r) (L : r ≤ 20000) {f : Float} (F : Most (r * 2 
       let z = square-parts (F .finite) (squared .0) in
       rw (a .up, a .down, z .0, z .1) at (result-rounded (le-refl 1) (sub-result (a .finite) (squared .0)) rest-finite)
 
-  -- between 2 ^ -33 and r²
+  -- it is between 2 ^ -33 and r²
   rest-down : minus (rest r f) ≡ 0
   rest-down = minus-none (le-refl 1) rest-rounded (omega (arith, squared))
 
@@ -93,6 +93,7 @@ module _ (r : ℕ) (P : 1 ≤ r) (L : r ≤ 20000) {f : Float} (F : Most (r * 2 
     across-units : 2 ^ 16 * pow2 1041 ≤ mag (across r f)
     across-units = rw (← pow2-split 16 1041) (le-trans (omega arith) across-least)
 
+    -- across / d is at least one unit
     pub across-over : mag d ≤ mag (across r f) * one
     across-over = le-trans (M .bound) (mul-le-mul-right one (omega (arith, across-units, pow2-pos 1041)))
 
@@ -127,9 +128,16 @@ other-side {x} {z} X Z l = eq-units a s ∙ is-false (eqb p q) (not-T (eqb p q) 
     q : ℕ
     q = plus (sub binary64 x z) + minus (add binary64 x z)
 
+    -- each is within 2 ^ -37 of its exact value
+    A : Near (add binary64 x z) (plus x + plus z) (minus x + minus z) 1 margin
+    A = add-near X Z a 17 1037 (omega arith) refl
+
+    S : Near (sub binary64 x z) (plus x + minus z) (minus x + plus z) 1 margin
+    S = sub-near X Z s 17 1037 (omega arith) refl
+
     far : 16 * margin ≤ mag z
     far = le-trans (le-of-eq (sym (pow2-split 4 1037))) (le-trans (omega arith) l)
 
     apart : ((plus z ≡ mag z) × (minus z ≡ 0)) ⊎ ((plus z ≡ 0) × (minus z ≡ mag z)) → p ≡ q → ⊥
-    apart (inl u) e = let A = add-near X Z a 17 1037 (omega arith) refl in let S = sub-near X Z s 17 1037 (omega arith) refl in omega (arith, A, S, u, far, pow2-pos 1037)
-    apart (inr u) e = let A = add-near X Z a 17 1037 (omega arith) refl in let S = sub-near X Z s 17 1037 (omega arith) refl in omega (arith, A, S, u, far, pow2-pos 1037)
+    apart (inl u) e = omega (arith, A, S, u, far, pow2-pos 1037)
+    apart (inr u) e = omega (arith, A, S, u, far, pow2-pos 1037)

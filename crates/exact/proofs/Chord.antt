@@ -1,29 +1,42 @@
 -- Two crossing circles over whole numbers: the foot of the chord lies within the first circle by more than all that is rounded. D is the squared
 -- distance of the centres, r₁ and r₂ are the radii, t is their difference and s their sum. Nothing here is about floats.
-use mathlib.Core.Path.{_≡_, refl, sym, ap, _∙_}
+use mathlib.Core.Path.{_≡_, ap}
 use mathlib.Core.Logic.{_⊎_, inl, inr}
 use Prim.Native.Nat.{ℕ, zero, suc, _+_, _-_, _*_, _^_, _≤_, _<_}
 use native.Mathlib.Nat.{lt-irrefl, lt-of-lt-of-le, mul-le-mul, mul-le-mul-left, mul-le-mul-right}
 use native.Mathlib.Omega.{arith}
+use Rattle.heads.specs.Relation.{gap}
 use Rattle.binary64.proofs.Naturals.{lt-or-ge}
 
--- |r₁² - r₂² + D|: over twice the distance it is how far the foot of the chord lies from the first centre.
-abbrev pub reach : ℕ → ℕ → ℕ → ℕ
-reach r₁ r₂ D = (r₁ * r₁ + D - r₂ * r₂) + (r₂ * r₂ - (r₁ * r₁ + D))
+-- ---- the difference of two numbers
 
--- the square of a difference
-square-apart : (u v : ℕ) → ((u - v) + (v - u)) * ((u - v) + (v - u)) + 2 * (u * v) ≡ u * u + v * v
-square-apart u v = go (lt-or-ge u v)
+-- the larger is the smaller and the difference
+pub gap-either : (a b : ℕ) → (a ≡ b + gap a b) ⊎ (b ≡ a + gap a b)
+unfolding gap
+gap-either a b = go (lt-or-ge a b)
   where
-    by : (u v k n : ℕ) → n ≡ k → u ≡ v + k → n * n + 2 * (u * v) ≡ u * u + v * v
-    by u v k n e f = let g = ap (λ (z : ℕ). z * z) e in let h = ap (λ (z : ℕ). z * z) f in let i = ap (λ (z : ℕ). z * v) f in omega arith
+    go : (a < b) ⊎ (b ≤ a) → (a ≡ b + ((a - b) + (b - a))) ⊎ (b ≡ a + ((a - b) + (b - a)))
+    go (inl h) = inr (omega arith)
+    go (inr h) = inl (omega arith)
 
-    by-other : (u v k n : ℕ) → n ≡ k → v ≡ u + k → n * n + 2 * (u * v) ≡ u * u + v * v
-    by-other u v k n e f = let g = ap (λ (z : ℕ). z * z) e in let h = ap (λ (z : ℕ). z * z) f in let i = ap (λ (z : ℕ). u * z) f in omega arith
+-- and neither is beyond the other by more
+pub gap-within : (a b : ℕ) → (a ≤ b + gap a b) × (b ≤ a + gap a b)
+unfolding gap
+gap-within a b = omega arith
 
-    go : (u < v) ⊎ (v ≤ u) → ((u - v) + (v - u)) * ((u - v) + (v - u)) + 2 * (u * v) ≡ u * u + v * v
-    go (inl l) = by-other u v (v - u) ((u - v) + (v - u)) (omega arith) (omega arith)
-    go (inr l) = by u v (u - v) ((u - v) + (v - u)) (omega arith) (omega arith)
+-- its square
+pub gap-square : (a b : ℕ) → gap a b * gap a b + 2 * (a * b) ≡ a * a + b * b
+gap-square a b = go (gap a b) (gap-either a b)
+  where
+    go : (t : ℕ) → (a ≡ b + t) ⊎ (b ≡ a + t) → t * t + 2 * (a * b) ≡ a * a + b * b
+    go t (inl e) = omega (arith, ap (λ (k : ℕ). k * k) e, ap (λ (k : ℕ). k * b) e)
+    go t (inr e) = omega (arith, ap (λ (k : ℕ). k * k) e, ap (λ (k : ℕ). a * k) e)
+
+-- ---- X = r₁² - r₂² + D, which over twice the distance is how far the foot of the chord lies from the first centre
+
+-- |X|
+abbrev pub reach : ℕ → ℕ → ℕ → ℕ
+reach r₁ r₂ D = gap (r₁ * r₁ + D) (r₂ * r₂)
 
 -- two numbers above zero: their product is at least their sum less one
 product-least : (p m : ℕ) → 0 < p → 0 < m → p + m ≤ p * m + 1
@@ -40,24 +53,26 @@ by-parts D a b c τ σ p m A C T S P M Q =
     let pm : p * m + D * D + τ * σ ≡ D * σ + D * τ = omega (arith, ap (λ (z : ℕ). p * z) M, ap (λ (z : ℕ). D * z) P, ap (λ (z : ℕ). σ * z) P) in
     omega (arith, τσ, sum, pm)
 
-module _ (r₁ r₂ D t : ℕ) (T : t * t + 2 * (r₁ * r₂) ≡ r₁ * r₁ + r₂ * r₂) (low : t * t < D) (high : D < (r₁ + r₂) * (r₁ + r₂)) where
-  -- X² + (D - t²)(s² - D) = 4 D r₁², with p and m for the two factors and A for |X|
-  heron : (p m A : ℕ) → D ≡ t * t + p → (r₁ + r₂) * (r₁ + r₂) ≡ D + m → A * A + 2 * ((r₁ * r₁ + D) * (r₂ * r₂)) ≡ (r₁ * r₁ + D) * (r₁ * r₁ + D) + r₂ * r₂ * (r₂ * r₂)
-      → A * A + p * m ≡ 4 * (D * (r₁ * r₁))
-  heron p m A P M Q =
-      by-parts D (r₁ * r₁) (r₂ * r₂) (r₁ * r₂) (t * t) ((r₁ + r₂) * (r₁ + r₂)) p m A (omega arith) T (omega arith) P M Q
+module _ (r₁ r₂ D : ℕ) (low : gap r₁ r₂ * gap r₁ r₂ < D) (high : D < (r₁ + r₂) * (r₁ + r₂)) where
+  -- X² + (D - t²)(s² - D) = 4 D r₁², with p and m for the two factors
+  heron : (p m : ℕ) → D ≡ gap r₁ r₂ * gap r₁ r₂ + p → (r₁ + r₂) * (r₁ + r₂) ≡ D + m → reach r₁ r₂ D * reach r₁ r₂ D + p * m ≡ 4 * (D * (r₁ * r₁))
+  heron p m P M =
+      by-parts D (r₁ * r₁) (r₂ * r₂) (r₁ * r₂) (gap r₁ r₂ * gap r₁ r₂) ((r₁ + r₂) * (r₁ + r₂)) p m (reach r₁ r₂ D) (omega arith) (gap-square r₁ r₂) (omega arith) P M (gap-square (r₁ * r₁ + D) (r₂ * r₂))
 
   -- and the product is at least 3 r₁ r₂
   pub reach-square : 0 < r₁ * r₂ → reach r₁ r₂ D * reach r₁ r₂ D + 3 * (r₁ * r₂) ≤ 4 * (D * (r₁ * r₁))
-  reach-square R = least (D - t * t) ((r₁ + r₂) * (r₁ + r₂) - D) (reach r₁ r₂ D) (omega arith) (omega arith) (square-apart (r₁ * r₁ + D) (r₂ * r₂))
+  reach-square R = least (D - gap r₁ r₂ * gap r₁ r₂) ((r₁ + r₂) * (r₁ + r₂) - D) (omega arith) (omega arith)
     where
-      least : (p m A : ℕ) → D ≡ t * t + p → (r₁ + r₂) * (r₁ + r₂) ≡ D + m → A * A + 2 * ((r₁ * r₁ + D) * (r₂ * r₂)) ≡ (r₁ * r₁ + D) * (r₁ * r₁ + D) + r₂ * r₂ * (r₂ * r₂)
-          → A * A + 3 * (r₁ * r₂) ≤ 4 * (D * (r₁ * r₁))
-      least p m A P M Q = omega (arith, heron p m A P M Q, product-least p m (omega arith) (omega arith))
+      least : (p m : ℕ) → D ≡ gap r₁ r₂ * gap r₁ r₂ + p → (r₁ + r₂) * (r₁ + r₂) ≡ D + m → reach r₁ r₂ D * reach r₁ r₂ D + 3 * (r₁ * r₂) ≤ 4 * (D * (r₁ * r₁))
+      least p m P M = omega (arith, heron p m P M, product-least p m (omega arith) (omega arith), gap-square r₁ r₂)
 
-  -- X is at most what it is where the circles touch from outside
+  -- |X| is at most what it is where the circles touch from outside
   pub reach-most : reach r₁ r₂ D ≤ 2 * (r₁ * (r₁ + r₂))
-  reach-most = omega arith
+  reach-most = go (gap-either (r₁ * r₁ + D) (r₂ * r₂))
+    where
+      go : (r₁ * r₁ + D ≡ r₂ * r₂ + reach r₁ r₂ D) ⊎ (r₂ * r₂ ≡ r₁ * r₁ + D + reach r₁ r₂ D) → reach r₁ r₂ D ≤ 2 * (r₁ * (r₁ + r₂))
+      go (inl e) = omega arith
+      go (inr e) = omega (arith, gap-square r₁ r₂)
 
 -- A stands for |X|, and q for √D in units of 2 ^ -37: whole numbers with q² ≤ D * 2 ^ 74 ≤ q² + 2 q.
 module _ (r₁ r₂ D A q : ℕ) (R : 0 < r₁ * r₂) (L₁ : r₁ ≤ 20000) (L₂ : r₂ ≤ 20000) (M : r₁ ≤ 20000 * r₂)

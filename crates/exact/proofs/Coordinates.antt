@@ -1,12 +1,12 @@
 -- The coordinates of the points where two outlines meet: finite, and how large they are at most. The foot of the chord lies at most r₁ from the first
 -- centre along each axis, and each point at most 2 r₁ from the foot. Rests on binary64's Operations.
-use mathlib.Core.Path.{_≡_, refl, sym, ap, _∙_, subst}
-use Prim.Native.Nat.{ℕ, _+_, _*_, _^_, _≤_, _<_}
+use mathlib.Core.Path.{_≡_, sym, ap}
+use Prim.Native.Nat.{ℕ, _*_, _^_, _≤_, _<_}
 use native.Mathlib.Nat.{le-trans, le-of-eq, lt-of-lt-of-le, mul-assoc, mul-pos, mul-le-mul, mul-le-mul-left, mul-le-mul-right}
 use native.Mathlib.Omega.{arith}
-use lib.Ieee.{Float, binary64, add, sub, mul, div, round, unlike}
+use lib.Ieee.{Float, binary64, add, mul, div, unlike}
 use Rattle.binary64.specs.Units.{pow2, one, Finite, mag, negative}
-use Rattle.binary64.specs.Magnitude.{Most, Least}
+use Rattle.binary64.specs.Magnitude.{Most}
 use Rattle.binary64.proofs.Units.{one-pos}
 use Rattle.binary64.proofs.Rounding.{rnd-le, rnd-ge, rnd-twice}
 use Rattle.binary64.proofs.Operations.{round-finite, mul-round, mul-mag, div-round, div-mag}
@@ -15,6 +15,7 @@ use Rattle.binary64.proofs.Magnitude.{bound-digits, bound-limit, most-weaken, a
 -- ---- a product and a quotient against a bound that is a float itself
 
 module _ {x y : Float} (h : Finite x) (k : Finite y) {j a : ℕ} (J : j ≤ 2 ^ 53) (A : a ≤ 2044) where
+  -- x * y and x / y are at most j * 2 ^ a units, where the exact values are
   pub product-most : mag x * mag y ≤ j * pow2 a * one → Most j a (mul binary64 x y)
   product-most l = record { finite = f; bound = le-trans (le-of-eq (mul-mag h k f)) (rnd-le (mag x * mag y) one one-pos (bound-digits a J) l) }
     where
@@ -30,6 +31,7 @@ module _ {x y : Float} (h : Finite x) (k : Finite y) {j a : ℕ} (J : j ≤ 2 ^ 
       f = rw (div-round h k Y) (round-finite (unlike (negative x) (negative y)) (mag x) (mag y) Y (bound-digits a J) (bound-limit J A) l)
 
 module _ {x y : Float} (h : Finite x) (k : Finite y) {j : ℕ} (a : ℕ) (J : j ≤ 2 ^ 53) where
+  -- and at least, where they are
   pub product-least : Finite (mul binary64 x y) → j * pow2 a * one ≤ mag x * mag y → j * pow2 a ≤ mag (mul binary64 x y)
   product-least f l = le-trans (rnd-ge (mag x * mag y) one one-pos (bound-digits a J) l) (le-of-eq (sym (mul-mag h k f)))
 
@@ -53,7 +55,7 @@ module _ {Δ d : Float} {m : ℕ} (leg : Leg Δ d m) (D : Finite d) (P : one ≤
   d-pos : 0 < mag d
   d-pos = lt-of-lt-of-le one-pos P
 
-  -- the way from the centre to the foot
+  -- the way from the centre to the foot, f * Δ / d: at most |f|, since |Δ| is at most d
   pub way-most : {f : Float} → Most r 1074 f → Most r 1074 (div binary64 (mul binary64 f Δ) d)
   way-most {f} F = quotient-most (product .finite) D (omega arith) (omega arith) d-pos (le-trans (mul-le-mul-right one (product .bound)) (omega (arith, mul-le-mul-left (r * one) (leg .within))))
     where
@@ -62,7 +64,7 @@ module _ {Δ d : Float} {m : ℕ} (leg : Leg Δ d m) (D : Finite d) (P : one ≤
           product-most (F .finite) (leg .finite) (omega (arith, mul-le-mul R (leg .small))) (omega arith)
           (le-trans (mul-le-mul (F .bound) (le-of-eq (leg .size))) (omega arith))
 
-  -- the way from the foot to a point, for an h of which h / d is at least one unit: then rounding does not double it
+  -- the way from the foot to a point, Δ * (h / d): at most 2 |h|, for an h of which h / d is at least one unit, so that rounding does not double it
   pub offset-most : {h : Float} → Most r 1074 h → mag d ≤ mag h * one → Most (2 * r) 1074 (mul binary64 Δ (div binary64 h d))
   offset-most {h} H l =
       let q = part-most D P R H in

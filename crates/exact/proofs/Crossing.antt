@@ -1,35 +1,30 @@
--- Two circles that cross: the foot of the chord lies inside the first circle by at least 2 ^ -33, so something is left across, and the two points differ
--- by more than the errors of their coordinates. Every bound is a float itself, so rounding does not pass it; 2 ^ -37 is `margin` units.
--- Rests on Chord, Distance, Squares and Coordinates.
-use mathlib.Core.Path.{_≡_, refl, sym, ap, ap₂, _∙_, subst}
+-- Two circles that cross: the foot of the chord lies inside the first circle by at least 2 ^ -33. Every bound on the way is a float itself, so that
+-- rounding does not pass it; 2 ^ -37 is `margin` units. Rests on Chord, Distance, Steps and Coordinates.
+use mathlib.Core.Path.{_≡_, ap}
 use mathlib.Core.Logic.{_⊎_, inl, inr}
-use mathlib.Core.Bool.{Bool, true, false}
-use Prim.Native.Nat.{ℕ, suc, _+_, _-_, _*_, _^_, _≤_, _<_}
-use native.Mathlib.Nat.{le-refl, le-trans, le-of-eq, le-of-lt, lt-of-lt-of-le, mul-pos, mul-le-mul, mul-le-mul-left, mul-le-mul-right}
+use Prim.Native.Nat.{ℕ, _+_, _-_, _*_, _^_, _≤_, _<_}
+use native.Mathlib.Nat.{le-refl, le-trans, le-of-lt, lt-of-lt-of-le, mul-pos, mul-le-mul, mul-le-mul-left, mul-le-mul-right}
 use native.Mathlib.Omega.{arith}
-use lib.IntN.{pos}
-use lib.Ieee.{Float, binary64, add, sub, mul, div, eq, ofInt}
-use Rattle.binary64.specs.Units.{pow2, one, Finite, mag, negative, plus, minus}
-use Rattle.binary64.specs.Rounding.{Near}
+use lib.Ieee.{Float, binary64, add, mul}
+use Rattle.heads.specs.Relation.{gap}
+use Rattle.binary64.specs.Units.{pow2, one, Finite, mag, plus, minus}
 use Rattle.binary64.specs.Constants.{two64}
-use Rattle.binary64.specs.Magnitude.{Most, Least}
+use Rattle.binary64.specs.Magnitude.{Most}
 use Rattle.binary64.proofs.Naturals.{lt-or-ge}
-use Rattle.binary64.proofs.Units.{one-pos, pow2-pos, pow2-mono, pow2-split, plus-minus, eq-units}
+use Rattle.binary64.proofs.Units.{pow2-pos, pow2-split}
 use Rattle.binary64.proofs.Operations.{add-result, result-finite, result-le}
-use Rattle.binary64.proofs.Magnitude.{bound-digits, bound-limit, most-finer, add-most, sub-most, mul-most, mul-least, div-most}
-use Rattle.binary64.proofs.Error.{add-near, sub-near}
-use Rattle.elementary.specs.Root.{root, wholeRoot}
+use Rattle.binary64.proofs.Magnitude.{bound-digits, bound-limit}
+use Rattle.elementary.specs.Root.{wholeRoot}
 use Rattle.elementary.proofs.root.Whole.{Floor, floor}
-use Rattle.elementary.proofs.root.Values.{root-finite}
-use Rattle.elementary.proofs.root.Squares.{at-most, at-least}
-use Rattle.exact.proofs.Chord.{reach, reach-square, reach-most, inside}
-use Rattle.exact.proofs.Distance.{margin, Is, whole-is, is-mag, is-most, rootOf, root-is-finite, root-most, root-at-most-fine, root-at-least-fine}
-use Rattle.exact.proofs.Squares.{float, two-is, difference, along, rest, across, square-is, square-parts, difference-finite, difference-parts}
-use Rattle.exact.proofs.Coordinates.{product-most, quotient-most, product-least, quotient-least}
+use Rattle.exact.proofs.Chord.{gap-within, reach, reach-square, reach-most, inside}
+use Rattle.exact.proofs.Distance.{margin, Is, whole-is, is-mag, rootOf, root-is-finite, root-most, root-at-most-fine, root-at-least-fine}
+use Rattle.exact.proofs.Steps.{two-is, difference, along, square-parts, difference-exact}
+use Rattle.exact.proofs.Coordinates.{product-most, quotient-most, product-least}
 
-module _ (r₁ r₂ D t : ℕ) (P₁ : 1 ≤ r₁) (L₁ : r₁ ≤ 20000) (P₂ : 1 ≤ r₂) (L₂ : r₂ ≤ 20000) (T : t * t + 2 * (r₁ * r₂) ≡ r₁ * r₁ + r₂ * r₂) (low : t * t < D) (high : D < (r₁ + r₂) * (r₁ + r₂)) where
+module _ (r₁ r₂ D : ℕ) (P₁ : 1 ≤ r₁) (L₁ : r₁ ≤ 20000) (P₂ : 1 ≤ r₂) (L₂ : r₂ ≤ 20000) (low : gap r₁ r₂ * gap r₁ r₂ < D) (high : D < (r₁ + r₂) * (r₁ + r₂)) where
   -- ---- the distance
 
+  -- D is below s², and s at most 40000
   far : D ≤ 1600000000
   far = omega (arith, mul-le-mul {n₁ = r₁ + r₂} {m₁ = r₁ + r₂} {n₂ = 40000} {m₂ = 40000} (omega arith) (omega arith))
 
@@ -54,6 +49,7 @@ module _ (r₁ r₂ D t : ℕ) (P₁ : 1 ≤ r₁) (L₁ : r₁ ≤ 20000) (P₂
       go (inl h) = absurd (omega (arith, mul-le-mul h h, q-floor .least, high))
       go (inr h) = h
 
+  -- so that the distance lies between q and q + 1
   d-least : q * margin ≤ mag d
   d-least = root-at-least-fine D D-below q (omega (arith, q-most)) (q-floor .least)
 
@@ -94,13 +90,13 @@ module _ (r₁ r₂ D t : ℕ) (P₁ : 1 ≤ r₁) (L₁ : r₁ ≤ 20000) (P₂
   numerator = add binary64 (difference r₁ r₂) (mul binary64 d d)
 
   numerator-most : Most (reach r₁ r₂ D * 2 ^ 20 + 1) 1054 numerator
-  numerator-most = go (reach r₁ r₂ D) (omega arith) (omega arith) (omega (arith, reach-most r₁ r₂ D t T low high, mul-le-mul L₁ L₁, mul-le-mul L₁ L₂))
+  numerator-most = go (reach r₁ r₂ D) (gap-within (r₁ * r₁ + D) (r₂ * r₂) .0) (gap-within (r₁ * r₁ + D) (r₂ * r₂) .1) (omega (arith, reach-most r₁ r₂ D low high, mul-le-mul L₁ L₁, mul-le-mul L₁ L₂))
     where
       go : (A : ℕ) → r₁ * r₁ + D ≤ r₂ * r₂ + A → r₂ * r₂ ≤ r₁ * r₁ + D + A → A * 2 ^ 20 + 1 ≤ 2 ^ 53 → Most (A * 2 ^ 20 + 1) 1054 numerator
       go A h k few =
-          let F = difference-finite r₁ r₂ L₁ L₂ in
-          let r = add-result F (squared-most .finite) in
-          let e = rw (pow2-split 20 1054) at (difference-parts r₁ r₂ L₁ L₂) in
+          let E = difference-exact r₁ r₂ L₁ L₂ in
+          let r = add-result (E .finite) (squared-most .finite) in
+          let e = rw (pow2-split 20 1054) at (E .parts) in
           let z = square-parts (root-is-finite D D-below) (squared-most .finite) in
           let over = mul-le-mul-right (pow2 1054) h in
           let under = mul-le-mul-right (pow2 1054) k in
@@ -109,6 +105,7 @@ module _ (r₁ r₂ D t : ℕ) (P₁ : 1 ≤ r₁) (L₁ : r₁ ≤ 20000) (P₂
           let f = result-finite (le-refl 1) r (bound-digits 1054 few) up down (bound-limit few (omega arith)) in
           record { finite = f; bound = result-le (le-refl 1) r (bound-digits 1054 few) up down f }
 
+  -- 2 d is at least 2 q / 2 ^ 37
   two-whole : Is two64 2
   two-whole = rw two-is (whole-is 2 (omega arith))
 
@@ -131,7 +128,7 @@ module _ (r₁ r₂ D t : ℕ) (P₁ : 1 ≤ r₁) (L₁ : r₁ ≤ 20000) (P₂
     where
       crux : (reach r₁ r₂ D * 2 ^ 20 + 1) * 2 ^ 49 + q ≤ r₁ * 2 ^ 33 * q
       crux =
-          inside r₁ r₂ D (reach r₁ r₂ D) q (mul-pos P₁ P₂) L₁ L₂ (omega arith) (reach-square r₁ r₂ D t T low high (mul-pos P₁ P₂)) (reach-most r₁ r₂ D t T low high) (omega (arith, q-floor .most)) q-most
+          inside r₁ r₂ D (reach r₁ r₂ D) q (mul-pos P₁ P₂) L₁ L₂ (omega arith) (reach-square r₁ r₂ D low high (mul-pos P₁ P₂)) (reach-most r₁ r₂ D low high) (omega (arith, q-floor .most)) q-most
 
       less : (w : ℕ) {m : ℕ} → w + 1 ≡ r₁ * 2 ^ 33 → m + q ≤ r₁ * 2 ^ 33 * q → m ≤ w * q
       less w e h = omega (arith, ap (λ (k : ℕ). k * q) e)

@@ -1,21 +1,19 @@
 -- The distance of two centres is the root of D, rounded, and this is how it compares with a whole number n: as D does with n². Where the two
 -- differ, the distance differs from n by at least 2 ^ -37. Rests on the root of a whole number (elementary's Integers).
-use mathlib.Core.Path.{_≡_, refl, sym, ap, ap₂, _∙_, subst}
+use mathlib.Core.Path.{_≡_, refl, sym, _∙_}
 use mathlib.Core.Logic.{_⊎_, inl, inr}
-use mathlib.Core.Bool.{Bool, true, false}
-use Prim.Native.Nat.{ℕ, zero, suc, _+_, _-_, _*_, _^_, _≤_, _<_}
+use Prim.Native.Nat.{ℕ, _+_, _-_, _*_, _^_, _≤_, _<_}
 use native.Mathlib.Nat.{le-trans, le-of-eq, mul-le-mul, mul-le-mul-right}
 use native.Mathlib.Omega.{arith}
-use lib.Dec.{ltb, ltb→lt, lt→ltb}
-use lib.IntN.{ℤ, pos, natAbs, _-ℤ_}
-use lib.Ieee.{Float, binary64, lt, ofInt}
+use lib.IntN.{pos, natAbs, _-ℤ_}
+use lib.Ieee.{Float, binary64, ofInt}
 use Rattle.heads.specs.declared.Head.{Head}
 use Rattle.heads.specs.Pair.{squaredDistance}
 use Rattle.heads.specs.Distance.{InLimits}
-use Rattle.binary64.specs.Units.{pow2, one, Finite, mag, negative, plus, minus}
-use Rattle.binary64.specs.Magnitude.{Most, Least}
-use Rattle.binary64.proofs.Naturals.{lt-or-ge, same-test}
-use Rattle.binary64.proofs.Units.{pow2-split, plus-is, plus-minus, lt-units}
+use Rattle.binary64.specs.Units.{pow2, one, Finite, mag, plus, minus}
+use Rattle.binary64.specs.Magnitude.{Most}
+use Rattle.binary64.proofs.Naturals.{lt-or-ge}
+use Rattle.binary64.proofs.Units.{pow2-split, plus-minus}
 use Rattle.binary64.proofs.Magnitude.{bound-digits}
 use Rattle.binary64.proofs.Whole.{ofInt-finite, ofInt-pos, add-ofInt, sub-ofInt, square-ofInt}
 use Rattle.elementary.specs.Root.{root, hypot}
@@ -37,6 +35,7 @@ pub record Is (x : Float) (n : ℕ) : Type 0 where
   pub up : plus x ≡ n * one
   pub down : minus x ≡ 0
 
+-- a whole number up to 2 ^ 53 is so, and its size
 pub whole-is : (n : ℕ) → n ≤ 2 ^ 53 → Is (ofInt binary64 (pos n)) n
 whole-is n h =
     let p = ofInt-pos n h in
@@ -47,14 +46,6 @@ is-mag {x} w = sym (plus-minus x) ∙ omega (arith, w .up, w .down)
 
 pub is-most : {x : Float} {n j : ℕ} → Is x n → n ≤ j → Most j 1074 x
 is-most w h = record { finite = w .finite; bound = le-trans (le-of-eq (is-mag w)) (mul-le-mul-right one h) }
-
--- ---- the tests < and ≤ as tests of natural numbers
-
-module _ {x y : Float} (h : Finite x) (k : Finite y) (p q : ℕ) where
-  pub lt-as : (p < q → plus x + minus y < plus y + minus x) → (plus x + minus y < plus y + minus x → p < q) → lt x y ≡ ltb p q
-  lt-as f g =
-      lt-units h k
-      ∙ same-test (ltb (plus x + minus y) (plus y + minus x)) (ltb p q) (λ t. lt→ltb p q (g (ltb→lt (plus x + minus y) (plus y + minus x) t))) (λ t. lt→ltb (plus x + minus y) (plus y + minus x) (f (ltb→lt p q t)))
 
 -- ---- the distance
 
@@ -86,6 +77,7 @@ distance-is {a} {b} la lb L =
     refl
 
 module _ (D : ℕ) (L : D < 2 ^ 32) where
+  -- D is exact; its root is finite and not below zero
   radicand : Is (ofInt binary64 (pos D)) D
   radicand = whole-is D (omega arith)
 
@@ -102,7 +94,7 @@ module _ (D : ℕ) (L : D < 2 ^ 32) where
   pub root-most : Most (2 ^ 16) 1074 (rootOf D)
   root-most = record { finite = root-is-finite; bound = whole-le (radicand .finite) (radicand .down) D (is-mag radicand) (2 ^ 16) (omega arith) (omega arith) }
 
-  -- against a whole number n
+  -- against a whole number n: at most n, at least n, beyond n and short of n by the margin, as D and n² compare
   module _ (n : ℕ) (N : n ≤ 2 ^ 16 - 1) where
     pub root-at-most : D ≤ n * n → mag (rootOf D) ≤ n * one
     root-at-most h = whole-le (radicand .finite) (radicand .down) D (is-mag radicand) n (omega arith) h
@@ -120,7 +112,7 @@ module _ (D : ℕ) (L : D < 2 ^ 32) where
         le-trans (omega arith)
         (shortfall (radicand .finite) (radicand .down) D (is-mag radicand) n 1 37 1037 refl (omega arith) (omega arith) (omega arith))
 
-  -- against v / 2 ^ 37
+  -- against v / 2 ^ 37, as D * 2 ^ 74 and v² compare
   module _ (v : ℕ) (few : v ≤ 2 ^ 53) where
     -- both squares, in units of 2 ^ -37 squared
     squares : (mag (ofInt binary64 (pos D)) * one ≡ D * 2 ^ 74 * (margin * margin)) × (v * margin * (v * margin) ≡ v * v * (margin * margin))

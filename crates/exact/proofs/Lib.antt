@@ -1,8 +1,9 @@
+-- The arguments for specs/Decisions.antt.
 pub mod Chord
 pub mod Distance
 pub mod Tests
+pub mod Steps
 pub mod Coordinates
-pub mod Squares
 pub mod Touching
 pub mod Crossing
 pub mod Across

@@ -4,12 +4,13 @@ use mathlib.Core.Path.{_≡_, refl, sym, ap, ap₂, _∙_, subst}
 use mathlib.Core.Logic.{_⊎_, inl, inr}
 use mathlib.Core.Bool.{Bool, true, false, _&&_, cond}
 use mathlib.Core.List.{List, [], _∷_}
-use Prim.Native.Nat.{ℕ, zero, suc, _+_, _-_, _*_, _^_, _≤_, _<_}
-use native.Mathlib.Nat.{le-refl, le-trans, le-of-eq, mul-le-mul}
+use Prim.Native.Nat.{ℕ, _+_, _-_, _*_, _^_, _≤_, _<_}
+use native.Mathlib.Nat.{le-trans, mul-le-mul}
 use native.Mathlib.Omega.{arith}
 use lib.ListN.{length}
-use lib.IntN.{ℤ, pos, natAbs, _-ℤ_}
+use lib.IntN.{ℤ, natAbs, _-ℤ_}
 use lib.Ieee.{Float, binary64, add, sub, mul, div, neg, eq, ofInt}
+use Rattle.heads.specs.Relation.{gap}
 use Rattle.heads.specs.Distance.{natAbs-diff-comm}
 use Rattle.binary64.specs.Units.{pow2, one, Finite, mag}
 use Rattle.binary64.specs.Magnitude.{Most}
@@ -25,7 +26,7 @@ use Rattle.geometry.specs.Circle.{around, crossing}
 use Rattle.geometry.specs.Meeting.{distinct}
 use Rattle.exact.specs.Points.{Placed, AllPlaced}
 use Rattle.exact.proofs.Distance.{rootOf, part-below, root-is-finite, root-most, root-at-least}
-use Rattle.exact.proofs.Squares.{float, along, across}
+use Rattle.exact.proofs.Steps.{float, along, across}
 use Rattle.exact.proofs.Coordinates.{Leg, foot-most, offset-most, offset-none}
 use Rattle.exact.proofs.Touching as touch
 use Rattle.exact.proofs.Touching.{same-side}
@@ -47,11 +48,13 @@ leg-of D L u v p q h =
       within = root-at-least D L (natAbs (u -ℤ v)) (omega arith) h;
     })
 
+-- and so is what it is below zero
 pub leg-neg : {Δ d : Float} {m : ℕ} → Leg Δ d m → Leg (neg Δ) d m
 leg-neg {Δ} g = record { finite = neg-finite (g .finite); size = neg-mag Δ ∙ g .size; small = g .small; within = g .within }
 
 -- ---- one point or two
 
+-- equal in both coordinates: one; different in one of them: two
 one-of : (p q : Point) → eq (p .x) (q .x) ≡ true → eq (p .y) (q .y) ≡ true → distinct p q ≡ p ∷ []
 one-of p q e f = ap₂ (λ (i j : Bool). cond (i && j) (p ∷ []) (p ∷ q ∷ [])) e f
 
@@ -141,9 +144,9 @@ module _ (x₁ y₁ x₂ y₂ : ℤ) (X₁ : natAbs x₁ ≤ 20000) (Y₁ : natA
         found-one (foot-x F) (foot-y F) (offset-none (leg-neg leg-y) d-finite d-least L₁ H) (offset-none leg-x d-finite d-least L₁ H)
 
     -- They cross: t² < D < s².
-    pub crossed : (t : ℕ) → t * t + 2 * (r₁ * r₂) ≡ r₁ * r₁ + r₂ * r₂ → t * t < D → D < (r₁ + r₂) * (r₁ + r₂) → Found (crossing A B d) 2
-    crossed t T low high =
-        let G = cross.along-most r₁ r₂ D t P₁ L₁ P₂ L₂ T low high in
+    pub crossed : gap r₁ r₂ * gap r₁ r₂ < D → D < (r₁ + r₂) * (r₁ + r₂) → Found (crossing A B d) 2
+    crossed low high =
+        let G = cross.along-most r₁ r₂ D P₁ L₁ P₂ L₂ low high in
         let F : Most r₁ 1074 (along r₁ r₂ d) = most-coarser G 33 r₁ (omega arith) in
         let H = across-most r₁ P₁ L₁ G in
         let over = across-over r₁ P₁ L₁ G (root-most D L) d-least in

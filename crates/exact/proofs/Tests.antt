@@ -11,69 +11,74 @@ use lib.IntN.{ℤ, pos, negsuc, natAbs, _-ℤ_}
 use lib.Ieee.{Float, binary64, add, sub, lt, le, eq, ofInt}
 use lib.Ieee.Bits.{is-true}
 use lib.Ieee.Fits.{eq→eqb, and-i, and-l, and-r}
+use borrow.Author.Tests.{lt-ltb, le-ltb}
 use Rattle.heads.specs.declared.Head.{Head}
 use Rattle.heads.specs.Relation as relation
 use Rattle.heads.specs.Pair.{squaredDistance, radiusOf, containsOf}
 use Rattle.heads.specs.Cases.{gap-le, contains-facts}
 use Rattle.heads.specs.Distance.{InLimits, natAbs-diff}
-use Rattle.binary64.specs.Units.{pow2, one, Finite, mag, negative, plus, minus}
+use Rattle.binary64.specs.Units.{one, Finite, plus, minus}
 use Rattle.binary64.specs.Rounding.{Rounded}
 use Rattle.binary64.specs.Functions.{absolute}
 use Rattle.binary64.specs.Whole.{eqZ}
 use Rattle.binary64.proofs.Naturals.{lt-or-ge, same-test, not-ltb}
-use Rattle.binary64.proofs.Units.{one-pos, pow2-pos, pow2-split, plus-minus, same-float, neg-finite, neg-sign, neg-mag, le-units, le-not-lt}
+use Rattle.binary64.proofs.Units.{one-pos, pow2-pos, pow2-split, same-float, le-units, le-not-lt, lt-of-units, not-lt-of-units}
 use Rattle.binary64.proofs.Rounding.{plus-le, plus-ge, minus-none}
 use Rattle.binary64.proofs.Operations.{add-result, result-rounded}
 use Rattle.binary64.proofs.Magnitude.{bound-digits, add-most}
-use Rattle.binary64.proofs.Functions.{absolute-of-negative, absolute-of-other}
+use Rattle.binary64.proofs.Functions.{absolute-sign, absolute-mag, absolute-most}
 use Rattle.binary64.proofs.Whole.{add-ofInt, sub-ofInt, eq-ofInt, ofInt-finite, ofInt-sign, ofInt-mag, ofInt-most}
 use Rattle.geometry.specs.Circle as circle
 use Rattle.geometry.specs.Point.{distance}
 use Rattle.exact.specs.Circle.{circleOf}
-use Rattle.exact.proofs.Distance.{margin, Is, whole-is, lt-as, rootOf, distance-is, root-is-finite, root-down, root-up, root-most, root-at-most, root-at-least, root-beyond, root-short}
+use Rattle.exact.proofs.Distance.{margin, Is, whole-is, rootOf, distance-is, root-is-finite, root-down, root-up, root-most, root-at-most, root-at-least, root-beyond, root-short}
 
 -- ---- the root of D against a whole number n
 
+-- The test x < y passes just where p < q.
+lt-as : {x y : Float} → Finite x → Finite y → (p q : ℕ) → (p < q → plus x + minus y < plus y + minus x) → (q ≤ p → plus y + minus x ≤ plus x + minus y) → lt x y ≡ ltb p q
+lt-as {x} {y} h k p q f g = go (lt-or-ge p q)
+  where
+    go : (p < q) ⊎ (q ≤ p) → lt x y ≡ ltb p q
+    go (inl l) = lt-of-units h k (f l) ∙ sym (lt-ltb p q l)
+    go (inr l) = not-lt-of-units h k (g l) ∙ sym (le-ltb p q l)
+
 module _ (D n : ℕ) (L : D < 2 ^ 32) (N : n ≤ 2 ^ 16 - 1) where
+  -- both as floats
   w : Is (ofInt binary64 (pos n)) n
   w = whole-is n (omega arith)
 
   d : Finite (rootOf D)
   d = root-is-finite D L
 
+  -- n < √D, √D < n, n ≤ √D and √D ≤ n, as n² and D compare
   pub below-root : lt (ofInt binary64 (pos n)) (rootOf D) ≡ ltb (n * n) D
-  below-root = lt-as (w .finite) d (n * n) D yes (λ h. no h (lt-or-ge (n * n) D))
-    where
-      yes : n * n < D → plus (ofInt binary64 (pos n)) + minus (rootOf D) < plus (rootOf D) + minus (ofInt binary64 (pos n))
-      yes h = omega (arith, root-beyond D L n N h, pow2-pos 1037, root-up D L, root-down D L, w .up, w .down)
-
-      no : plus (ofInt binary64 (pos n)) + minus (rootOf D) < plus (rootOf D) + minus (ofInt binary64 (pos n)) → (n * n < D) ⊎ (D ≤ n * n) → n * n < D
-      no h (inl l) = l
-      no h (inr l) = absurd (omega (arith, root-at-most D L n N l, root-up D L, root-down D L, w .up, w .down))
+  below-root =
+      lt-as (w .finite) d (n * n) D
+      (λ h. omega (arith, root-beyond D L n N h, pow2-pos 1037, root-up D L, root-down D L, w .up, w .down))
+      (λ h. omega (arith, root-at-most D L n N h, root-up D L, root-down D L, w .up, w .down))
 
   pub above-root : lt (rootOf D) (ofInt binary64 (pos n)) ≡ ltb D (n * n)
-  above-root = lt-as d (w .finite) D (n * n) yes (λ h. no h (lt-or-ge D (n * n)))
-    where
-      yes : D < n * n → plus (rootOf D) + minus (ofInt binary64 (pos n)) < plus (ofInt binary64 (pos n)) + minus (rootOf D)
-      yes h = omega (arith, root-short D L n N h, pow2-pos 1037, root-up D L, root-down D L, w .up, w .down)
-
-      no : plus (rootOf D) + minus (ofInt binary64 (pos n)) < plus (ofInt binary64 (pos n)) + minus (rootOf D) → (D < n * n) ⊎ (n * n ≤ D) → D < n * n
-      no h (inl l) = l
-      no h (inr l) = absurd (omega (arith, root-at-least D L n N l, root-up D L, root-down D L, w .up, w .down))
+  above-root =
+      lt-as d (w .finite) D (n * n)
+      (λ h. omega (arith, root-short D L n N h, pow2-pos 1037, root-up D L, root-down D L, w .up, w .down))
+      (λ h. omega (arith, root-at-least D L n N h, root-up D L, root-down D L, w .up, w .down))
 
   pub not-above-root : le (ofInt binary64 (pos n)) (rootOf D) ≡ leb (n * n) D
   not-above-root = le-not-lt (w .finite) d ∙ ap not above-root ∙ not-ltb D (n * n)
+
+  pub not-below-root : le (rootOf D) (ofInt binary64 (pos n)) ≡ leb D (n * n)
+  not-below-root = le-not-lt d (w .finite) ∙ ap not below-root ∙ not-ltb (n * n) D
 
 -- ---- the sum and the difference of the radii
 
 -- the size of an integer, as a float
 absolute-ofInt : (z : ℤ) → natAbs z ≤ 2 ^ 53 → absolute (ofInt binary64 z) ≡ ofInt binary64 (pos (natAbs z))
-absolute-ofInt (pos n) h = sym (absolute-of-other (ofInt binary64 (pos n)) (ofInt-sign (pos n) h))
-absolute-ofInt (negsuc n) h =
-    let f = ofInt-finite (negsuc n) h in
-    sym (absolute-of-negative (ofInt binary64 (negsuc n)) (ofInt-sign (negsuc n) h))
-    ∙ same-float (neg-finite f) (ofInt-finite (pos (suc n)) h) (neg-sign f ∙ ap not (ofInt-sign (negsuc n) h) ∙ sym (ofInt-sign (pos (suc n)) h)) (neg-mag (ofInt binary64 (negsuc n)) ∙ ofInt-mag (negsuc n) h ∙ sym (ofInt-mag (pos (suc n)) h))
+absolute-ofInt z h =
+    same-float (absolute-most (ofInt-most z h (le-refl (natAbs z))) .finite) (ofInt-finite (pos (natAbs z)) h)
+    (absolute-sign (ofInt binary64 z) ∙ sym (ofInt-sign (pos (natAbs z)) h)) (absolute-mag (ofInt binary64 z) ∙ ofInt-mag z h ∙ sym (ofInt-mag (pos (natAbs z)) h))
 
+-- the floats' sum and the size of their difference are those of the whole numbers
 module _ (r₁ r₂ : ℕ) (L₁ : r₁ ≤ 20000) (L₂ : r₂ ≤ 20000) where
   pub sum-is : add binary64 (ofInt binary64 (pos r₁)) (ofInt binary64 (pos r₂)) ≡ ofInt binary64 (pos (r₁ + r₂))
   sum-is = add-ofInt (pos r₁) (pos r₂) (omega arith) (omega arith)
@@ -90,9 +95,9 @@ module _ (r₁ r₂ : ℕ) (L₁ : r₁ ≤ 20000) (L₂ : r₂ ≤ 20000) where
 
 -- ---- contains
 
--- (a - b) units and b units are a units
-mul-sub-one : (a b u : ℕ) → b ≤ a → (a - b) * u + b * u ≡ a * u
-mul-sub-one a b u h = sym (add-mul (a - b) b u) ∙ ap (λ (n : ℕ). n * u) (omega arith)
+-- (a - b) * u and b * u are a * u
+rest-units : (a b u : ℕ) → b ≤ a → (a - b) * u + b * u ≡ a * u
+rest-units a b u h = sym (add-mul (a - b) b u) ∙ ap (λ (n : ℕ). n * u) (omega arith)
 
 module _ (D r₁ r₂ : ℕ) (L : D < 2 ^ 32) (L₁ : r₁ ≤ 20000) (L₂ : r₂ ≤ 20000) where
   R₁ : Is (ofInt binary64 (pos r₁)) r₁
@@ -117,7 +122,7 @@ module _ (D r₁ r₂ : ℕ) (L : D < 2 ^ 32) (L₁ : r₁ ≤ 20000) (L₂ : r�
   -- each bound is a float itself, so rounding does not pass it
   both-most : r₂ ≤ r₁ → D ≤ (r₁ - r₂) * (r₁ - r₂) → plus both ≤ r₁ * one
   both-most h k =
-      let g = mul-sub-one r₁ r₂ one h in
+      let g = rest-units r₁ r₂ one h in
       plus-le (le-refl 1) both-rounded (bound-digits 1074 (omega arith)) (omega (arith, root-at-most D L (r₁ - r₂) (omega arith) k, root-up D L, R₂ .up))
 
   both-least : r₁ < r₂ → r₂ * one ≤ plus both
@@ -125,7 +130,7 @@ module _ (D r₁ r₂ : ℕ) (L : D < 2 ^ 32) (L₁ : r₁ ≤ 20000) (L₂ : r�
 
   both-beyond : r₂ ≤ r₁ → (r₁ - r₂) * (r₁ - r₂) < D → (r₁ * 2 ^ 37 + 1) * margin ≤ plus both
   both-beyond h k =
-      let g = mul-sub-one r₁ r₂ one h in
+      let g = rest-units r₁ r₂ one h in
       plus-ge (le-refl 1) both-rounded (bound-digits 1037 (omega arith)) (omega (arith, root-beyond D L (r₁ - r₂) (omega arith) k, pow2-split 37 1037, ap (λ (n : ℕ). r₁ * n) (pow2-split 37 1037), root-up D L, root-down D L, R₂ .up, R₂ .down))
 
   -- so where the sum is at most the first radius, D is at most the square of the difference
@@ -239,11 +244,16 @@ module _ {a b : Head} (la : InLimits a) (lb : InLimits b) (L : squaredDistance a
   pub intersects-is : circle.intersects (circleOf a) (circleOf b) ≡ (ltb D (s * s) && ltb (t * t) D)
   intersects-is = ap₂ (λ (i j : Bool). i && j) (ap₂ lt (distance-is la lb L) sum ∙ above-root D s L s-most) (ap₂ lt difference (distance-is la lb L) ∙ below-root D t L t-most)
 
+  -- a contains b: rA ≥ rB and D ≤ (rA - rB)²
   pub contains-heads : circle.contains (circleOf a) (circleOf b) ≡ containsOf a b
   contains-heads =
       ap₂ le (ap₂ (λ (x : Float) (z : ℤ). add binary64 x (ofInt binary64 z)) (distance-is la lb L) (lb .whole)) (ap (λ (z : ℤ). ofInt binary64 z) (la .whole))
       ∙ contains-is D (radiusOf a) (radiusOf b) L (la .most) (lb .most)
 
-  -- the radii together are at most the distance: D ≥ s²
+  -- the distance is at least the sum of the radii: D ≥ s²
   pub beyond-is : le (add binary64 (ofInt binary64 (a .radius)) (ofInt binary64 (b .radius))) (distance (circleOf a .center) (circleOf b .center)) ≡ leb (s * s) D
   beyond-is = ap₂ le sum (distance-is la lb L) ∙ not-above-root D s L s-most
+
+  -- the distance is at most their difference: D ≤ t²
+  pub within-is : le (distance (circleOf a .center) (circleOf b .center)) (absolute (sub binary64 (ofInt binary64 (a .radius)) (ofInt binary64 (b .radius)))) ≡ leb D (t * t)
+  within-is = ap₂ le (distance-is la lb L) difference ∙ not-below-root D t L t-most

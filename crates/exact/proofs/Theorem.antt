@@ -4,7 +4,7 @@ use mathlib.Core.Path.{_≡_, refl, sym, ap, ap₂, _∙_, subst, subst₂}
 use mathlib.Core.Logic.{_⊎_, inl, inr, _↔_}
 use mathlib.Core.Bool.{Bool, true, false, true≢false, false≢true, _&&_, _||_, cond, or-true, and-comm}
 use mathlib.Core.List.{List, [], _∷_}
-use Prim.Native.Nat.{ℕ, zero, suc, _+_, _-_, _*_, _^_, _≤_, _<_}
+use Prim.Native.Nat.{ℕ, zero, suc, _+_, _*_, _^_, _≤_, _<_}
 use native.Mathlib.Nat.{le-trans, le-of-eq, mul-le-mul}
 use native.Mathlib.Omega.{arith}
 use lib.Dec.{T, ltb, eqb, ltb→lt}
@@ -16,38 +16,26 @@ use borrow.Author.Tests.{lt-ltb, le-ltb, eq-eqb, ne-eqb}
 use Rattle.heads.specs.declared.Head.{Head}
 use Rattle.heads.specs.declared.Relation.{Relation}
 use Rattle.heads.specs.declared.Relation.the-variants.{Apart, TouchingOutside, Crossing, TouchingInside, Holding, Identical}
-use Rattle.heads.specs.Limits.{inLimits}
 use Rattle.heads.specs.Relation.{gap, identical, relation, meets, meeting, touching, points}
-use Rattle.heads.specs.Cases.{Case, gap-le, gap-zero, relation-is, case-of, meets-relation, meetsOnce-relation, meets-facts}
+use Rattle.heads.specs.Cases.{Case, gap-le, gap-square-le, gap-zero, relation-is, case-of, meets-relation, meetsOnce-relation, meets-facts}
 use Rattle.heads.specs.Pair.{squaredDistance, radiusOf, relationOf, meetsOf, meetsOnceOf}
 use Rattle.heads.specs.Distance.{InLimits, limits-of, distance-fits, meetsOf-comm}
-use Rattle.binary64.specs.Units.{one, mag}
+use Rattle.binary64.specs.Units.{one}
 use Rattle.binary64.specs.Magnitude.{Most, Least}
 use Rattle.binary64.proofs.Naturals.{lt-or-ge}
+use Rattle.binary64.proofs.Whole.{ofInt-sign, ofInt-most, ofInt-least}
 use Rattle.geometry.specs.declared.point.Point.{Point}
 use Rattle.geometry.specs.Circle as circle
+use Rattle.geometry.specs.Meeting.{number-of-points}
 use Rattle.geometry.specs.Point.{at, distance}
 use Rattle.exact.specs.Circle.{circleOf}
-use Rattle.exact.specs.Decisions.{Decided, Bounded, DecidesExactly, StaysBounded, NoPointsUnlessMet, sum, difference}
+use Rattle.exact.specs.Decisions.{IsDrawn, DecidesExactly, StaysBounded, NoPointsUnlessMet, sum, difference}
+use Rattle.exact.proofs.Chord.{gap-either}
 use Rattle.exact.proofs.Distance.{rootOf, distance-is, root-is-finite, root-most, root-at-least}
-use Rattle.exact.proofs.Tests.{identical-is, apart-is, intersects-is, contains-heads, beyond-is}
+use Rattle.exact.proofs.Tests.{identical-is, apart-is, intersects-is, contains-heads, beyond-is, within-is}
 use Rattle.exact.proofs.Meeting.{Found, touching as found-touching, crossed as found-crossed}
 
--- ---- the difference of the radii
-
--- the larger radius is the smaller and the difference
-gap-either : (a b : ℕ) → (a ≡ b + gap a b) ⊎ (b ≡ a + gap a b)
-unfolding gap
-gap-either a b = go (lt-or-ge a b)
-  where
-    go : (a < b) ⊎ (b ≤ a) → (a ≡ b + ((a - b) + (b - a))) ⊎ (b ≡ a + ((a - b) + (b - a)))
-    go (inl h) = inr (omega arith)
-    go (inr h) = inl (omega arith)
-
--- t² + 2 r₁ r₂ = r₁² + r₂²
-gap-square : (a b t : ℕ) → (a ≡ b + t) ⊎ (b ≡ a + t) → t * t + 2 * (a * b) ≡ a * a + b * b
-gap-square a b t (inl e) = omega (arith, ap (λ (k : ℕ). k * k) e, ap (λ (k : ℕ). k * b) e)
-gap-square a b t (inr e) = omega (arith, ap (λ (k : ℕ). k * k) e, ap (λ (k : ℕ). a * k) e)
+-- ---- touch from inside
 
 -- where the circles touch from inside, r₁² - r₂² + t² is 2 r₁ t or -2 r₁ t
 touch-inside : (a b t : ℕ) → (a ≡ b + t) ⊎ (b ≡ a + t) → (a * a + t * t ≡ b * b + 2 * (a * t)) ⊎ (b * b ≡ a * a + t * t + 2 * (a * t))
@@ -56,6 +44,7 @@ touch-inside a b t (inr e) = inr (omega (arith, ap (λ (k : ℕ). k * k) e))
 
 -- ---- the tests before the points
 
+-- c are the points, i and o the tests that turn the circles away: identical, and not met
 module _ (c : List Point) where
   none-chosen : (i o : Bool) → (i ≡ true) ⊎ (o ≡ true) → Found (cond i [] (cond o [] c)) 0
   none-chosen true o h = record { count = refl; placed = tt }
@@ -90,47 +79,52 @@ module _ {a b : Head} (la : InLimits a) (lb : InLimits b) (L : squaredDistance a
   abbrev t : ℕ
   t = difference a b
 
-  -- the circle of a head, its radius as a natural number
-  abbrev crossing : List Point
-  crossing = circle.crossing (circle.around (at (ofInt binary64 (a .x)) (ofInt binary64 (a .y))) (ofInt binary64 (pos r₁))) (circle.around (at (ofInt binary64 (b .x)) (ofInt binary64 (b .y))) (ofInt binary64 (pos r₂))) (rootOf D)
+  -- `crossing` of the two circles, with the radii as the integers u and v
+  abbrev crossingOf : ℤ → ℤ → List Point
+  crossingOf u v = circle.crossing (circle.around (at (ofInt binary64 (a .x)) (ofInt binary64 (a .y))) (ofInt binary64 u)) (circle.around (at (ofInt binary64 (b .x)) (ofInt binary64 (b .y))) (ofInt binary64 v)) (rootOf D)
 
-  points-are : circle.intersectionPoints (circleOf a) (circleOf b) ≡ cond (identical D r₁ r₂) [] (cond (ltb (s * s) D || ltb D (t * t)) [] crossing)
+  abbrev crossing : List Point
+  crossing = crossingOf (pos r₁) (pos r₂)
+
+  -- D > s² or D < t²
+  abbrev missing : Bool
+  missing = ltb (s * s) D || ltb D (t * t)
+
+  -- the meeting points, with the tests on whole numbers
+  abbrev pointsBy : List Point
+  pointsBy = cond (identical D r₁ r₂) [] (cond missing [] crossing)
+
+  points-are : circle.intersectionPoints (circleOf a) (circleOf b) ≡ pointsBy
   points-are =
       ap (λ (d : Float). cond (circle.identical (circleOf a) (circleOf b)) [] (cond (circle.apart (circleOf a) (circleOf b) d) [] (circle.crossing (circleOf a) (circleOf b) d))) (distance-is la lb L)
-      ∙ ap₂ (λ (i o : Bool). cond i [] (cond o [] (circle.crossing (circleOf a) (circleOf b) (rootOf D)))) (identical-is la lb L) (apart-is la lb L)
-      ∙ ap₂
-      (λ (u v : ℤ). cond (identical D r₁ r₂) []
-      (cond (ltb (s * s) D || ltb D (t * t)) [] (circle.crossing (circle.around (at (ofInt binary64 (a .x)) (ofInt binary64 (a .y))) (ofInt binary64 u)) (circle.around (at (ofInt binary64 (b .x)) (ofInt binary64 (b .y))) (ofInt binary64 v)) (rootOf D))))
-      (la .whole) (lb .whole)
+      ∙ ap₂ (λ (i o : Bool). cond i [] (cond o [] (crossingOf (a .radius) (b .radius)))) (identical-is la lb L) (apart-is la lb L)
+      ∙ ap₂ (λ (u v : ℤ). cond (identical D r₁ r₂) [] (cond missing [] (crossingOf u v))) (la .whole) (lb .whole)
 
-  -- neither apart nor one within the other
-  within : t * t ≤ D → D ≤ s * s → (ltb (s * s) D || ltb D (t * t)) ≡ false
-  within h k = ap₂ (λ (p q : Bool). p || q) (le-ltb (s * s) D k) (le-ltb D (t * t) h)
-
-  t-below : t * t ≤ s * s
-  t-below = mul-le-mul (gap-le r₁ r₂) (gap-le r₁ r₂)
-
+  -- one point where the circles touch
   found-touch : (n : ℕ) → D ≡ n * n → 1 ≤ n → n ≤ 40000 → (r₁ * r₁ + n * n ≡ r₂ * r₂ + 2 * (r₁ * n)) ⊎ (r₂ * r₂ ≡ r₁ * r₁ + n * n + 2 * (r₁ * n)) → Found crossing 1
   found-touch n e p q h =
       found-touching (a .x) (a .y) (b .x) (b .y) (la .x) (la .y) (lb .x) (lb .y) r₁ r₂ (la .least) (la .most) (lb .least) (lb .most) L (omega (arith, mul-le-mul p p)) n e p q h
 
+  -- two where they cross
   found-cross : t * t < D → D < s * s → Found crossing 2
   found-cross h k =
-      found-crossed (a .x) (a .y) (b .x) (b .y) (la .x) (la .y) (lb .x) (lb .y) r₁ r₂ (la .least) (la .most) (lb .least) (lb .most) L (omega arith) t (gap-square r₁ r₂ t (gap-either r₁ r₂)) h k
+      found-crossed (a .x) (a .y) (b .x) (b .y) (la .x) (la .y) (lb .x) (lb .y) r₁ r₂ (la .least) (la .most) (lb .least) (lb .most) L (omega arith) h k
 
-  found-in : (r : Relation) → Case r D r₁ r₂ → Found (cond (identical D r₁ r₂) [] (cond (ltb (s * s) D || ltb D (t * t)) [] crossing)) (points r)
-  found-in Apart h = none-chosen crossing (identical D r₁ r₂) (ltb (s * s) D || ltb D (t * t)) (inr (ap (λ (p : Bool). p || ltb D (t * t)) (lt-ltb (s * s) D h)))
+  -- either is met, since no test before turns it away
+  met : {n : ℕ} → 0 < D → t * t ≤ D → D ≤ s * s → Found crossing n → Found pointsBy n
+  met z h k f = chosen crossing (identical D r₁ r₂) missing (not-identical D r₁ r₂ z) (ap₂ (λ (p q : Bool). p || q) (le-ltb (s * s) D k) (le-ltb D (t * t) h)) f
+
+  -- in each case of the relation as many points as it has
+  found-in : (r : Relation) → Case r D r₁ r₂ → Found pointsBy (points r)
+  found-in Apart h = none-chosen crossing (identical D r₁ r₂) missing (inr (ap (λ (p : Bool). p || ltb D (t * t)) (lt-ltb (s * s) D h)))
   found-in TouchingOutside h =
-      chosen crossing (identical D r₁ r₂) (ltb (s * s) D || ltb D (t * t)) (not-identical D r₁ r₂ (omega arith)) (within (omega arith) (le-of-eq (h .1)))
-      (found-touch s (h .1) (omega (arith, la .least)) (omega (arith, la .most, lb .most)) (inl (omega arith)))
-  found-in Crossing h =
-      chosen crossing (identical D r₁ r₂) (ltb (s * s) D || ltb D (t * t)) (not-identical D r₁ r₂ (omega arith)) (within (omega arith) (omega arith))
-      (found-cross (h .0) (h .1))
+      met (omega arith) (omega arith) (le-of-eq (h .1)) (found-touch s (h .1) (omega (arith, la .least)) (omega (arith, la .most, lb .most)) (inl (omega arith)))
+  found-in Crossing h = met (omega arith) (omega arith) (omega arith) (found-cross (h .0) (h .1))
   found-in TouchingInside h =
-      chosen crossing (identical D r₁ r₂) (ltb (s * s) D || ltb D (t * t)) (not-identical D r₁ r₂ (omega (arith, mul-le-mul (h .0) (h .0)))) (within (le-of-eq (sym (h .1))) (le-trans (le-of-eq (h .1)) t-below))
+      met (omega (arith, mul-le-mul (h .0) (h .0))) (le-of-eq (sym (h .1))) (le-trans (le-of-eq (h .1)) (gap-square-le r₁ r₂))
       (found-touch t (h .1) (h .0) (omega (arith, gap-le r₁ r₂, la .most, lb .most)) (touch-inside r₁ r₂ t (gap-either r₁ r₂)))
-  found-in Holding h = none-chosen crossing (identical D r₁ r₂) (ltb (s * s) D || ltb D (t * t)) (inr (ap (λ (p : Bool). ltb (s * s) D || p) (lt-ltb D (t * t) h) ∙ or-true (ltb (s * s) D)))
-  found-in Identical h = none-chosen crossing (identical D r₁ r₂) (ltb (s * s) D || ltb D (t * t)) (inl (ap₂ (λ (p q : Bool). p && q) (eq-eqb D 0 (h .0)) (eq-eqb r₁ r₂ (h .1))))
+  found-in Holding h = none-chosen crossing (identical D r₁ r₂) missing (inr (ap (λ (p : Bool). ltb (s * s) D || p) (lt-ltb D (t * t) h) ∙ or-true (ltb (s * s) D)))
+  found-in Identical h = none-chosen crossing (identical D r₁ r₂) missing (inl (ap₂ (λ (p q : Bool). p && q) (eq-eqb D 0 (h .0)) (eq-eqb r₁ r₂ (h .1))))
 
   -- as many points as the relation has, each placed
   found : Found (circle.intersectionPoints (circleOf a) (circleOf b)) (points (relationOf a b))
@@ -142,6 +136,7 @@ module _ {a b : Head} (la : InLimits a) (lb : InLimits b) (L : squaredDistance a
 abbrev Counted : List Point → Bool → Bool → Type 0
 Counted l m o = ((l ≡ []) ↔ (m ≡ false)) × ((length l ≡ 1) ↔ (o ≡ true)) × ((length l ≡ 2) ↔ ((m ≡ true) × (o ≡ false)))
 
+-- it counts as the relation says
 module _ (l : List Point) where
   no-points : length l ≡ 0 → Counted l false false
   no-points e = ((λ _. refl, λ _. empty l e), (λ h. absurd (omega arith), λ h. absurd (false≢true h)), (λ h. absurd (omega arith), λ h. absurd (false≢true (h .0))))
@@ -192,10 +187,23 @@ meet-apart D a b e = go (lt-or-ge 0 D) (meets-facts D a b .0 e)
     go (inl h) f = h
     go (inr h) f = absurd (f .2 (omega arith) (gap-zero a b (none (gap a b) (le-trans (f .0) h))))
 
+-- The circle of a head within the limits.
+pub is-drawn : IsDrawn
+is-drawn h t =
+    let l = limits-of h t in
+    record {
+      x = ofInt-most (h .x) (omega (arith, l .x)) (l .x);
+      y = ofInt-most (h .y) (omega (arith, l .y)) (l .y);
+      most = rw (l .whole) (ofInt-most (pos (radiusOf h)) (omega (arith, l .most)) (l .most));
+      least = rw (l .whole) (ofInt-least (pos (radiusOf h)) (omega (arith, l .most)) (l .least));
+      positive = rw (l .whole) (ofInt-sign (pos (radiusOf h)) (omega (arith, l .most)));
+    }
+
 -- Two heads within the limits: the float code decides as whole numbers do.
 pub decides-exactly : DecidesExactly
 decides-exactly a b ha hb = record {
   count = f .count;
+  answer = λ m h. number-of-points m ∙ ap length h ∙ f .count;
   none = c .0;
   one = c .1;
   two = c .2;
@@ -203,6 +211,7 @@ decides-exactly a b ha hb = record {
   crossed = e;
   crossing = (λ h. crosses (squaredDistance a b) (radiusOf a) (radiusOf b) .0 (sym e ∙ h), λ h. e ∙ crosses (squaredDistance a b) (radiusOf a) (radiusOf b) .1 h);
   outside = beyond-is la lb L;
+  inside = within-is la lb L;
 }
   where
     la : InLimits a

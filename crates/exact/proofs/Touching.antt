@@ -1,34 +1,30 @@
 -- Two circles that touch, so that their distance is the whole number n: every step is exact. The foot of the chord is the point of touch, r₁ from the
 -- first centre, nothing is left across, and both points are equal. Rests on Squares and Coordinates.
-use mathlib.Core.Path.{_≡_, refl, sym, ap, ap₂, _∙_, subst}
+use mathlib.Core.Path.{_≡_, sym, ap, ap₂, _∙_}
 use mathlib.Core.Logic.{_⊎_, inl, inr}
-use mathlib.Core.Bool.{Bool, true, false}
+use mathlib.Core.Bool.{true}
 use Prim.Native.Nat.{ℕ, _+_, _-_, _*_, _^_, _≤_, _<_}
-use native.Mathlib.Nat.{le-refl, le-trans, le-of-eq, lt-of-lt-of-le, le-antisymm, mul-pos, mul-le-mul, mul-le-mul-right}
+use native.Mathlib.Nat.{le-refl, le-of-eq, mul-pos, mul-le-mul}
 use native.Mathlib.Omega.{arith}
-use lib.IntN.{pos}
-use lib.Ieee.{Float, binary64, add, sub, mul, div, eq, ofInt, unlike}
-use lib.Dec.{eqb}
-use lib.Ieee.Bits.{is-true}
-use lib.Ieee.Fits.{eq→eqb}
-use Rattle.binary64.specs.Units.{pow2, one, Finite, mag, negative, plus, minus}
+use lib.Ieee.{Float, binary64, add, sub, mul, eq}
+use Rattle.binary64.specs.Units.{one, mag, plus, minus}
 use Rattle.binary64.specs.Rounding.{rnd}
 use Rattle.binary64.specs.Magnitude.{Most}
-use Rattle.binary64.proofs.Units.{one-pos, plus-minus, eq-units}
-use Rattle.binary64.proofs.Rounding.{rnd-exact, plus-none, minus-none}
-use Rattle.binary64.proofs.Operations.{add-result, sub-result, result-finite, result-rounded, mul-mag, mul-sign, div-mag}
+use Rattle.binary64.proofs.Units.{one-pos, plus-minus, eq-of-units}
+use Rattle.binary64.proofs.Rounding.{rnd-exact}
+use Rattle.binary64.proofs.Operations.{add-result, sub-result, result-rounded, mul-mag, div-mag}
 use Rattle.binary64.proofs.Magnitude.{bound-digits, bound-limit, add-most, sub-most}
 use Rattle.binary64.proofs.Whole.{mul-ofInt-pos}
-use Rattle.elementary.specs.Root.{root}
 use Rattle.elementary.proofs.root.Values.{root-finite}
 use Rattle.elementary.proofs.root.Squares.{at-most}
 use Rattle.binary64.specs.Constants.{two64}
-use Rattle.exact.proofs.Distance.{Is, whole-is, is-mag, is-most}
-use Rattle.exact.proofs.Squares.{float, two-is, difference, along, rest, across, exact-parts, square-is, square-parts, difference-finite, difference-parts}
-use Rattle.exact.proofs.Coordinates.{product-most, quotient-most, Leg}
+use Rattle.exact.proofs.Distance.{Is, whole-is, is-mag}
+use Rattle.exact.proofs.Steps.{float, two-is, difference, along, rest, across, Exact, exact, square-is, square-parts, difference-exact}
+use Rattle.exact.proofs.Coordinates.{product-most, quotient-most}
 
 module _ (r₁ r₂ n : ℕ) (L₁ : r₁ ≤ 20000) (L₂ : r₂ ≤ 20000) (N : 1 ≤ n) (M : n ≤ 40000)
     (touch : (r₁ * r₁ + n * n ≡ r₂ * r₂ + 2 * (r₁ * n)) ⊎ (r₂ * r₂ ≡ r₁ * r₁ + n * n + 2 * (r₁ * n))) where
+  -- n² and 2 n
   d-squared : Is (mul binary64 (float n) (float n)) (n * n)
   d-squared = rw (mul-ofInt-pos n n (omega arith) (omega arith)) (whole-is (n * n) (omega (arith, mul-le-mul M M)))
 
@@ -52,32 +48,26 @@ module _ (r₁ r₂ n : ℕ) (L₁ : r₁ ≤ 20000) (L₂ : r₂ ≤ 20000) (N 
   numerator-parts = go touch
     where
       go : (r₁ * r₁ + n * n ≡ r₂ * r₂ + 2 * (r₁ * n)) ⊎ (r₂ * r₂ ≡ r₁ * r₁ + n * n + 2 * (r₁ * n)) → (up ≡ down + 2 * (r₁ * n) * one) ⊎ (down ≡ up + 2 * (r₁ * n) * one)
-      go (inl e) = inl (omega (arith, ap (λ (k : ℕ). k * one) e, difference-parts r₁ r₂ L₁ L₂, d-squared .up, d-squared .down))
-      go (inr e) = inr (omega (arith, ap (λ (k : ℕ). k * one) e, difference-parts r₁ r₂ L₁ L₂, d-squared .up, d-squared .down))
+      go (inl e) = inl (omega (arith, ap (λ (k : ℕ). k * one) e, difference-exact r₁ r₂ L₁ L₂ .parts, d-squared .up, d-squared .down))
+      go (inr e) = inr (omega (arith, ap (λ (k : ℕ). k * one) e, difference-exact r₁ r₂ L₁ L₂ .parts, d-squared .up, d-squared .down))
 
   few : 2 * (r₁ * n) ≤ 2 ^ 53
   few = omega (arith, mul-le-mul L₁ M)
 
-  numerator-finite : Finite numerator
-  numerator-finite = go numerator-parts
-    where
-      go : (up ≡ down + 2 * (r₁ * n) * one) ⊎ (down ≡ up + 2 * (r₁ * n) * one) → Finite numerator
-      go (inl e) = result-finite (le-refl 1) (add-result (difference-finite r₁ r₂ L₁ L₂) (d-squared .finite)) (bound-digits 1074 few) (omega arith) (omega arith) (bound-limit few (omega arith))
-      go (inr e) = result-finite (le-refl 1) (add-result (difference-finite r₁ r₂ L₁ L₂) (d-squared .finite)) (bound-digits 1074 few) (omega arith) (omega arith) (bound-limit few (omega arith))
-
-  numerator-mag : mag numerator ≡ 2 * (r₁ * n) * one
-  numerator-mag = exact-parts (result-rounded (le-refl 1) (add-result (difference-finite r₁ r₂ L₁ L₂) (d-squared .finite)) numerator-finite) (bound-digits 1074 few) numerator-parts .1
+  numerator-exact : Exact numerator up down (2 * (r₁ * n) * one)
+  numerator-exact = exact (add-result (difference-exact r₁ r₂ L₁ L₂ .finite) (d-squared .finite)) (bound-digits 1074 few) (bound-limit few (omega arith)) numerator-parts
 
   -- over 2 n that is r₁ or -r₁
   quotient : mag numerator * one ≡ r₁ * one * mag (mul binary64 two64 (float n))
-  quotient = rw (numerator-mag, is-mag d-twice) (omega arith)
+  quotient = rw (numerator-exact .size, is-mag d-twice) (omega arith)
 
+  -- the foot's distance along, and its size
   pub along-most : Most r₁ 1074 (along r₁ r₂ (float n))
-  along-most = quotient-most numerator-finite (d-twice .finite) (omega arith) (omega arith) d-twice-pos (le-of-eq quotient)
+  along-most = quotient-most (numerator-exact .finite) (d-twice .finite) (omega arith) (omega arith) d-twice-pos (le-of-eq quotient)
 
   along-mag : mag (along r₁ r₂ (float n)) ≡ r₁ * one
   along-mag =
-      div-mag numerator-finite (d-twice .finite) d-twice-pos (along-most .finite)
+      div-mag (numerator-exact .finite) (d-twice .finite) d-twice-pos (along-most .finite)
       ∙ ap (λ (k : ℕ). rnd k (mag (mul binary64 two64 (float n)))) quotient
       ∙ rnd-exact (r₁ * one) (mag (mul binary64 two64 (float n))) d-twice-pos (bound-digits 1074 (omega arith))
 
@@ -100,23 +90,16 @@ module _ (r₁ r₂ n : ℕ) (L₁ : r₁ ≤ 20000) (L₂ : r₂ ≤ 20000) (N 
   abbrev nothing : Float
   nothing = rest r₁ (along r₁ r₂ (float n))
 
-  nothing-finite : Finite nothing
-  nothing-finite = sub-most (is-most (square-is r₁ L₁) (le-refl (r₁ * r₁))) squared-most (omega (arith, mul-le-mul L₁ L₁)) (omega arith) .finite
-
-  nothing-is : Is nothing 0
-  nothing-is =
+  nothing-exact : Exact nothing (r₁ * r₁ * one + 0) (0 + r₁ * r₁ * one) (0 * one)
+  nothing-exact =
       let a = square-is r₁ L₁ in
-      let r = result-rounded (le-refl 1) (sub-result (a .finite) (squared-is .finite)) nothing-finite in
-      record {
-        finite = nothing-finite;
-        up = plus-none (le-refl 1) r (omega (arith, a .up, a .down, squared-is .up, squared-is .down)) ∙ omega arith;
-        down = minus-none (le-refl 1) r (omega (arith, a .up, a .down, squared-is .up, squared-is .down));
-      }
+      exact (rw (a .up, a .down, squared-is .up, squared-is .down) at (sub-result (a .finite) (squared-is .finite))) (bound-digits 1074 (omega arith)) (bound-limit {j = 0} (omega arith) (omega arith)) (inl (omega arith))
 
+  -- so its root is a zero
   pub across-none : Most 0 1074 (across r₁ (along r₁ r₂ (float n)))
   across-none = record {
-    finite = root-finite nothing (nothing-finite .fit);
-    bound = at-most nothing-finite (nothing-is .down) (0 * one) (bound-digits 1074 (omega arith)) (rw (is-mag nothing-is) (omega arith));
+    finite = root-finite nothing (nothing-exact .finite .fit);
+    bound = at-most (nothing-exact .finite) (omega (arith, plus-minus nothing, nothing-exact .size)) (0 * one) (bound-digits 1074 (omega arith)) (rw (nothing-exact .size) (omega arith));
   }
 
 -- ---- both points are equal
@@ -132,4 +115,4 @@ same-side {x} {z} X Z J =
     let S = result-rounded (le-refl 1) (sub-result (X .finite) (Z .finite)) s in
     let up : plus (add binary64 x z) ≡ plus (sub binary64 x z) = A .up ∙ ap₂ (λ (i j : ℕ). rnd ((plus x + i) - (minus x + j)) 1) (p ∙ sym m) (m ∙ sym p) ∙ sym (S .up) in
     let down : minus (add binary64 x z) ≡ minus (sub binary64 x z) = A .down ∙ ap₂ (λ (i j : ℕ). rnd ((minus x + j) - (plus x + i)) 1) (p ∙ sym m) (m ∙ sym p) ∙ sym (S .down) in
-    eq-units a s ∙ is-true (eqb (plus (add binary64 x z) + minus (sub binary64 x z)) (plus (sub binary64 x z) + minus (add binary64 x z))) (eq→eqb (ap₂ (λ (i j : ℕ). i + j) up (sym down)))
+    eq-of-units a s (ap₂ (λ (i j : ℕ). i + j) up (sym down))

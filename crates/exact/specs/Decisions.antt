@@ -1,6 +1,6 @@
 -- Document 01, "Facts to hold", of the float code: D is the squared centre distance, s the sum and t the difference of the radii, all whole. "On the domain
 -- below rounding changes none of these." Each statement equates what the definitions of `geometry` give, with f64, with what those of `heads` give, over
--- whole numbers. proofs/Theorem.antt proves both records for every ordered pair of heads within document 01's limits.
+-- whole numbers. proofs/Theorem.antt proves these records for every ordered pair of heads within document 01's limits.
 use Prim.Native.Nat.{ℕ, _+_, _*_, _<_}
 use mathlib.Core.Path.{_≡_}
 use mathlib.Core.Bool.{Bool, true, false, _&&_}
@@ -13,9 +13,13 @@ use Rattle.heads.specs.declared.Relation.the-variants.{Crossing}
 use Rattle.heads.specs.Limits.{inLimits}
 use Rattle.heads.specs.Relation.{gap, points}
 use Rattle.heads.specs.Pair.{squaredDistance, radiusOf, relationOf, meetsOf, meetsOnceOf, containsOf}
+use Rattle.binary64.specs.Units.{negative}
+use Rattle.binary64.specs.Functions.{absolute}
 use Rattle.binary64.specs.Magnitude.{Most, Least}
 use Rattle.geometry.specs.declared.circle.Circle.{Circle}
-use Rattle.geometry.specs.Floats.{_+ᶠ_, _≤ᶠ_}
+use Rattle.geometry.specs.declared.meeting.Meeting.{Meeting}
+use Rattle.geometry.specs.Meeting as meeting
+use Rattle.geometry.specs.Floats.{_+ᶠ_, _-ᶠ_, _≤ᶠ_}
 use Rattle.geometry.specs.Point.{distance}
 use Rattle.geometry.specs.Circle.{contains, intersects, intersectionPoints}
 use Rattle.exact.specs.Circle.{circleOf}
@@ -24,6 +28,10 @@ use Rattle.exact.specs.Points.{AllPlaced}
 -- The circles touch from outside or are apart: the Rust's `d >= r1 + r2`, at which intersection_area is zero.
 abbrev pub beyond : Circle → Circle → Bool
 beyond a b = a .radius +ᶠ b .radius ≤ᶠ distance (a .center) (b .center)
+
+-- One circle lies within the other: the Rust's `d <= (r1 - r2).abs()`, at which intersection_area is that of the smaller.
+abbrev pub within : Circle → Circle → Bool
+within a b = distance (a .center) (b .center) ≤ᶠ absolute (a .radius -ᶠ b .radius)
 
 -- s and t of two heads
 abbrev pub sum : Head → Head → ℕ
@@ -36,6 +44,8 @@ difference a b = gap (radiusOf a) (radiusOf b)
 pub record Decided (a b : Head) : Type 0 where
   -- as many meeting points as the relation has: none, one or two
   pub count : length (intersectionPoints (circleOf a) (circleOf b)) ≡ points (relationOf a b)
+  -- and so the answer of `intersection_points`: the number of its case, None, One or Two, is that of the relation
+  pub answer : (m : Meeting) → meeting.points m ≡ intersectionPoints (circleOf a) (circleOf b) → meeting.number m ≡ points (relationOf a b)
   -- "Two heads meet exactly if t² ≤ D ≤ s² and they are not identical."
   pub none : (intersectionPoints (circleOf a) (circleOf b) ≡ []) ↔ (meetsOf a b ≡ false)
   -- "One point exactly if also D = t² or D = s²,
@@ -49,8 +59,18 @@ pub record Decided (a b : Head) : Type 0 where
   pub crossing : (intersects (circleOf a) (circleOf b) ≡ true) ↔ (relationOf a b ≡ Crossing)
   -- they touch from outside or are apart exactly if D ≥ s²
   pub outside : beyond (circleOf a) (circleOf b) ≡ leb (sum a b * sum a b) (squaredDistance a b)
+  -- one lies within the other exactly if D ≤ t²
+  pub inside : within (circleOf a) (circleOf b) ≡ leb (squaredDistance a b) (difference a b * difference a b)
 
--- What is worked out from two heads is finite and bounded, and no divisor is near zero. 1 is 2 ^ 1074 units.
+-- The numbers of a head's circle: the centre at most 20000 from zero along each axis, the radius from 1 to 20000. 1 is 2 ^ 1074 units.
+pub record Drawn (h : Head) : Type 0 where
+  pub x : Most 20000 1074 (circleOf h .center .x)
+  pub y : Most 20000 1074 (circleOf h .center .y)
+  pub most : Most 20000 1074 (circleOf h .radius)
+  pub least : Least 1 1074 (circleOf h .radius)
+  pub positive : negative (circleOf h .radius) ≡ false
+
+-- What is worked out from two heads is finite and bounded, and no divisor is near zero.
 pub record Bounded (a b : Head) : Type 0 where
   -- the distance is at most 65536
   pub near : Most 65536 1074 (distance (circleOf a .center) (circleOf b .center))
@@ -61,7 +81,10 @@ pub record Bounded (a b : Head) : Type 0 where
   -- each meeting point is finite, its coordinates at most 80000 from zero
   pub placed : AllPlaced (intersectionPoints (circleOf a) (circleOf b))
 
--- For every ordered pair of heads within the limits.
+-- For every head within the limits, and for every ordered pair of them.
+abbrev pub IsDrawn : Type 0
+IsDrawn = (h : Head) → T (inLimits h) → Drawn h
+
 abbrev pub DecidesExactly : Type 0
 DecidesExactly = (a b : Head) → T (inLimits a) → T (inLimits b) → Decided a b
 
