@@ -1,0 +1,2 @@
+pub mod Arctangent
+pub mod Quarter
