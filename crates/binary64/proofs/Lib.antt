@@ -6,3 +6,5 @@ pub mod Rounding
 pub mod Operations
 pub mod Magnitude
 pub mod Error
+pub mod Whole
+pub mod Functions

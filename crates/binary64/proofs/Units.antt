@@ -13,9 +13,9 @@ use lib.Pow.{pow-add, pow-pos, pow-mono, shl-lt}
 use lib.Ieee.{Float, nan, inf, fin, binary64, up, down, size, below, level, fits, isNan, ofBits, toBits, lt, le, eq, neg}
 use lib.Ieee.Digits.{back}
 use lib.Ieee.Exact.{HasValue, round-exact}
-use lib.Ieee.Fits.{up-pos, down-pos, and-i, and-l, and-r, eq→eqb, round-fits, neg-fits}
+use lib.Ieee.Fits.{up-pos, down-pos, and-l, and-r, eq→eqb, round-fits, neg-fits}
 use lib.Ieee.Bits.{ofBits-toBits, is-true, is-false}
-use Rattle.binary64.proofs.Naturals.{same-test, pow-le-back}
+use Rattle.binary64.proofs.Naturals.{same-test, and-true, both-zero, not-ltb, pow-le-back}
 use Rattle.binary64.proofs.Values.{lt-values, eq-values}
 use Rattle.binary64.specs.Units.{pow2, one, limit, Finite, mag, negative, plus, minus, ofUnits, Digits53}
 
@@ -279,22 +279,6 @@ neg-minus {x} h = ap₂ (λ (s : Bool) (n : ℕ). cond s n 0) (neg-sign h) (neg-
 
 -- ---- comparisons
 
-and-true : (b : Bool) → (b && true) ≡ b
-and-true true = refl
-and-true false = refl
-
-both-zero : (a b : ℕ) → (eqb a b && eqb a 0) ≡ eqb (a + b) 0
-both-zero a b =
-    same-test (eqb a b && eqb a 0) (eqb (a + b) 0)
-    (λ t. eq→eqb (sum a b (eqb→eq a b (and-l (eqb a b) (eqb a 0) t)) (eqb→eq a 0 (and-r (eqb a b) (eqb a 0) t))))
-    (λ t. let z = parts a b (eqb→eq (a + b) 0 t) in and-i (eqb a b) (eqb a 0) (eq→eqb (z .0)) (eq→eqb (z .1)))
-  where
-    sum : (a b : ℕ) → a ≡ b → a ≡ 0 → a + b ≡ 0
-    sum a b p q = omega arith
-
-    parts : (a b : ℕ) → a + b ≡ 0 → (a ≡ b) × (a ≡ 0)
-    parts a b p = omega arith
-
 eqb-sym : (a b : ℕ) → eqb a b ≡ eqb b a
 eqb-sym a b = same-test (eqb a b) (eqb b a) (λ t. eq→eqb (sym (eqb→eq a b t))) (λ t. eq→eqb (sym (eqb→eq b a t)))
 
@@ -367,8 +351,4 @@ not-lt-of-units {x} {y} h k l = lt-units h k ∙ is-false (ltb (plus x + minus y
 
 -- among finite floats x ≤ y just where y < x fails
 pub le-not-lt : {x y : Float} → Finite x → Finite y → le x y ≡ not (lt y x)
-le-not-lt {x} {y} h k = le-units h k ∙ flip (plus x + minus y) (plus y + minus x) ∙ ap not (sym (lt-units k h))
-  where
-    flip : (a b : ℕ) → leb a b ≡ not (ltb b a)
-    flip a b =
-        same-test (leb a b) (not (ltb b a)) (λ t. le→nltb b a (leb→le a b t)) (λ t. le→leb a b (nltb→le b a t))
+le-not-lt {x} {y} h k = le-units h k ∙ sym (not-ltb (plus y + minus x) (plus x + minus y)) ∙ ap not (sym (lt-units k h))

@@ -1,0 +1,1 @@
+-- The arguments for the promises of specs/, by the modules of src/.

@@ -1,0 +1,4 @@
+-- What the elementary functions are, and what is promised of them.
+pub mod Root
+pub mod RootPromise
+pub mod RootSteps
