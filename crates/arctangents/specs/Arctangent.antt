@@ -1,9 +1,10 @@
--- The recipe of atan2, step by step: the smaller of |x| and |y| over the larger is one float division, cut to a whole number of units of 2^-64;
+-- The recipe of atan2, step by step, and of acos and asin over it: the smaller of |x| and |y| over the larger is one float division, cut to a whole number of units of 2^-64;
 -- the angle is worked out in whole numbers of units of 2^-62 (crate cells, Arc), and made a float. So the bits of every answer are fixed.
 use Prim.Native.Nat.{ℕ, _-_, _^_}
 use mathlib.Core.Bool.{Bool, true, false, cond, _&&_, _||_}
 use lib.IntN.{pos}
-use lib.Ieee.{Float, binary64, ofBits, neg, mul, div, lt, le, ofInt, toUnsigned}
+use lib.Ieee.{Float, binary64, ofBits, neg, add, sub, mul, div, lt, le, ofInt, toUnsigned}
+use Rattle.elementary.specs.Root.{root}
 use Rattle.cells.specs.Arc.{arc}
 
 -- +0, 1, the largest magnitude 2^20, and the factors 2^64 and 2^-62, by their bits.
@@ -67,3 +68,21 @@ atan2 y x =
     let height = magnitude y in
     let t = mul binary64 (ofInt binary64 (pos (upperHalf x width height))) angleScale in
     cond (inDomain width height) (cond (isNegative y) (neg t) t) +0
+
+-- root((1-c)×(1+c)), each step rounded: the sine of the angle whose cosine is c, and the cosine of the one whose sine is c.
+unfoldable pub cofunction : Float → Float
+unfolding root
+cofunction c = root (mul binary64 (sub binary64 1ᶠ c) (add binary64 1ᶠ c))
+
+-- -1 ≤ c ≤ 1
+abbrev pub inUnit : Float → Bool
+inUnit c = le (neg 1ᶠ) c && le c 1ᶠ
+
+-- Document 01: "`acos(c)` is atan2(root((1-c)×(1+c)), c); `asin(c)` is atan2(c, root((1-c)×(1+c))). Both have the domain -1 to 1." +0 outside.
+unfoldable pub acos : Float → Float
+unfolding atan2 cofunction
+acos c = cond (inUnit c) (atan2 (cofunction c) c) +0
+
+unfoldable pub asin : Float → Float
+unfolding atan2 cofunction
+asin c = cond (inUnit c) (atan2 c (cofunction c)) +0

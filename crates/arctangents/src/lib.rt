@@ -11,6 +11,7 @@ ghost use Rattle.arctangents.specs.Arctangent.{isNegative, magnitude as 
 ghost use Rattle.arctangents.specs.Arctangent.{tangent as tangentOf};
 ghost use Rattle.arctangents.specs.Arctangent.{firstQuarter, upperHalf, inDomain, quarterTurn, halfTurn};
 ghost use Rattle.arctangents.specs.Arctangent.{atan2 as atan2Of};
+ghost use Rattle.arctangents.specs.Arctangent.{cofunction as cofunctionOf, inUnit, acos as acosOf, asin as asinOf};
 ghost use Rattle.arctangents.specs.Quarter.{Ordered, InQuarter};
 
 const QUARTER_TURN: u64 = 7244019458077122842;
@@ -152,6 +153,43 @@ pub fn atan2(y: f64, x: f64) -> f64
             return -t;
         }
         return t;
+    }
+    0.0
+}
+
+// root((1-c)×(1+c))
+fn cofunction(c: f64) -> f64
+    ensures { λ r. ⌜ r ≡ cofunctionOf c ⌝ }
+{
+    elementary::root::root((1.0 - c) * (1.0 + c))
+}
+
+// Whether c is a cosine: -1 ≤ c ≤ 1.
+fn in_unit(c: f64) -> bool
+    ensures { λ r. ⌜ r ≡ inUnit c ⌝ }
+{
+    if -1.0 <= c {
+        return c <= 1.0;
+    }
+    false
+}
+
+// The angle from 0 to PI whose cosine is c; +0 where c is below -1, above 1, or no number.
+pub fn acos(c: f64) -> f64
+    ensures { λ r. ⌜ r ≡ acosOf c ⌝ }
+{
+    if in_unit(c) {
+        return atan2(cofunction(c), c);
+    }
+    0.0
+}
+
+// The angle from -PI/2 to PI/2 whose sine is c; +0 where c is below -1, above 1, or no number.
+pub fn asin(c: f64) -> f64
+    ensures { λ r. ⌜ r ≡ asinOf c ⌝ }
+{
+    if in_unit(c) {
+        return atan2(c, cofunction(c));
     }
     0.0
 }
