@@ -5,7 +5,7 @@ use mathlib.Core.Bool.{Bool, true, false, cond, _&&_, _||_}
 use lib.IntN.{pos}
 use lib.Ieee.{Float, binary64, ofBits, neg, add, sub, mul, div, lt, le, ofInt, toUnsigned}
 use Rattle.elementary.specs.Root.{root}
-use Rattle.cells.specs.Arc.{arc}
+use Rattle.cells.specs.Arc.{arc, quarterTurn, halfTurn}
 
 -- +0, 1, the largest magnitude 2^20, and the factors 2^64 and 2^-62, by their bits.
 abbrev pub +0 : Float
@@ -22,13 +22,6 @@ tangentScale = ofBits binary64 0x43F0000000000000
 
 abbrev pub angleScale : Float
 angleScale = ofBits binary64 0x3C10000000000000
-
--- A quarter turn and a half turn in units of 2^-62, cut.
-abbrev pub quarterTurn : ℕ
-quarterTurn = 7244019458077122842
-
-abbrev pub halfTurn : ℕ
-halfTurn = 14488038916154245685
 
 -- The sign bit of x, without its bits: -0 has it, and so has what is below zero. (A NaN has none.)
 abbrev pub isNegative : Float → Bool

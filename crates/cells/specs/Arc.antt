@@ -28,3 +28,10 @@ arcs =
 unfoldable pub arc : ℕ → ℕ
 unfolding horner
 arc n = mulhi n (horner firstArc arcs (mulhi n n)) / 2
+
+-- A quarter turn and a half turn, PI / 2 and PI in units of 2^-62, cut.
+abbrev pub quarterTurn : ℕ
+quarterTurn = 7244019458077122842
+
+abbrev pub halfTurn : ℕ
+halfTurn = 14488038916154245685
