@@ -1,3 +1,4 @@
 pub mod Plain
 pub mod Tests
 pub mod Cell
+pub mod Turns

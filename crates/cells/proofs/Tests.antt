@@ -151,20 +151,20 @@ unfolding close cosine80 unit80 gaps bound finer factorial sign rising cosFrom c
 cosine-start = tt
 
 -- a quarter turn on, the sine is the cosine and the cosine is minus the sine
-pub quarter-sine : T (close (shift sine80 (quarterTurn * tick)) cosine80 (2 * 2 ^ 600) 64)
+pub quarter-sine : T (close (shift sine80 (quarterTurn * tick)) cosine80 (4 * 2 ^ 600) 64)
 unfolding close sine80 cosine80 unit80 tick gaps bound shift step finer factorial sign rising sinFrom cosFrom sin79 cos79 dist
 quarter-sine = tt
 
-pub quarter-cosine : T (close (shift cosine80 (quarterTurn * tick)) (negated sine80) (2 * 2 ^ 600) 64)
+pub quarter-cosine : T (close (shift cosine80 (quarterTurn * tick)) (negated sine80) (4 * 2 ^ 600) 64)
 unfolding close sine80 cosine80 unit80 tick gaps bound shift step finer negated factorial sign rising sinFrom cosFrom sin79 cos79 dist
 quarter-cosine = tt
 
 -- half a turn on, both change sign
-pub half-sine : T (close (shift sine80 (halfTurn * tick)) (negated sine80) (2 * 2 ^ 600) 64)
+pub half-sine : T (close (shift sine80 (halfTurn * tick)) (negated sine80) (4 * 2 ^ 600) 64)
 unfolding close sine80 unit80 tick gaps bound shift step finer negated factorial sign rising sinFrom sin79 dist
 half-sine = tt
 
-pub half-cosine : T (close (shift cosine80 (halfTurn * tick)) (negated cosine80) (2 * 2 ^ 600) 64)
+pub half-cosine : T (close (shift cosine80 (halfTurn * tick)) (negated cosine80) (4 * 2 ^ 600) 64)
 unfolding close cosine80 unit80 tick gaps bound shift step finer negated factorial sign rising cosFrom cos79 dist
 half-cosine = tt
 
