@@ -1,17 +1,17 @@
 -- Alternating polynomials in x²: as a list of integer coefficients, as an exact sum of natural numbers, and by Horner's rule with cut products.
-use mathlib.Core.Path.{_≡_, refl, sym, ap, ap₂, _∙_, subst}
+use mathlib.Core.Path.{_≡_, refl, sym, ap, _∙_, subst}
 use mathlib.Core.List.{List, [], _∷_}
-use mathlib.Core.Bool.{Bool, true, false, _&&_}
-use Prim.Native.Nat.{ℕ, zero, suc, _+_, _-_, _*_, _/_, _%_, _^_, _≤_, _<_, zero-le}
-use native.Mathlib.Nat.{le-refl, le-trans, le-of-eq, add-le-add, mul-le-mul, mul-le-mul-left, mul-le-mul-right, pow-suc, mul-zero, mul-one, mul-comm, mul-assoc, mul-pos, sub-le, le-of-mul-le-mul-right, div-mul-le-self, div-add-mod', mod-lt}
+use mathlib.Core.Bool.{Bool, true, _&&_}
+use Prim.Native.Nat.{ℕ, suc, _+_, _-_, _*_, _/_, _%_, _^_, _≤_, _<_, zero-le}
+use native.Mathlib.Nat.{le-refl, le-trans, le-of-eq, mul-le-mul, mul-le-mul-left, mul-le-mul-right, pow-suc, mul-zero, mul-comm, mul-assoc, mul-pos, sub-le, le-of-mul-le-mul-right, div-mul-le-self, div-add-mod', mod-lt}
 use native.Mathlib.Omega.{arith}
-use lib.ListN.{length, replicate}
+use lib.ListN.{length}
 use lib.Dec.{T, leb, leb→le}
 use lib.Pow.{pow-pos}
 use lib.Ieee.Fits.{and-l, and-r}
-use lib.IntN.{ℤ, pos, negsuc, negℤ, _+ℤ_, _-ℤ_, _*ℤ_, natAbs, *ℤ-zero, zero-*ℤ, +ℤ-idl, +ℤ-idr, negℤ-+ℤ}
+use lib.IntN.{ℤ, pos, negℤ, _+ℤ_, _-ℤ_, _*ℤ_}
 use Rattle.series.specs.Kernel.{mulhi, horner}
-use Rattle.series.proofs.Integers.{_⊖_, parts, pos-⊖, ⊖-add, ⊖-mul, ⊖-neg, ⊖-eq, differences, *ℤ-neg}
+use Rattle.series.proofs.Integers.{parts, ⊖-eq, differences}
 use Rattle.series.proofs.Polynomial.{hval}
 
 -- ---- negated lists

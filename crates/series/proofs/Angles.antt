@@ -1,22 +1,24 @@
 -- The recipe's fixed-point sine and cosine against the 40-term sums, as fractions: at every fraction ±x/y they differ by at most
 -- 442 × 2^-61. Rests on Quarter, which has the same for the polynomials, and on Sums, which has the polynomials for the sums.
 use mathlib.Core.Path.{_≡_, refl, sym, ap, ap₂, _∙_, subst, subst₂}
-use mathlib.Core.List.{List, [], _∷_}
-use mathlib.Core.Bool.{Bool, true, false, not, Bool·beq, cond}
-use Prim.Native.Nat.{ℕ, zero, suc, _+_, _-_, _*_, _/_, _%_, _^_, _≤_, _<_}
-use native.Mathlib.Nat.{le-refl, le-trans, le-of-eq, le-of-lt, mul-le-mul-left, mul-le-mul-right, mul-comm, mul-assoc, mul-pos, one-le-pow, le-of-mul-le-mul-right, div-add-mod', mod-lt, add-zero, zero-mul, one-mul}
+use mathlib.Core.List.{List}
+use mathlib.Core.Bool.{Bool, true, false, cond}
+use Prim.Native.Nat.{ℕ, zero, suc, _+_, _*_, _/_, _%_, _^_, _≤_, _<_}
+use native.Mathlib.Nat.{le-trans, le-of-eq, le-of-lt, mul-le-mul-left, mul-le-mul-right, mul-comm, mul-assoc, mul-pos, one-le-pow, le-of-mul-le-mul-right, div-add-mod', mod-lt, add-zero}
 use native.Mathlib.Omega.{arith}
 use lib.ListN.{length}
-use lib.IntN.{ℤ, pos, negℤ, _+ℤ_, _-ℤ_, _*ℤ_, natAbs, negℤ-negℤ, *ℤ-comm}
+use lib.IntN.{ℤ, pos, negℤ, _+ℤ_, _*ℤ_, negℤ-negℤ, *ℤ-comm}
 use lib.Ieee.{unlike}
 use Rattle.series.specs.Fraction.{Fraction, Within, signed}
 use Rattle.series.specs.Taylor.{factorial, sign, sin40, cos40}
 use Rattle.series.specs.Kernel.{quarter, quarterSine, reduced, halfTurned}
-use Rattle.series.proofs.Integers.{_⊖_, parts, pos-⊖, ⊖-eq, differences, dist, dist-neg, dist-scale, neg-*ℤ, *ℤ-neg, *ℤ-assoc, *ℤ-left-comm, abs-mul}
+use Rattle.series.proofs.Integers.{parts, ⊖-eq, differences, dist, dist-neg, dist-scale, *ℤ-neg, *ℤ-assoc, *ℤ-left-comm}
 use Rattle.series.proofs.Polynomial.{hval, finer, finer-value}
 use Rattle.series.proofs.Sums.{rising, sinFrom, cosFrom, sin79, cos79, scale, sin40-value, cos40-value}
 use Rattle.series.proofs.Tests.{sine, cosine, unit, grain}
-use Rattle.series.proofs.Quarter.{Waves, sine-waves, cosine-waves, recipe-near, length-sine, unit-pos}
+use Rattle.series.proofs.Turns.{Waves, sine-waves, cosine-waves}
+use Rattle.series.proofs.Cap.{unit-pos, length-sine}
+use Rattle.series.proofs.Quarter.{recipe-near}
 
 -- ---- the sine is odd, the cosine even
 
@@ -87,7 +89,7 @@ unit-scale : unit * 2 ^ 61 ≡ scale * spread
 unfolding unit grain factorial
 unit-scale = refl
 
-signed-scale : (s : Bool) (n q : ℕ) → pos n *ℤ signed s q ≡ signed s (n * q)
+pub signed-scale : (s : Bool) (n q : ℕ) → pos n *ℤ signed s q ≡ signed s (n * q)
 signed-scale true n q = *ℤ-neg (pos n) (pos q)
 signed-scale false n q = refl
 

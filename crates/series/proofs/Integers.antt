@@ -1,11 +1,10 @@
 -- Integers as differences of natural numbers: a ⊖ b. Sums, products, equality and size of such differences are those of natural numbers,
 -- which `omega` settles, so that every identity and every bound over ℤ is proved in ℕ. Rests on lib.IntN.
 use mathlib.Core.Path.{_≡_, refl, sym, ap, ap₂, _∙_, subst}
-use Prim.Native.Nat.{ℕ, zero, suc, _+_, _-_, _*_, _≤_, _<_}
-use native.Mathlib.Nat.{mul-zero, zero-mul, le-refl}
+use Prim.Native.Nat.{ℕ, zero, suc, _+_, _-_, _*_, _≤_}
 use native.Mathlib.Omega.{arith}
 use native.Mathlib.Decide.{decLe}
-use lib.IntN.{ℤ, pos, negsuc, negℤ, _+ℤ_, _-ℤ_, _*ℤ_, sucℤ, predℤ, natAbs, +ℤ-assoc, +ℤ-comm, +ℤ-idl, +ℤ-idr, +ℤ-invr, +ℤ-invl, negℤ-+ℤ, negℤ-negℤ, sucℤ-*ℤ, zero-*ℤ, *ℤ-comm, *ℤ-negsuc}
+use lib.IntN.{ℤ, pos, negsuc, negℤ, _+ℤ_, _-ℤ_, _*ℤ_, natAbs, +ℤ-assoc, +ℤ-comm, +ℤ-idl, +ℤ-idr, +ℤ-invr, negℤ-+ℤ, negℤ-negℤ, sucℤ-*ℤ, zero-*ℤ, *ℤ-comm, *ℤ-negsuc}
 
 -- ---- ℤ as a ring
 

@@ -3,5 +3,9 @@ pub mod Polynomial
 pub mod Alternating
 pub mod Sums
 pub mod Tests
+pub mod Exact
+pub mod Turns
+pub mod Cap
 pub mod Quarter
 pub mod Angles
+pub mod Fractions

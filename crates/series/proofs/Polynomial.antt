@@ -1,12 +1,12 @@
 -- Polynomials with integer coefficients, lowest first, and their value at a fraction without dividing.
-use mathlib.Core.Path.{_≡_, refl, sym, ap, ap₂, _∙_, subst}
-use mathlib.Core.List.{List, [], _∷_, map}
-use Prim.Native.Nat.{ℕ, zero, suc, _+_, _-_, _*_, _^_, _≤_, _<_, zero-le}
-use native.Mathlib.Nat.{mul-zero, mul-one, pow-zero, le-refl, le-trans, le-of-eq, add-le-add, suc-inj, mul-le-mul, mul-le-mul-left, pow-suc, mul-comm, mul-assoc, mul-left-comm}
+use mathlib.Core.Path.{_≡_, refl, sym, ap, _∙_}
+use mathlib.Core.List.{List, [], _∷_}
+use Prim.Native.Nat.{ℕ, zero, suc, _+_, _*_, _^_, _≤_, zero-le}
+use native.Mathlib.Nat.{mul-zero, mul-one, le-refl, le-trans, le-of-eq, add-le-add, suc-inj, mul-le-mul, mul-le-mul-left, pow-suc}
 use native.Mathlib.Omega.{arith}
 use lib.ListN.{length}
-use lib.IntN.{ℤ, pos, negsuc, negℤ, _+ℤ_, _-ℤ_, _*ℤ_, natAbs, *ℤ-zero, +ℤ-idl}
-use Rattle.series.proofs.Integers.{_⊖_, parts, pos-⊖, ⊖-add, ⊖-mul, ⊖-neg, ⊖-eq, abs-add, abs-mul, differences, dist, dist-⊖, distrib, distrib-r, *ℤ-neg, pair-sum}
+use lib.IntN.{ℤ, pos, _+ℤ_, _-ℤ_, _*ℤ_, natAbs, *ℤ-zero}
+use Rattle.series.proofs.Integers.{parts, ⊖-eq, abs-add, abs-mul, differences, dist}
 
 -- Σ c_i x^i y^(n-i) for the n coefficients c_i: y^n times the polynomial's value at x/y.
 unfoldable pub hval : List ℤ → ℤ → ℕ → ℤ

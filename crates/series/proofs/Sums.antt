@@ -2,16 +2,16 @@
 -- the polynomial's value over 79! q^80. Rests on Polynomial and Integers.
 use mathlib.Core.Path.{_≡_, refl, sym, ap, ap₂, _∙_, subst}
 use mathlib.Core.List.{List, [], _∷_}
-use Prim.Native.Nat.{ℕ, zero, suc, _+_, _-_, _*_, _^_, _≤_, _<_}
-use native.Mathlib.Nat.{one-mul, add-zero, suc-add, mul-one, mul-comm, mul-assoc, add-suc}
+use Prim.Native.Nat.{ℕ, zero, suc, _+_, _*_, _^_}
+use native.Mathlib.Nat.{one-mul, add-zero, suc-add, add-suc}
 use native.Mathlib.Numerals.{add-one}
 use native.Mathlib.Omega.{arith}
 use lib.ListN.{length}
 use lib.Pow.{pow-add}
-use lib.IntN.{ℤ, pos, negℤ, _+ℤ_, _-ℤ_, _*ℤ_, pow, one, *ℤ-zero, zero-*ℤ, +ℤ-idl, *ℤ-comm, *ℤ-one}
+use lib.IntN.{ℤ, pos, _+ℤ_, _*ℤ_, pow, one, *ℤ-zero, zero-*ℤ, *ℤ-comm, *ℤ-one}
 use Rattle.series.specs.Fraction.{Fraction, _⊹_}
 use Rattle.series.specs.Taylor.{factorial, sign, term, total, sin40, cos40}
-use Rattle.series.proofs.Integers.{_⊖_, parts, pos-⊖, ⊖-add, ⊖-mul, ⊖-neg, ⊖-eq, differences, *ℤ-assoc, *ℤ-left-comm}
+use Rattle.series.proofs.Integers.{parts, ⊖-eq, differences, *ℤ-assoc, *ℤ-left-comm}
 use Rattle.series.proofs.Polynomial.{hval}
 
 -- (i + 1) (i + 2) .. (i + r)

@@ -1,19 +1,19 @@
 -- The computed tests: the 40-term sums, shifted by quarter turns, against plus or minus the polynomial that the recipe evaluates.
-use mathlib.Core.Path.{_≡_, refl}
+use mathlib.Core.Path.{_≡_}
 use mathlib.Core.List.{List, [], _∷_}
-use mathlib.Core.Bool.{Bool, true, false, _&&_}
-use Prim.Native.Nat.{ℕ, zero, suc, _+_, _-_, _*_, _^_, _≤_, _<_}
+use mathlib.Core.Bool.{Bool, true, _&&_}
+use Prim.Native.Nat.{ℕ, zero, suc, _+_, _*_, _^_, _<_}
 use native.Mathlib.Nat.{mul-zero, add-zero, le-of-suc-le-suc}
 use native.Mathlib.Omega.{arith}
 use lib.Ieee.Fits.{and-l, and-r}
-use lib.ListN.{length, replicate}
-use lib.Dec.{T, leb, leb→le}
+use lib.ListN.{replicate}
+use lib.Dec.{T, leb}
 use lib.IntN.{ℤ, pos}
 use Rattle.series.specs.Kernel.{quarter, firstCoefficient, coefficients}
 use Rattle.series.specs.Taylor.{factorial, sign}
 use Rattle.series.proofs.Integers.{dist}
-use Rattle.series.proofs.Polynomial.{hval, nval, step, shift, dists, sizes, slope, finer}
-use Rattle.series.proofs.Alternating.{negated, alternating, falling}
+use Rattle.series.proofs.Polynomial.{nval, shift, dists, sizes, slope, finer}
+use Rattle.series.proofs.Alternating.{negated, alternating}
 use Rattle.series.proofs.Sums.{rising, sinFrom, cosFrom, sin79, cos79}
 
 -- The sums over angles in units of 2^-59, 79! 2^4720 times as large.

@@ -1,7 +1,7 @@
 -- Fractions of an integer and a natural number, compared without dividing. A denominator is never 0 where a promise names it.
 use Prim.Native.Nat.{ℕ, _*_, _≤_}
 use lib.IntN.{ℤ, pos, negℤ, natAbs, _+ℤ_, _-ℤ_, _*ℤ_}
-use mathlib.Core.Bool.{Bool, true, false, cond}
+use mathlib.Core.Bool.{Bool, cond}
 use lib.Ieee.{Float, nan, inf, fin, up, down}
 
 -- num / den

@@ -1,0 +1,33 @@
+-- `quarter_sine` meets its contract: the three calls give the sine before the cap, and each arm what the cap makes of it.
+use borrow.Author.Needs.{needs}
+use mathlib.Core.Path.{_≡_}
+use Rattle.series.specs.Kernel.{rawSine}
+use Rattle.sines.proofs.Arms.{under-cap, at-cap, raw-is}
+use Rattle.sines.proofs.quarter_sine.Statement.{statement}
+use Rattle.sines.proofs.quarter_sine.Tie as tie
+
+mul-m : tie.Need-mul-m
+mul-m c = search needs
+
+mulhi-requires : tie.Need-mulhi-requires
+mulhi-requires c κs = search needs
+
+horner-requires : tie.Need-horner-requires
+horner-requires c κs = search needs
+
+mulhi-requires-2 : tie.Need-mulhi-requires-2
+mulhi-requires-2 c κs = search needs
+
+-- the sine before the cap
+raw : (c : tie.After-mulhi2) → c .mulhi2 .result ≡ rawSine (c .before .before .before .args .n)
+raw c = raw-is _ _ (c .before .horner .result) (c .before .before .mulhi .result) (c .mulhi2 .ensures .0) (c .before .horner .ensures) (c .before .before .mulhi .ensures .0)
+
+returns : tie.Need-returns
+returns c = under-cap _ _ (raw (c .before)) (c .if1 .taken)
+
+returns-2 : tie.Need-returns-2
+returns-2 c = at-cap _ _ (raw (c .before)) (c .if1 .left)
+
+pub quarter-sine-spec : {M : Type 1} → statement M
+quarter-sine-spec =
+    tie.close (tie.spec mul-m mulhi-requires horner-requires mulhi-requires-2 returns returns-2)

@@ -1,0 +1,27 @@
+-- `sin` meets its contract: the two arms are those of the definition.
+use borrow.Author.Needs.{needs}
+use mathlib.Core.Path.{sym, ap, _∙_}
+use lib.Ieee.{lt}
+use Rattle.sines.specs.Recipe.{fixedSine, +0}
+use Rattle.sines.proofs.Arms.{sine-inside, sine-outside}
+use Rattle.sines.proofs.sin.Statement.{statement}
+use Rattle.sines.proofs.sin.Tie as tie
+
+inside-requires : tie.Need-inside-requires
+inside-requires c κs = search needs
+
+angle-requires : tie.Need-angle-requires
+angle-requires c κs = sym (c .before .inside .ensures) ∙ c .if1 .taken
+
+fixed-sine-requires : tie.Need-fixed-sine-requires
+fixed-sine-requires c κs = search needs
+
+returns : tie.Need-returns
+returns c = c .fixed-sine .ensures ∙ ap (fixedSine (lt (c .before .before .before .before .args .v) +0)) (c .before .angle .ensures .0) ∙ sym (sine-inside (c .before .before .before .before .args .v) (sym (c .before .before .before .inside .ensures) ∙ c .before .before .if1 .taken))
+
+returns-2 : tie.Need-returns-2
+returns-2 c = sym (sine-outside (c .before .before .args .v) (sym (c .before .inside .ensures) ∙ c .if1 .left))
+
+pub sin-spec : {M : Type 1} → statement M
+sin-spec =
+    tie.close (tie.spec inside-requires angle-requires fixed-sine-requires returns returns-2)

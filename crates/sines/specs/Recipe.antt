@@ -1,0 +1,44 @@
+-- The recipe of sine and cosine, step by step: the float v is cut to a whole number of units of 2^-59, the sine is worked out in whole numbers
+-- (crate series, Kernel), and made a float. So the bits of every answer are fixed.
+use Prim.Native.Nat.{ℕ, _+_}
+use mathlib.Core.Bool.{Bool, false, cond}
+use lib.IntN.{pos}
+use lib.Ieee.{Float, binary64, ofBits, neg, mul, lt, le, ofInt, toUnsigned, unlike}
+use Rattle.series.specs.Kernel.{quarter, quarterSine, reduced, halfTurned}
+
+-- The number 16, the factors 2^59 and 2^-61, and +0, by their bits.
+abbrev pub sixteen : Float
+sixteen = ofBits binary64 0x4030000000000000
+
+abbrev pub angleScale : Float
+angleScale = ofBits binary64 0x43A0000000000000
+
+abbrev pub sineScale : Float
+sineScale = ofBits binary64 0x3C20000000000000
+
+abbrev pub +0 : Float
++0 = ofBits binary64 0
+
+-- |v|: -v where v is below zero
+abbrev pub magnitude : Float → Float
+magnitude v = cond (lt v +0) (neg v) v
+
+-- |v| in units of 2^-59, cut
+abbrev pub angle : Float → ℕ
+angle v = toUnsigned 64 (mul binary64 (magnitude v) angleScale)
+
+-- The sine of the angle w, negated or not, as a float: the whole number of units of 2^-61, rounded once.
+unfoldable pub fixedSine : Bool → ℕ → Float
+fixedSine negative w =
+    let size = mul binary64 (ofInt binary64 (pos (quarterSine (reduced w)))) sineScale in
+    cond (unlike negative (halfTurned w)) (neg size) size
+
+-- Sine: for |v| ≤ 16; +0 outside, and for a NaN.
+unfoldable pub sine : Float → Float
+unfolding fixedSine
+sine v = cond (le (magnitude v) sixteen) (fixedSine (lt v +0) (angle v)) +0
+
+-- Cosine: the sine a quarter turn on, whatever the sign of v.
+unfoldable pub cosine : Float → Float
+unfolding fixedSine
+cosine v = cond (le (magnitude v) sixteen) (fixedSine false (angle v + quarter)) +0
