@@ -2,25 +2,26 @@
 use mathlib.Core.Path.{_≡_, refl, sym, ap, ap₂, _∙_, subst}
 use mathlib.Core.Logic.{_⊎_, inl, inr, ⊎-elim}
 use mathlib.Core.Bool.{Bool, true, false, not, cond, _&&_, _||_}
-use Prim.Native.Nat.{ℕ, zero, suc, _+_, _-_, _*_, _/_, _^_, _≤_, _<_, zero-le}
-use native.Mathlib.Nat.{le-refl, le-trans, le-of-eq, le-of-lt, one-mul, mul-one, mul-assoc, mul-comm, mul-le-mul-right}
+use Prim.Native.Nat.{ℕ, zero, suc, _+_, _-_, _*_, _/_, _^_, _≤_, _<_, min, zero-le}
+use native.Mathlib.Nat.{zero-mul, suc-mul, le-of-mul-le-mul-right, lt-of-mul-lt-mul-right, mul-div-mul-right, le-refl, le-trans, le-of-eq, le-of-lt, one-mul, mul-one, mul-assoc, mul-comm, mul-le-mul-right}
 use native.Mathlib.Omega.{arith}
 use lib.Dec.{T, leb, ltb, leb→le}
-use lib.Ieee.Fits.{and-l, and-r}
+use lib.Ieee.Fits.{down-pos, and-l, and-r}
 use lib.Ieee.Bits.{is-true}
 use lib.IntN.{pos}
 use lib.Pow.{pow-add}
-use lib.Ieee.{Float, nan, inf, fin, binary64, fits, ofBits, neg, mul, div, lt, le, eq, unlike}
+use lib.Ieee.{Float, nan, inf, fin, binary64, fits, ofBits, up, down, neg, mul, div, lt, le, eq, toUnsigned, unlike}
 use lib.Ieee.Scale as kit
 use Rattle.binary64.specs.Units.{pow2, one, Finite, mag, negative, plus, minus, Digits53}
 use Rattle.binary64.specs.Magnitude.{Most, Least}
 use Rattle.binary64.specs.Rounding.{rnd}
 use Rattle.binary64.proofs.Naturals.{lt-or-ge}
-use Rattle.binary64.proofs.Units.{pow2-is, pow2-pos, pow2-split, one-pos, mag-digits, same-float, plus-is, minus-is, plus-sign, minus-sign, neg-mag, neg-sign, neg-finite, lt-of-units, not-lt-of-units, units-of-lt, units-of-not-lt}
-use Rattle.binary64.proofs.Rounding.{rnd-exact, rnd-le}
+use Rattle.binary64.proofs.Units.{pow2-is, pow2-pos, pow2-split, one-pos, mag-exact, mag-digits, same-float, plus-is, minus-is, plus-sign, minus-sign, neg-mag, neg-sign, neg-finite, lt-of-units, not-lt-of-units, units-of-lt, units-of-not-lt}
+use Rattle.binary64.proofs.Rounding.{rnd-exact, rnd-near, rnd-zero}
 use Rattle.binary64.proofs.Operations.{mul-mag, mul-sign, div-mag, div-sign}
 use Rattle.binary64.proofs.Magnitude.{mul-most, div-most}
-use Rattle.arctangents.specs.Arctangent.{+0, 1ᶠ, largest, tangentScale, isNegative, magnitude, inDomain}
+use Rattle.series.proofs.Alternating.{quotient-above, quotient-below}
+use Rattle.arctangents.specs.Arctangent.{tangent, +0, 1ᶠ, largest, tangentScale, isNegative, magnitude, inDomain}
 use Rattle.arctangents.specs.Quarter.{InQuarter, Ordered}
 
 -- ---- the constants
@@ -215,6 +216,23 @@ above-diagonal {x} {y} p t = record { point = record { x-finite = p .y-finite; y
     less : (a b c d m n : ℕ) → (a ≡ m) × (b ≡ 0) → (c ≡ n) × (d ≡ 0) → c + b ≤ a + d → n ≤ m
     less a b c d m n p q h = omega arith
 
+-- a float without the sign bit, cut to a whole number
+cut-units : {m : Float} → Finite m → negative m ≡ false → mag m / one < 2 ^ 64 → toUnsigned 64 m ≡ mag m / one
+unfolding toUnsigned
+cut-units {m = nan} f s l = absurd (f .number)
+cut-units {m = inf s} f t l = absurd (f .number)
+cut-units {m = fin true n e} f s l = absurd (subst T s tt)
+cut-units {m = fin false n e} f s l = ap (λ (k : ℕ). min k (2 ^ 64 - 1)) whole ∙ least (mag (fin false n e) / one) l
+  where
+    whole : n * up e / down e ≡ mag (fin false n e) / one
+    whole =
+        sym (mul-div-mul-right (n * up e) (down e) one-pos)
+        ∙ ap₂ (λ (a b : ℕ). a / b) (sym (mag-exact false n e (f .fit))) (mul-comm (down e) one)
+        ∙ mul-div-mul-right (mag (fin false n e)) one (down-pos e)
+
+    least : (k : ℕ) → k < 2 ^ 64 → min k (2 ^ 64 - 1) ≡ k
+    least k l = omega arith
+
 module _ {low high : Float} (o : Ordered low high) where
   abbrev q : Float
   q = div binary64 low high
@@ -285,3 +303,76 @@ module _ {low high : Float} (o : Ordered low high) where
     where
       less : (p n m a b u : ℕ) → p ≡ m * 2 ^ 64 → n ≡ 0 → a ≡ 2 ^ 64 * u → b ≡ 0 → m < u → p + b < a + n
       less p n m a b u c d e f h = omega arith
+
+  -- ---- the tangent against the coordinates
+
+  -- the quotient, cut, in units of 2^-64
+  record Cut (n : ℕ) : Type 0 where
+    small : n < 2 ^ 64
+    low-end : n * one ≤ mag q * 2 ^ 64
+    high-end : mag q * 2 ^ 64 ≤ n * one + one
+
+  cut-below : mag q < one → Cut (mag q * 2 ^ 64 / one)
+  cut-below l = record {
+    small = under (mag q * 2 ^ 64 / one) one (le-trans (quotient-above (mag q * 2 ^ 64) one) (le-refl (mag q * 2 ^ 64))) (more (mag q) one l);
+    low-end = quotient-above (mag q * 2 ^ 64) one;
+    high-end = quotient-below (mag q * 2 ^ 64) one one-pos;
+  }
+    where
+      more : (m u : ℕ) → m < u → m * 2 ^ 64 + 1 ≤ 2 ^ 64 * u
+      more m u h = omega arith
+
+      under : (n u : ℕ) {p : ℕ} → n * u ≤ p → p + 1 ≤ 2 ^ 64 * u → n < 2 ^ 64
+      under n u {p} h k = lt-of-mul-lt-mul-right u (chain (n * u) p h k)
+        where
+          chain : (a p : ℕ) → a ≤ p → p + 1 ≤ 2 ^ 64 * u → a < 2 ^ 64 * u
+          chain a p h k = omega arith
+
+  cut-top : one ≤ mag q → Cut (2 ^ 64 - 1)
+  cut-top l = record { small = leb→le (2 ^ 64) (2 ^ 64) tt; low-end = at (mag q) one l; high-end = up-to (mag q) one quotient-one }
+    where
+      at : (m u : ℕ) → u ≤ m → 18446744073709551615 * u ≤ m * 2 ^ 64
+      at m u h = omega arith
+
+      up-to : (m u : ℕ) → m ≤ u → m * 2 ^ 64 ≤ 18446744073709551615 * u + u
+      up-to m u h = omega arith
+
+  tangent-cut : Cut (tangent low high)
+  unfolding tangent
+  tangent-cut = go (lt q 1ᶠ) refl
+    where
+      go : (b : Bool) → lt q 1ᶠ ≡ b → Cut (cond b (toUnsigned 64 scaled) (2 ^ 64 - 1))
+      go true t = subst Cut (sym (cut-units (scaled-most .finite) scaled-sign (subst (λ (m : ℕ). m / one < 2 ^ 64) (sym scaled-mag) (cut-below (below-one t) .small)) ∙ ap (λ (m : ℕ). m / one) scaled-mag)) (cut-below (below-one t))
+      go false t = cut-top (from-one t)
+
+  pub tangent-small : tangent low high < 2 ^ 64
+  tangent-small = tangent-cut .small
+
+  -- of nothing it is 0
+  pub tangent-zero : mag low ≡ 0 → tangent low high ≡ 0
+  tangent-zero z = none (tangent low high) (mag q) one one-pos (quotient-mag ∙ ap (λ (m : ℕ). rnd (m * one) (mag high)) z ∙ ap (λ (m : ℕ). rnd m (mag high)) (zero-mul one) ∙ rnd-zero (mag high) high-pos) (tangent-cut .low-end)
+    where
+      none : (n m u : ℕ) → 0 < u → m ≡ 0 → n * u ≤ m * 2 ^ 64 → n ≡ 0
+      none zero m u l e h = refl
+      none (suc n) m u l e h = absurd (too-much (n * u) m u l e (le-trans (le-of-eq (sym (suc-mul n u))) h))
+        where
+          too-much : (p m u : ℕ) → 0 < u → m ≡ 0 → p + u ≤ m * 2 ^ 64 → ⊥
+          too-much p m u l e h = omega arith
+
+  quotient-near : (mag q * mag high ≤ mag low * one + pow2 1020 * mag high) × (mag low * one ≤ mag q * mag high + pow2 1020 * mag high)
+  quotient-near =
+      subst (λ (m : ℕ). (m * mag high ≤ mag low * one + pow2 1020 * mag high) × (mag low * one ≤ m * mag high + pow2 1020 * mag high)) (sym quotient-mag)
+      (rnd-near (mag low * one) (mag high) 1020 high-pos (le-trans (mul-le-mul-right one (o .order)) (le-of-eq (mul-comm (mag high) one ∙ ap (λ (k : ℕ). k * mag high) (pow2-split 54 1020)))))
+
+  -- n / 2^64 is low / high, to 1025 × 2^-64
+  pub tangent-above : tangent low high * mag high ≤ 2 ^ 64 * mag low + 1025 * mag high
+  tangent-above = le-of-mul-le-mul-right (at (tangent low high) (mag q) (mag low) (mag high) one (pow2 1020) (pow2-split 54 1020) (mul-le-mul-right (mag high) (tangent-cut .low-end)) (quotient-near .0)) one-pos
+    where
+      at : (n m a c u e : ℕ) → u ≡ 2 ^ 54 * e → n * u * c ≤ m * 2 ^ 64 * c → m * c ≤ a * u + e * c → n * c * u ≤ (2 ^ 64 * a + 1025 * c) * u
+      at n m a c u e p h k = omega (arith, ap (λ (x : ℕ). x * c) p)
+
+  pub tangent-below : 2 ^ 64 * mag low ≤ tangent low high * mag high + 1025 * mag high
+  tangent-below = le-of-mul-le-mul-right (at (tangent low high) (mag q) (mag low) (mag high) one (pow2 1020) (pow2-split 54 1020) (mul-le-mul-right (mag high) (tangent-cut .high-end)) (quotient-near .1)) one-pos
+    where
+      at : (n m a c u e : ℕ) → u ≡ 2 ^ 54 * e → m * 2 ^ 64 * c ≤ (n * u + u) * c → a * u ≤ m * c + e * c → 2 ^ 64 * a * u ≤ (n * c + 1025 * c) * u
+      at n m a c u e p h k = omega (arith, ap (λ (x : ℕ). x * c) p)

@@ -1,2 +1,4 @@
 pub mod Edges
 pub mod Good
+pub mod Exit
+pub mod Aimed
