@@ -2,3 +2,4 @@ pub mod Edges
 pub mod Good
 pub mod Exit
 pub mod Aimed
+pub mod Fractions
