@@ -10,7 +10,7 @@ use lib.IntN.{ℤ, pos, negℤ, _+ℤ_, _-ℤ_, _*ℤ_, natAbs, negℤ-+ℤ, +�
 use lib.Ieee.{Float, lt}
 use Rattle.series.specs.Fraction.{signed}
 use Rattle.series.specs.Kernel.{mulhi, horner}
-use Rattle.series.proofs.Integers.{_⊖_, parts, pos-⊖, neg-pos-⊖, ⊖-add, ⊖-mul, ⊖-neg, ⊖-eq, differences, dist, dist-⊖, dist-comm, dist-neg, size-near, neg-*ℤ}
+use Rattle.series.proofs.Integers.{_⊖_, parts, pos-⊖, neg-pos-⊖, ⊖-add, ⊖-mul, ⊖-neg, ⊖-eq, differences, dist, dist-⊖, dist-comm, dist-neg, size-near, abs-mul, neg-*ℤ}
 use Rattle.cells.specs.Arc.{arc, firstArc, arcs, quarterTurn, halfTurn}
 use Rattle.cells.proofs.Plain.{val}
 use Rattle.cells.proofs.Tests.{sine80, cosine80, unit80, tick}
@@ -33,10 +33,10 @@ turn-small : (halfTurn + 534) * tick ≤ 4 * 2 ^ 600
 unfolding tick
 turn-small = leb→le ((halfTurn + 534) * 2 ^ 538) (4 * 2 ^ 600) tt
 
-pub place-small : {x y : ℤ} {e D : ℕ} (a : ℕ) → a ≤ halfTurn → (m : Aimed x y (pos a) e D) → natAbs (m .place) ≤ 4 * 2 ^ 600
-place-small a l m =
-    le-trans (size-near (m .place) (pos a *ℤ pos tick))
-    (le-trans (add-le-add (mul-le-mul-right tick l) (le-trans (le-of-eq (dist-comm (m .place) (pos a *ℤ pos tick))) (m .near)))
+pub place-small : {x y a : ℤ} {e D : ℕ} → natAbs a ≤ halfTurn → (m : Aimed x y a e D) → natAbs (m .place) ≤ 4 * 2 ^ 600
+place-small {a = a} l m =
+    le-trans (size-near (m .place) (a *ℤ pos tick))
+    (le-trans (add-le-add (le-trans (le-of-eq (abs-mul a (pos tick))) (mul-le-mul-right tick l)) (le-trans (le-of-eq (dist-comm (m .place) (a *ℤ pos tick))) (m .near)))
     (le-trans (le-of-eq (sum halfTurn tick)) turn-small))
   where
     sum : (h t : ℕ) → h * t + 534 * t ≡ (h + 534) * t
@@ -63,7 +63,7 @@ module _ {x y : ℤ} {e D : ℕ} (a : ℕ) (m : Aimed x y (pos a) e D) (room : 6
   }
     where
       small : natAbs (m .place) ≤ 4 * 2 ^ 600
-      small = place-small a (le-trans l (leb→le quarterTurn halfTurn tt)) m
+      small = place-small (le-trans l (leb→le quarterTurn halfTurn tt)) m
 
   -- half a turn less a points at (-x, y)
   pub half-less : a ≤ halfTurn → Aimed (negℤ x) y (pos (halfTurn - a)) (e + 64 * unit80) (D - 64 * unit80)
@@ -74,7 +74,7 @@ module _ {x y : ℤ} {e D : ℕ} (a : ℕ) (m : Aimed x y (pos a) e D) (room : 6
   }
     where
       small : natAbs (m .place) ≤ 4 * 2 ^ 600
-      small = place-small a l m
+      small = place-small l m
 
 -- -a points at (x, -y)
 pub below-axis : {x y a : ℤ} {e D : ℕ} → Aimed x y a e D → Aimed x (negℤ y) (negℤ a) e D

@@ -1,11 +1,11 @@
 -- The float ends of the recipe in units of 2^-1074: the sign without the bits, magnitudes, the domain, and the tangent that is cut.
-use mathlib.Core.Path.{_≡_, refl, sym, ap, ap₂, _∙_, subst}
+use mathlib.Core.Path.{_≡_, refl, sym, ap, ap₂, _∙_, subst, subst₂}
 use mathlib.Core.Logic.{_⊎_, inl, inr, ⊎-elim}
 use mathlib.Core.Bool.{Bool, true, false, not, cond, _&&_, _||_}
 use Prim.Native.Nat.{ℕ, zero, suc, _+_, _-_, _*_, _/_, _^_, _≤_, _<_, min, zero-le}
 use native.Mathlib.Nat.{zero-mul, suc-mul, le-of-mul-le-mul-right, lt-of-mul-lt-mul-right, mul-div-mul-right, le-refl, le-trans, le-of-eq, le-of-lt, one-mul, mul-one, mul-assoc, mul-comm, mul-le-mul-right}
 use native.Mathlib.Omega.{arith}
-use lib.Dec.{T, leb, ltb, leb→le}
+use lib.Dec.{T, leb, leb→le, le→leb}
 use lib.Ieee.Fits.{down-pos, and-l, and-r}
 use lib.Ieee.Bits.{is-true}
 use lib.IntN.{pos}
@@ -16,13 +16,14 @@ use Rattle.binary64.specs.Units.{pow2, one, Finite, mag, negative, plus, minus,
 use Rattle.binary64.specs.Magnitude.{Most, Least}
 use Rattle.binary64.specs.Rounding.{rnd}
 use Rattle.binary64.proofs.Naturals.{lt-or-ge}
-use Rattle.binary64.proofs.Units.{pow2-is, pow2-pos, pow2-split, one-pos, mag-exact, mag-digits, same-float, plus-is, minus-is, plus-sign, minus-sign, neg-mag, neg-sign, neg-finite, lt-of-units, not-lt-of-units, units-of-lt, units-of-not-lt}
+use Rattle.binary64.proofs.Units.{pow2-is, pow2-pos, pow2-split, one-pos, mag-exact, mag-digits, same-float, plus-is, minus-is, plus-sign, minus-sign, neg-mag, neg-sign, neg-finite, le-units, lt-of-units, not-lt-of-units, units-of-lt, units-of-not-lt}
 use Rattle.binary64.proofs.Rounding.{rnd-exact, rnd-near, rnd-zero}
 use Rattle.binary64.proofs.Operations.{mul-mag, mul-sign, div-mag, div-sign}
 use Rattle.binary64.proofs.Magnitude.{mul-most, div-most}
 use Rattle.series.proofs.Alternating.{quotient-above, quotient-below}
 use Rattle.arctangents.specs.Arctangent.{tangent, +0, 1ᶠ, largest, tangentScale, isNegative, magnitude, inDomain}
 use Rattle.arctangents.specs.Quarter.{InQuarter, Ordered}
+use Rattle.arctangents.specs.Promise.{Domain}
 
 -- ---- the constants
 
@@ -158,15 +159,54 @@ some-of {w} f s t = above (plus +0) (minus +0) (plus w) (minus w) (mag w) (plus-
     above : (q r p n m : ℕ) → q ≡ 0 → r ≡ 0 → p ≡ m → n ≡ 0 → q + n < p + r → 0 < m
     above q r p n m a b c d h = omega arith
 
--- Where atan2 is promised, x and y are finite, and their magnitudes make a point of the first quarter.
-pub record Domain (y x : Float) : Type 0 where
-  pub x-finite : Finite x
-  pub y-finite : Finite y
-  pub point : InQuarter (magnitude x) (magnitude y)
+largest-finite : Finite largest
+unfolding ofBits fits
+largest-finite = record { fit = tt; number = tt }
 
+largest-mag : mag largest ≡ 1048576 * one
+unfolding ofBits mag pow2
+largest-mag = refl
+
+largest-sign : negative largest ≡ false
+unfolding ofBits
+largest-sign = refl
+
+-- |x| ≤ 2^20, by the test and in units
+test-size : {w : Float} → Finite w → negative w ≡ false → le w largest ≡ leb (mag w) (1048576 * one)
+test-size {w} f s =
+    le-units f largest-finite
+    ∙ ap₂ leb (sides (plus w) (minus largest) (mag w) (plus-is w s .0) (plus-is largest largest-sign .1)) (sides (plus largest) (minus w) (1048576 * one) (plus-is largest largest-sign .0 ∙ largest-mag) (plus-is w s .1))
+  where
+    sides : (p n m : ℕ) → p ≡ m → n ≡ 0 → p + n ≡ m
+    sides p n m e z = omega arith
+
+-- a point of the domain, by its magnitudes
+pub point : {y x : Float} → Domain y x → InQuarter (magnitude x) (magnitude y)
+point {y} {x} d = record {
+  x-finite = w .finite;
+  y-finite = h .finite;
+  x-sign = w .sign;
+  y-sign = h .sign;
+  some = subst₂ (λ (m n : ℕ). 0 < m + n) (sym (w .size)) (sym (h .size)) (d .some);
+}
+  where
+    w : Size x (magnitude x)
+    w = magnitude-size (d .x-size .finite)
+
+    h : Size y (magnitude y)
+    h = magnitude-size (d .y-size .finite)
+
+-- Where the tests of the recipe pass, there is the domain,
 pub domain : {y x : Float} → T (fits binary64 y) → T (fits binary64 x) → inDomain (magnitude x) (magnitude y) ≡ true → Domain y x
 unfolding inDomain
-domain {y} {x} g f t = record { x-finite = X; y-finite = Y; point = record { x-finite = w .finite; y-finite = h .finite; x-sign = w .sign; y-sign = h .sign; some = ⊎-elim (λ k. left (mag (magnitude x)) (mag (magnitude y)) (some-of (w .finite) (w .sign) k)) (λ k. right (mag (magnitude x)) (mag (magnitude y)) (some-of (h .finite) (h .sign) k)) (either (lt +0 (magnitude x)) (lt +0 (magnitude y)) (and-r (a && b) c all)) } }
+domain {y} {x} g f t = record {
+  x-size = record { finite = X; bound = le-trans (le-of-eq (sym (w .size))) (leb→le (mag (magnitude x)) (1048576 * one) (subst T (test-size (w .finite) (w .sign)) (and-l a b (and-l (a && b) c all)))) };
+  y-size = record { finite = Y; bound = le-trans (le-of-eq (sym (h .size))) (leb→le (mag (magnitude y)) (1048576 * one) (subst T (test-size (h .finite) (h .sign)) (and-r a b (and-l (a && b) c all)))) };
+  some =
+      subst₂ (λ (m n : ℕ). 0 < m + n) (w .size) (h .size)
+      (⊎-elim (λ k. left (mag (magnitude x)) (mag (magnitude y)) (some-of (w .finite) (w .sign) k)) (λ k. right (mag (magnitude x)) (mag (magnitude y)) (some-of (h .finite) (h .sign) k))
+      (either (lt +0 (magnitude x)) (lt +0 (magnitude y)) (and-r (a && b) c all)));
+}
   where
     a : Bool
     a = le (magnitude x) largest
@@ -197,6 +237,33 @@ domain {y} {x} g f t = record { x-finite = X; y-finite = Y; point = record { x-f
 
     right : (m n : ℕ) → 0 < n → 0 < m + n
     right m n k = omega arith
+
+-- and the other way.
+pub inside : {y x : Float} → Domain y x → inDomain (magnitude x) (magnitude y) ≡ true
+unfolding inDomain
+inside {y} {x} d = ap₂ (λ (a b : Bool). a && b) (ap₂ (λ (a b : Bool). a && b) (fine (w .finite) (w .sign) (le-trans (le-of-eq (w .size)) (d .x-size .bound))) (fine (h .finite) (h .sign) (le-trans (le-of-eq (h .size)) (d .y-size .bound)))) (⊎-elim first second (lt-or-ge 0 (mag x)))
+  where
+    w : Size x (magnitude x)
+    w = magnitude-size (d .x-size .finite)
+
+    h : Size y (magnitude y)
+    h = magnitude-size (d .y-size .finite)
+
+    fine : {z : Float} → Finite z → negative z ≡ false → mag z ≤ 1048576 * one → le z largest ≡ true
+    fine {z} f s l = test-size f s ∙ is-true (leb (mag z) (1048576 * one)) (le→leb (mag z) (1048576 * one) l)
+
+    first : 0 < mag x → (lt +0 (magnitude x) || lt +0 (magnitude y)) ≡ true
+    first l = ap (λ (b : Bool). b || lt +0 (magnitude y)) (above-zero (w .sign) (w .finite) (subst (λ (m : ℕ). 0 < m) (sym (w .size)) l))
+
+    or-true : (b : Bool) → (b || true) ≡ true
+    or-true true = refl
+    or-true false = refl
+
+    other : (m n : ℕ) → m ≤ 0 → 0 < m + n → 0 < n
+    other m n h k = omega arith
+
+    second : mag x ≤ 0 → (lt +0 (magnitude x) || lt +0 (magnitude y)) ≡ true
+    second l = ap (λ (b : Bool). lt +0 (magnitude x) || b) (above-zero (h .sign) (h .finite) (subst (λ (m : ℕ). 0 < m) (sym (h .size)) (other (mag x) (mag y) l (d .some)))) ∙ or-true (lt +0 (magnitude x))
 
 -- ---- the tangent
 

@@ -35,11 +35,11 @@ unfolding ofBits
 scale-sign = refl
 
 -- PI and the rounded half turn
-pi-finite : Finite pi
+pub pi-finite : Finite pi
 unfolding ofBits fits
 pi-finite = record { fit = tt; number = tt }
 
-pi-mag : mag pi ≡ 14488038916154245120 * grain
+pub pi-mag : mag pi ≡ 14488038916154245120 * grain
 unfolding ofBits mag pow2
 pi-mag = refl
 

@@ -3,3 +3,4 @@ pub mod Good
 pub mod Exit
 pub mod Aimed
 pub mod Fractions
+pub mod Promise

@@ -4,7 +4,7 @@ use lib.Dec.{T}
 use lib.Ieee.{Float, binary64, fits}
 use Rattle.arctangents.specs.Arctangent.{magnitude, inDomain}
 use Rattle.arctangents.specs.Quarter.{InQuarter}
-use Rattle.arctangents.proofs.Edges.{domain}
+use Rattle.arctangents.proofs.Edges.{domain, point}
 use mathlib.Core.Path.{refl}
 -- `atan2` meets its contract.
 use Rattle.arctangents.specs.Arctangent as recipe
@@ -29,12 +29,12 @@ in-domain-requires : tie.Need-in-domain-requires
 in-domain-requires c κs = search needs
 
 -- the tests that the code has passed, and what a program's floats fit, as the law of the domain wants them
-point : (y x : Float) {w h : Float} {d : Bool} → fits binary64 y ≡ true → fits binary64 x ≡ true → w ≡ magnitude x → h ≡ magnitude y → d ≡ inDomain w h → d ≡ true → InQuarter w h
-point y x p q e f g t = subst₂ InQuarter (sym e) (sym f) (domain {y = y} {x = x} (subst T (sym p) tt) (subst T (sym q) tt) (ap₂ inDomain (sym e) (sym f) ∙ sym g ∙ t) .point)
+quarter : (y x : Float) {w h : Float} {d : Bool} → fits binary64 y ≡ true → fits binary64 x ≡ true → w ≡ magnitude x → h ≡ magnitude y → d ≡ inDomain w h → d ≡ true → InQuarter w h
+quarter y x p q e f g t = subst₂ InQuarter (sym e) (sym f) (point (domain {y = y} {x = x} (subst T (sym p) tt) (subst T (sym q) tt) (ap₂ inDomain (sym e) (sym f) ∙ sym g ∙ t)))
 
 upper-half-requires : tie.Need-upper-half-requires
 upper-half-requires c κs =
-    point (c .before .before .before .before .args .y) (c .before .before .before .before .args .x) (c .before .before .before .before .good .0 .1) (c .before .before .before .before .good .1 .0 .1)
+    quarter (c .before .before .before .before .args .y) (c .before .before .before .before .args .x) (c .before .before .before .before .good .0 .1) (c .before .before .before .before .good .1 .0 .1)
     (c .before .before .before .magnitude .ensures) (c .before .before .magnitude2 .ensures) (c .before .in-domain .ensures) (c .if1 .taken)
 
 nearest-u64-to-f64-requires : tie.Need-nearest-u64-to-f64-requires
