@@ -27,7 +27,7 @@ use Rattle.arctangents.specs.Promise.{Domain}
 
 -- ---- the constants
 
-+0-finite : Finite +0
+pub +0-finite : Finite +0
 unfolding ofBits fits
 +0-finite = record { fit = tt; number = tt }
 

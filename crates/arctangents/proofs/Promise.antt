@@ -7,24 +7,27 @@ use native.Mathlib.Omega.{arith}
 use lib.Dec.{T, leb→le}
 use lib.ListN.{length}
 use lib.IntN.{ℤ, pos, negℤ, _+ℤ_, _-ℤ_, _*ℤ_, natAbs, *ℤ-comm}
-use lib.Ieee.{Float, binary64, fits, ofBits, neg, mul, ofInt, round}
+use lib.Ieee.{Float, binary64, fits, ofBits, neg, mul, lt, ofInt, round}
 use Rattle.series.specs.Fraction.{Fraction, exact, signed}
+use Rattle.series.specs.Kernel.{horner}
 use Rattle.series.specs.Taylor.{factorial}
 use Rattle.series.proofs.Integers.{dist, dist-trans, dist-comm, dist-scale, abs-mul, abs-negℤ, neg-*ℤ, *ℤ-assoc, *ℤ-left-comm}
 use Rattle.series.proofs.Polynomial.{hval, finer, finer-value}
 use Rattle.series.proofs.Quarter.{dist-signed}
 use Rattle.series.proofs.Sums.{scale, sinFrom, cosFrom, sin79, cos79}
-use Rattle.binary64.specs.Units.{pow2, one, Finite, mag, negative}
+use Rattle.binary64.specs.Units.{one, Finite, mag, negative}
+use Rattle.binary64.specs.Units.{zero as zeroFloat}
 use Rattle.binary64.specs.Constants.{pi}
 use Rattle.binary64.proofs.Units.{pow2-split, pow2-add, one-pos, neg-mag, neg-sign, neg-finite}
-use Rattle.cells.specs.Arc.{halfTurn}
+use Rattle.cells.specs.Arc.{arc, quarterTurn, halfTurn}
 use Rattle.cells.proofs.Plain.{val, value-units}
 use Rattle.cells.proofs.Tests.{sine80, cosine80, unit80, tick}
 use Rattle.cells.proofs.Cell.{near-naturals}
 use Rattle.cells.proofs.Turns.{sine-follows, cosine-follows}
-use Rattle.arctangents.specs.Arctangent.{atan2, isNegative, magnitude, inDomain, upperHalf, +0}
-use Rattle.arctangents.specs.Promise.{Domain, Within, Angle}
-use Rattle.arctangents.proofs.Edges.{isNegative-sign, magnitude-size, point, inside}
+use Rattle.arctangents.specs.Arctangent.{atan2, isNegative, magnitude, inDomain, tangent, firstQuarter, upperHalf, +0}
+use Rattle.arctangents.specs.Promise.{Domain, Within, Angle, halfPi, withSign, Atan2Promise}
+use Rattle.arctangents.specs.Quarter.{InQuarter}
+use Rattle.arctangents.proofs.Edges.{+0-finite, +0-mag, isNegative-sign, magnitude-size, point, domain, inside, below-diagonal, above-diagonal, tangent-zero}
 use Rattle.arctangents.proofs.Exit.{grain, angleOf, angle-finite, angle-sign, angle-above, angle-below, angle-most, pi-mag}
 use Rattle.arctangents.proofs.Good.{Good, scaled, moved, loosened}
 use Rattle.arctangents.proofs.Aimed.{Aimed, place-small, below-axis, upper-aimed}
@@ -239,3 +242,122 @@ module _ {y x : Float} (g : Domain y x) where
 
       sums : Good (units x) (units y) (pos ((2 ^ 600) ^ 80) *ℤ hval sin79 (exact t .num) (exact t .den)) (pos ((2 ^ 600) ^ 80) *ℤ hval cos79 (exact t .num) (exact t .den)) (exact t .den ^ 80 * (2 ^ 21 * unit80)) (exact t .den ^ 80 * (2 ^ 56 * unit80))
       sums = sums-good aimed (le-trans (le-of-eq (signed-size (negative y) A)) (upper .1)) (there-is .finite) most close
+
+-- ---- outside
+
+pub atan2-outside : {y x : Float} → T (fits binary64 y) → T (fits binary64 x) → (Domain y x → ⊥) → atan2 y x ≡ +0
+unfolding atan2
+atan2-outside {y} {x} g f none = go (inDomain (magnitude x) (magnitude y)) refl
+  where
+    go : (b : Bool) → inDomain (magnitude x) (magnitude y) ≡ b → cond b (signedAngle (isNegative y) (upperHalf x (magnitude x) (magnitude y))) +0 ≡ +0
+    go true t = absurd (none (domain g f t))
+    go false t = refl
+
++0-within : Within +0
++0-within = record { finite = +0-finite; most = le-trans (le-of-eq +0-mag) zero-le }
+
+pub atan2-within : (y x : Float) → T (fits binary64 y) → T (fits binary64 x) → Within (atan2 y x)
+unfolding atan2
+atan2-within y x g f = go (inDomain (magnitude x) (magnitude y)) refl
+  where
+    go : (b : Bool) → inDomain (magnitude x) (magnitude y) ≡ b → Within (cond b (signedAngle (isNegative y) (upperHalf x (magnitude x) (magnitude y))) +0)
+    go true t =
+        let d = domain {y = y} {x = x} g f t in
+        subst (λ (s : Bool). Within (signedAngle s (upperHalf x (magnitude x) (magnitude y)))) (sym (isNegative-sign (d .y-size .finite))) (angle-promise d .within)
+    go false t = +0-within
+
+-- ---- zeros
+
+neg-zero : neg (zeroFloat false) ≡ zeroFloat true
+unfolding neg
+neg-zero = refl
+
+-- the angles that need no division
+angle-zero : angleOf 0 ≡ zeroFloat false
+unfolding ofInt round mul ofBits
+angle-zero = refl
+
+angle-half-turn : angleOf halfTurn ≡ pi
+unfolding ofInt round mul ofBits
+angle-half-turn = refl
+
+angle-quarter-turn : angleOf quarterTurn ≡ halfPi
+unfolding ofInt round mul ofBits
+angle-quarter-turn = refl
+
+angle-other-quarter : angleOf (halfTurn - quarterTurn) ≡ halfPi
+unfolding ofInt round mul ofBits
+angle-other-quarter = refl
+
+arc-zero : arc 0 ≡ 0
+unfolding arc horner
+arc-zero = refl
+
+-- on the x axis
+flat : {w h : Float} → InQuarter w h → mag h ≡ 0 → firstQuarter w h ≡ 0
+unfolding firstQuarter
+flat {w} {h} p z = go (lt w h) refl
+  where
+    go : (b : Bool) → lt w h ≡ b → cond b (quarterTurn - arc (tangent w h)) (arc (tangent h w)) ≡ 0
+    go true t = absurd (not-below (mag w) (mag h) (p .some) (below-diagonal p t .order) z)
+      where
+        not-below : (m n : ℕ) → 0 < m + n → m ≤ n → n ≡ 0 → ⊥
+        not-below m n h k e = omega arith
+    go false t = ap arc (tangent-zero (above-diagonal p t) z) ∙ arc-zero
+
+-- on the y axis
+steep : {w h : Float} → InQuarter w h → mag w ≡ 0 → firstQuarter w h ≡ quarterTurn
+unfolding firstQuarter
+steep {w} {h} p z = go (lt w h) refl
+  where
+    go : (b : Bool) → lt w h ≡ b → cond b (quarterTurn - arc (tangent w h)) (arc (tangent h w)) ≡ quarterTurn
+    go true t = ap (λ (n : ℕ). quarterTurn - n) (ap arc (tangent-zero (below-diagonal p t) z) ∙ arc-zero)
+    go false t = absurd (not-above (mag w) (mag h) (p .some) (above-diagonal p t .order) z)
+      where
+        not-above : (m n : ℕ) → 0 < m + n → n ≤ m → m ≡ 0 → ⊥
+        not-above m n h k e = omega arith
+
+module _ {y x : Float} (g : Domain y x) where
+  first : ℕ
+  first = firstQuarter (magnitude x) (magnitude y)
+
+  turned-by : {s : Bool} → negative x ≡ s → upperHalf x (magnitude x) (magnitude y) ≡ cond s (halfTurn - first) first
+  unfolding upperHalf first
+  turned-by e = ap (λ (s : Bool). cond s (halfTurn - firstQuarter (magnitude x) (magnitude y)) (firstQuarter (magnitude x) (magnitude y))) (isNegative-sign (g .x-size .finite) ∙ e)
+
+  on-x-axis : mag y ≡ 0 → first ≡ 0
+  unfolding first
+  on-x-axis z = flat (point g) (magnitude-size (g .y-size .finite) .size ∙ z)
+
+  on-y-axis : mag x ≡ 0 → first ≡ quarterTurn
+  unfolding first
+  on-y-axis z = steep (point g) (magnitude-size (g .x-size .finite) .size ∙ z)
+
+  pub atan2-right : mag y ≡ 0 → negative x ≡ false → atan2 y x ≡ zeroFloat (negative y)
+  atan2-right z s = atan2-inside g ∙ ap (signedAngle (negative y)) (turned-by s ∙ on-x-axis z) ∙ ap (λ (t : Float). cond (negative y) (neg t) t) angle-zero ∙ both (negative y)
+    where
+      both : (s : Bool) → cond s (neg (zeroFloat false)) (zeroFloat false) ≡ zeroFloat s
+      both true = neg-zero
+      both false = refl
+
+  pub atan2-left : mag y ≡ 0 → negative x ≡ true → atan2 y x ≡ withSign y pi
+  atan2-left z s = atan2-inside g ∙ ap (signedAngle (negative y)) (turned-by s ∙ ap (λ (n : ℕ). halfTurn - n) (on-x-axis z)) ∙ ap (λ (t : Float). cond (negative y) (neg t) t) angle-half-turn
+
+  pub atan2-upright : mag x ≡ 0 → atan2 y x ≡ withSign y halfPi
+  atan2-upright z = atan2-inside g ∙ ap (λ (t : Float). cond (negative y) (neg t) t) (go (negative x) refl)
+    where
+      go : (s : Bool) → negative x ≡ s → angleOf (upperHalf x (magnitude x) (magnitude y)) ≡ halfPi
+      go true e = ap angleOf (turned-by e ∙ ap (λ (n : ℕ). halfTurn - n) (on-y-axis z)) ∙ angle-other-quarter
+      go false e = ap angleOf (turned-by e ∙ on-y-axis z) ∙ angle-quarter-turn
+
+-- ---- the promise
+
+pub atan2-promise : Atan2Promise
+atan2-promise = record {
+  angle = λ y x g. subst (Angle y x) (sym (atan2-inside g)) (angle-promise g);
+  outside = λ y x g f none. atan2-outside g f none;
+  always = atan2-within;
+  right = λ y x g z s. atan2-right g z s;
+  left = λ y x g z s. atan2-left g z s;
+  upright = λ y x g z. atan2-upright g z;
+}
