@@ -1,0 +1,19 @@
+-- `magnitude` meets its contract: the arms are those of the definition.
+use borrow.Author.Needs.{needs}
+use Rattle.arctangents.proofs.magnitude.Statement.{statement}
+use Rattle.arctangents.proofs.magnitude.Tie as tie
+use Rattle.arctangents.proofs.magnitude.Reads as reads
+use Rattle.arctangents.proofs.magnitude.Lts as lts
+use Rattle.arctangents.proofs.is_negative.Reads as is-negative-reads
+
+is-negative-requires : tie.Need-is-negative-requires
+is-negative-requires c κs = search needs
+
+returns : tie.Need-returns
+returns c = cc
+
+returns-2 : tie.Need-returns-2
+returns-2 c = cc
+
+pub magnitude-spec : {M : Type 1} → statement M
+magnitude-spec = tie.close (tie.spec is-negative-requires returns returns-2)

@@ -1,0 +1,3 @@
+pub mod Arctangent
+pub mod Quarter
+pub mod Promise

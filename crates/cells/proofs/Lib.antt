@@ -1,0 +1,4 @@
+pub mod Plain
+pub mod Tests
+pub mod Cell
+pub mod Turns
