@@ -1,5 +1,4 @@
--- The laws of sine and cosine: products, arms, the float edges, and the promise.
-pub mod Products
+-- The laws of sine and cosine: arms, the float edges, and the promise.
 pub mod Arms
 pub mod Entry
 pub mod Exit

@@ -4,3 +4,6 @@ pub mod RootPromise
 pub mod RootSteps
 pub mod Sine
 pub mod SinePromise
+pub mod Arctangent
+pub mod ArctangentSteps
+pub mod ArctangentPromise

@@ -3,9 +3,8 @@
 // a definition (specs/Sine.antt, over the crate series), and what it is worth a theorem
 // (specs/SinePromise.antt).
 ghost use mathlib.Core.Path.{_≡_};
-ghost use Prim.Native.Nat.{_-_, _≤_};
+ghost use Prim.Native.Nat.{_≤_};
 ghost use Rattle.series.specs.Kernel.{quarter, firstCoefficient, coefficients};
-ghost use Rattle.series.specs.Kernel.{mulhi as upperHalf};
 ghost use Rattle.series.specs.Kernel.{horner as hornerOf};
 ghost use Rattle.series.specs.Kernel.{quarterSine, reduced as reducedOf, halfTurned};
 ghost use mathlib.Core.Bool.{true};
@@ -13,30 +12,11 @@ ghost use lib.Ieee.{le};
 ghost use Rattle.elementary.specs.Sine.{sine, cosine, fixedSine, sixteen};
 ghost use Rattle.elementary.specs.Sine.{magnitude as magnitudeOf};
 ghost use Rattle.elementary.specs.Sine.{angle as angleOf};
+use crate::fixed::mulhi;
+use crate::fixed::step;
 
 // A quarter turn in units of 2^-59.
 const QUARTER: u64 = 905502432259640355;
-
-// The upper 64 of the 128 bits of a product, by the four products of the halves.
-fn mulhi(a: u64, b: u64) -> u64
-    ensures { λ r. ⌜ (r ≡ upperHalf a b) × (r ≤ b) ⌝ }
-{
-    let a_low = a % 4294967296;
-    let a_high = a / 4294967296;
-    let b_low = b % 4294967296;
-    let b_high = b / 4294967296;
-    let middle = a_high * b_low + a_low * b_low / 4294967296;
-    let second = a_low * b_high + middle % 4294967296;
-    a_high * b_high + middle / 4294967296 + second / 4294967296
-}
-
-// One step of Horner's rule: c less the product, cut.
-fn step(c: u64, z: u64, h: u64) -> u64
-    requires { ⌜ h ≤ c ⌝ }
-    ensures { λ r. ⌜ (r ≡ c - upperHalf z h) × (r ≤ c) ⌝ }
-{
-    c - mulhi(z, h)
-}
 
 // The alternating polynomial of the recipe at z, by Horner's rule.
 fn horner(z: u64) -> u64

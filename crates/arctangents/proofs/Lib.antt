@@ -1,6 +1,0 @@
-pub mod Edges
-pub mod Good
-pub mod Exit
-pub mod Aimed
-pub mod Fractions
-pub mod Promise

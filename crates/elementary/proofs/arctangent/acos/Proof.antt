@@ -1,0 +1,32 @@
+-- `acos` meets its contract: the domain and the arguments of atan2 are those of the definition.
+use mathlib.Core.Path.{refl}
+use Rattle.elementary.specs.Arctangent as recipe
+use borrow.Author.Needs.{needs}
+use Rattle.elementary.proofs.arctangent.acos.Statement.{statement}
+use Rattle.elementary.proofs.arctangent.acos.Tie as tie
+use Rattle.elementary.proofs.arctangent.acos.Reads as reads
+use Rattle.elementary.proofs.arctangent.acos.Lts as lts
+use Rattle.elementary.proofs.arctangent.atan2.Reads as atan2-reads
+use Rattle.elementary.proofs.arctangent.cofunction.Reads as cofunction-reads
+use Rattle.elementary.proofs.arctangent.in_unit.Reads as in-unit-reads
+
+in-unit-requires : tie.Need-in-unit-requires
+in-unit-requires c κs = search needs
+
+cofunction-requires : tie.Need-cofunction-requires
+cofunction-requires c κs = search needs
+
+atan2-requires : tie.Need-atan2-requires
+atan2-requires c κs = search needs
+
+returns : tie.Need-returns
+unfolding recipe.acos
+returns c = rw (← (c .before .before .before .in-unit .ensures), c .before .before .if1 .taken, ← (c .before .cofunction .ensures)) (c .atan2 .ensures)
+
+returns-2 : tie.Need-returns-2
+unfolding recipe.acos
+returns-2 c = rw (← (c .before .in-unit .ensures), c .if1 .left) refl
+
+pub acos-spec : {M : Type 1} → statement M
+acos-spec =
+    tie.close (tie.spec in-unit-requires cofunction-requires atan2-requires returns returns-2)

@@ -1,0 +1,32 @@
+use Prim.Native.Nat.{ℕ, _/_, _≤_}
+use native.Mathlib.Nat.{le-trans}
+use mathlib.Core.Path.{refl}
+-- `arc` meets its contract.
+use native.Mathlib.Omega.{arith}
+use Rattle.cells.specs.Arc as cells
+use borrow.Author.Needs.{needs}
+use Rattle.elementary.proofs.arctangent.arc.Statement.{statement}
+use Rattle.elementary.proofs.arctangent.arc.Tie as tie
+use Rattle.elementary.proofs.arctangent.arc.Reads as reads
+use Rattle.elementary.proofs.arctangent.arc.Lts as lts
+use Rattle.elementary.proofs.arctangent.horner.Reads as horner-reads
+use Rattle.elementary.proofs.fixed.mulhi.Reads as mulhi-reads
+
+mulhi-requires : tie.Need-mulhi-requires
+mulhi-requires c κs = search needs
+
+horner-requires : tie.Need-horner-requires
+horner-requires c κs = search needs
+
+mulhi-requires-2 : tie.Need-mulhi-requires-2
+mulhi-requires-2 c κs = search needs
+
+half-small : (r : ℕ) → r ≤ 9223372036854775800 → r / 2 ≤ 7244019458077122842
+half-small r h = omega arith
+
+returns : tie.Need-returns
+unfolding cells.arc
+returns c = (rw (c .mulhi2 .ensures .0, c .before .horner .ensures .0, c .before .before .mulhi .ensures .0) refl, half-small _ (le-trans (c .mulhi2 .ensures .1) (c .before .horner .ensures .1)))
+
+pub arc-spec : {M : Type 1} → statement M
+arc-spec = tie.close (tie.spec mulhi-requires horner-requires mulhi-requires-2 returns)

@@ -1,0 +1,18 @@
+-- `cofunction` meets its contract: the steps are those of the definition.
+use Rattle.elementary.specs.Arctangent as recipe
+use borrow.Author.Needs.{needs}
+use Rattle.elementary.proofs.arctangent.cofunction.Statement.{statement}
+use Rattle.elementary.proofs.arctangent.cofunction.Tie as tie
+use Rattle.elementary.proofs.arctangent.cofunction.Reads as reads
+use Rattle.elementary.proofs.arctangent.cofunction.Lts as lts
+use Rattle.elementary.proofs.root.root.Reads as root-reads
+
+root-requires : tie.Need-root-requires
+root-requires c κs = search needs
+
+returns : tie.Need-returns
+unfolding recipe.cofunction
+returns c = c .root .ensures
+
+pub cofunction-spec : {M : Type 1} → statement M
+cofunction-spec = tie.close (tie.spec root-requires returns)

@@ -1,0 +1,47 @@
+use mathlib.Core.Path.{refl}
+use Rattle.elementary.proofs.arctangent.Edges.{below-diagonal, above-diagonal}
+-- `first_quarter` meets its contract.
+use native.Mathlib.Omega.{arith}
+use Rattle.elementary.specs.Arctangent as recipe
+use borrow.Author.Needs.{needs}
+use Rattle.elementary.proofs.arctangent.first_quarter.Statement.{statement}
+use Rattle.elementary.proofs.arctangent.first_quarter.Tie as tie
+use Rattle.elementary.proofs.arctangent.first_quarter.Reads as reads
+use Rattle.elementary.proofs.arctangent.first_quarter.Lts as lts
+use Rattle.elementary.proofs.arctangent.arc.Reads as arc-reads
+use Rattle.elementary.proofs.arctangent.tangent.Reads as tangent-reads
+
+tangent-requires : tie.Need-tangent-requires
+tangent-requires c κs = below-diagonal (c .before .pre) (c .if1 .taken)
+
+arc-requires : tie.Need-arc-requires
+arc-requires c κs = search needs
+
+sub-result : tie.Need-sub-result
+sub-result c = omega arith
+
+returns : tie.Need-returns
+unfolding recipe.firstQuarter
+returns c = (rw (c .before .before .if1 .taken, c .arc .ensures .0, c .before .tangent .ensures) refl, omega arith)
+
+tangent-requires-2 : tie.Need-tangent-requires-2
+tangent-requires-2 c κs = above-diagonal (c .before .pre) (c .if1 .left)
+
+arc-requires-2 : tie.Need-arc-requires-2
+arc-requires-2 c κs = search needs
+
+returns-2 : tie.Need-returns-2
+unfolding recipe.firstQuarter
+returns-2 c = (rw (c .before .before .if1 .left, c .arc2 .ensures .0, c .before .tangent2 .ensures) refl, c .arc2 .ensures .1)
+
+pub first-quarter-spec : {M : Type 1} → statement M
+first-quarter-spec =
+    tie.close
+    (tie.spec
+    tangent-requires
+    arc-requires
+    sub-result
+    returns
+    tangent-requires-2
+    arc-requires-2
+    returns-2)

@@ -1,0 +1,67 @@
+-- `horner` meets its contract: each step is one of the definition's, and its result is no more than its coefficient.
+use Rattle.series.specs.Kernel as kernel
+use borrow.Author.Needs.{needs}
+use Rattle.elementary.proofs.arctangent.horner.Statement.{statement}
+use Rattle.elementary.proofs.arctangent.horner.Tie as tie
+use Rattle.elementary.proofs.arctangent.horner.Reads as reads
+use Rattle.elementary.proofs.arctangent.horner.Lts as lts
+use Rattle.elementary.proofs.arctangent.later_half.Reads as later-half-reads
+use Rattle.elementary.proofs.fixed.step.Reads as step-reads
+
+later-half-requires : tie.Need-later-half-requires
+later-half-requires c κs = search needs
+
+step-requires : tie.Need-step-requires
+step-requires c κs = search needs
+
+step-requires-2 : tie.Need-step-requires-2
+step-requires-2 c κs = search needs
+
+step-requires-3 : tie.Need-step-requires-3
+step-requires-3 c κs = search needs
+
+step-requires-4 : tie.Need-step-requires-4
+step-requires-4 c κs = search needs
+
+step-requires-5 : tie.Need-step-requires-5
+step-requires-5 c κs = search needs
+
+step-requires-6 : tie.Need-step-requires-6
+step-requires-6 c κs = search needs
+
+step-requires-7 : tie.Need-step-requires-7
+step-requires-7 c κs = search needs
+
+step-requires-8 : tie.Need-step-requires-8
+step-requires-8 c κs = search needs
+
+step-requires-9 : tie.Need-step-requires-9
+step-requires-9 c κs = search needs
+
+step-requires-10 : tie.Need-step-requires-10
+step-requires-10 c κs = search needs
+
+step-requires-11 : tie.Need-step-requires-11
+step-requires-11 c κs = search needs
+
+returns : tie.Need-returns
+unfolding kernel.horner
+returns c = (cc, c .step11 .ensures .1)
+
+pub horner-spec : {M : Type 1} → statement M
+horner-spec =
+    tie.close
+    (tie.spec
+    later-half-requires
+    step-requires
+    step-requires-2
+    step-requires-3
+    step-requires-4
+    step-requires-5
+    step-requires-6
+    step-requires-7
+    step-requires-8
+    step-requires-9
+    step-requires-10
+    step-requires-11
+    returns)

@@ -1,0 +1,2 @@
+-- The laws of products by halves.
+pub mod Products
