@@ -1,5 +1,5 @@
 // The functions on points, boxes and pairs of circles: distance, area, bounds, contains, contains_point, intersects,
-// intersection_points.
+// intersection_area, intersection_points.
 
 use crate::geometry::primitives::{Bounds, Point};
 use crate::geometry::shapes::{Circle, Rectangle};
@@ -33,6 +33,7 @@ extern "C" {
     fn probe_contains(x1: f64, y1: f64, r1: f64, x2: f64, y2: f64, r2: f64) -> bool;
     fn probe_contains_point(x1: f64, y1: f64, r1: f64, x2: f64, y2: f64) -> bool;
     fn probe_intersects(x1: f64, y1: f64, r1: f64, x2: f64, y2: f64, r2: f64) -> bool;
+    fn probe_intersection_area(x1: f64, y1: f64, r1: f64, x2: f64, y2: f64, r2: f64) -> f64;
     fn probe_intersection_points(x1: f64, y1: f64, r1: f64, x2: f64, y2: f64, r2: f64) -> OurPoints;
 }
 
@@ -105,6 +106,8 @@ fn pair(tally: &mut Tally, a: Head, b: Head) {
     tally.whole("contains", ours as u64, first.contains(&second) as u64, input);
     let ours = unsafe { probe_intersects(a.x, a.y, a.r, b.x, b.y, b.r) };
     tally.whole("intersects", ours as u64, first.intersects(&second) as u64, input);
+    let ours = unsafe { probe_intersection_area(a.x, a.y, a.r, b.x, b.y, b.r) };
+    tally.float("intersection_area", ours, first.intersection_area(&second), input);
     let points = first.intersection_points(&second);
     intersection_points(tally, a, b, &points);
     if let Some((number, contained)) = by_whole_numbers(a, b) {
@@ -158,7 +161,8 @@ fn list_pair(a: Head, b: Head) {
     let mut numbers = vec![a.x, a.y, a.r, b.x, b.y, b.r];
     numbers.extend([first.center().distance(second.center()), first.area(), bounds.area(), x_min, x_max, y_min, y_max]);
     numbers.extend(coordinates);
-    if a == b || numbers.iter().any(|n| !n.is_finite()) {
+    let shared = first.intersection_area(&second);
+    if a == b || numbers.iter().chain([&shared]).any(|n| !n.is_finite()) {
         return;
     }
     let answers = [
@@ -168,5 +172,5 @@ fn list_pair(a: Head, b: Head) {
         first.intersects(&second) as usize,
     ];
     let whole: String = answers.iter().map(|n| format!(" {n}")).collect();
-    println!("P{}{}", words(&numbers), whole);
+    println!("P{}{}{}", words(&numbers), whole, words(&[shared]));
 }

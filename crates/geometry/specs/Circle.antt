@@ -2,8 +2,9 @@
 use mathlib.Core.Bool.{Bool, _&&_, _||_, cond}
 use mathlib.Core.List.{List, []}
 use lib.Ieee.{Float, neg}
-use Rattle.binary64.specs.Constants.{pi, two64}
-use Rattle.binary64.specs.Functions.{absolute}
+use Rattle.elementary.specs.Arctangent.{acos}
+use Rattle.binary64.specs.Constants.{pi, zero64, half64, two64}
+use Rattle.binary64.specs.Functions.{absolute, smallerOf}
 use Rattle.elementary.specs.Root.{root}
 use Rattle.geometry.specs.Floats.{_+ᶠ_, _-ᶠ_, _*ᶠ_, _/ᶠ_, _<ᶠ_, _≤ᶠ_, _=ᶠ_}
 use Rattle.geometry.specs.Point.{at, distance}
@@ -32,6 +33,26 @@ abbrev pub intersects : Circle → Circle → Bool
 intersects a b =
     let d = distance (a .center) (b .center) in
     (d <ᶠ a .radius +ᶠ b .radius) && (absolute (a .radius -ᶠ b .radius) <ᶠ d)
+
+-- The area between two arcs, for radii r and s and centres at the distance d: a sector of each circle, less the kite between the centres and
+-- the points.
+abbrev pub lens : Float → Float → Float → Float
+lens r s d =
+    let sector1 = r *ᶠ r *ᶠ acos ((d *ᶠ d +ᶠ r *ᶠ r -ᶠ s *ᶠ s) /ᶠ (two64 *ᶠ d *ᶠ r)) in
+    let sector2 = s *ᶠ s *ᶠ acos ((d *ᶠ d +ᶠ s *ᶠ s -ᶠ r *ᶠ r) /ᶠ (two64 *ᶠ d *ᶠ s)) in
+    let kite = half64 *ᶠ root ((r +ᶠ s -ᶠ d) *ᶠ (d +ᶠ r -ᶠ s) *ᶠ (d -ᶠ r +ᶠ s) *ᶠ (d +ᶠ r +ᶠ s)) in
+    sector1 +ᶠ sector2 -ᶠ kite
+
+-- The area that two circles share: +0 where they are apart or touch from outside, the smaller circle where it lies within the other, and
+-- the lens otherwise.
+abbrev pub intersectionArea : Circle → Circle → Float
+intersectionArea a b =
+    let d = distance (a .center) (b .center) in
+    let least = smallerOf (a .radius) (b .radius) in
+    cond
+    (a .radius +ᶠ b .radius ≤ᶠ d)
+    zero64
+    (cond (d ≤ᶠ absolute (a .radius -ᶠ b .radius)) (pi *ᶠ least *ᶠ least) (lens (a .radius) (b .radius) d))
 
 -- Document 01: identical heads have the same centre and the same radius.
 abbrev pub identical : Circle → Circle → Bool

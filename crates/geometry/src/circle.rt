@@ -6,6 +6,8 @@ ghost use Rattle.geometry.specs.Meeting.{points};
 use crate::meeting::Meeting;
 use crate::point::Point;
 use binary64::abs;
+use binary64::smaller;
+use elementary::arctangent::acos;
 use elementary::root::root;
 
 pub struct Circle {
@@ -72,6 +74,24 @@ impl Circle {
             && center_distance > abs(self.radius - other.radius)
     }
 
+    // Circles that touch from outside have none in common; of two within each other it is the
+    // smaller one's area.
+    pub fn intersection_area(self, other: Circle) -> f64
+        ensures { λ r. ⌜ r ≡ spec.intersectionArea self other ⌝ }
+    {
+        let r1 = self.radius;
+        let r2 = other.radius;
+        let d = self.center.distance(other.center);
+        if d >= r1 + r2 {
+            return 0.0;
+        }
+        if d <= abs(r1 - r2) {
+            let smaller_radius = smaller(r1, r2);
+            return Circle::PI * smaller_radius * smaller_radius;
+        }
+        lens(r1, r2, d)
+    }
+
     // Whether centre and radius are equal.
     fn identical(self, other: Circle) -> bool
         ensures { λ r. ⌜ r ≡ spec.identical self other ⌝ }
@@ -124,4 +144,15 @@ impl Circle {
         }
         self.crossing(other, d)
     }
+}
+
+// The area between two arcs: a sector of each circle, less the kite between the centres and the
+// points.
+fn lens(r1: f64, r2: f64, d: f64) -> f64
+    ensures { λ r. ⌜ r ≡ spec.lens r1 r2 d ⌝ }
+{
+    let part1 = r1 * r1 * acos((d * d + r1 * r1 - r2 * r2) / (2.0 * d * r1));
+    let part2 = r2 * r2 * acos((d * d + r2 * r2 - r1 * r1) / (2.0 * d * r2));
+    let part3 = 0.5 * root((r1 + r2 - d) * (d + r1 - r2) * (d - r1 + r2) * (d + r1 + r2));
+    part1 + part2 - part3
 }

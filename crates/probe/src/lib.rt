@@ -1,6 +1,7 @@
 // For the differential run alone: the functions that it compares with the Rust's, and those that the
 // Rust calls in the machine's place, under plain C names. Circles and boxes come as their numbers.
 ghost use mathlib.Core.Path.{_≡_};
+ghost use Rattle.elementary.specs.Arctangent as arc;
 ghost use Rattle.elementary.specs.Root.{root, hypot};
 ghost use Rattle.elementary.specs.Sine.{sine, cosine};
 ghost use Rattle.geometry.specs.Circle as circle;
@@ -58,6 +59,27 @@ pub extern "C" fn probe_cos(v: f64) -> f64
     ensures { λ r. ⌜ r ≡ cosine v ⌝ }
 {
     elementary::sine::cos(v)
+}
+
+#[no_mangle]
+pub extern "C" fn probe_atan2(y: f64, x: f64) -> f64
+    ensures { λ r. ⌜ r ≡ arc.atan2 y x ⌝ }
+{
+    elementary::arctangent::atan2(y, x)
+}
+
+#[no_mangle]
+pub extern "C" fn probe_acos(c: f64) -> f64
+    ensures { λ r. ⌜ r ≡ arc.acos c ⌝ }
+{
+    elementary::arctangent::acos(c)
+}
+
+#[no_mangle]
+pub extern "C" fn probe_asin(c: f64) -> f64
+    ensures { λ r. ⌜ r ≡ arc.asin c ⌝ }
+{
+    elementary::arctangent::asin(c)
 }
 
 #[no_mangle]
@@ -123,6 +145,21 @@ pub extern "C" fn probe_intersects(x1: f64, y1: f64, r1: f64, x2: f64, y2: f64, 
         ⌜ r ≡ circle.intersects (circle.around (point.at x1 y1) r1) (circle.around (point.at x2 y2) r2) ⌝ }
 {
     around(x1, y1, r1).intersects(around(x2, y2, r2))
+}
+
+#[no_mangle]
+pub extern "C" fn probe_intersection_area(
+    x1: f64,
+    y1: f64,
+    r1: f64,
+    x2: f64,
+    y2: f64,
+    r2: f64,
+) -> f64
+    ensures { λ r.
+        ⌜ r ≡ circle.intersectionArea (circle.around (point.at x1 y1) r1) (circle.around (point.at x2 y2) r2) ⌝ }
+{
+    around(x1, y1, r1).intersection_area(around(x2, y2, r2))
 }
 
 #[no_mangle]

@@ -36,7 +36,7 @@ fn digit(b: u8) -> u64 {
 // Whether every answer on the line that was read is ours. Its letter stands in the first place, and
 // `last` is the place of its last number.
 fn agrees(words: &[u64; 32], last: usize) -> bool {
-    if words[0] == LETTER_P && last == 21 {
+    if words[0] == LETTER_P && last == 22 {
         return pair::agrees(words);
     }
     false

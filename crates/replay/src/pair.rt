@@ -3,7 +3,7 @@
 // as wide as the first radius and as high as the second, the area (9) and the bounds x_min, x_max,
 // y_min, y_max (10 to 13); the coordinates of the meeting points (14 to 17), +0 where there is none,
 // and their number (18); then 1 for yes: the first contains the second (19), contains the second's
-// centre (20), intersects the second (21).
+// centre (20), intersects the second (21); and the area that the two share (22).
 use geometry::circle::Circle;
 use geometry::meeting::Meeting;
 use geometry::point::Point;
@@ -64,4 +64,5 @@ pub(crate) fn agrees(words: &[u64; 32]) -> bool {
         && is_yes(a.contains(b), words[19])
         && is_yes(a.contains_point(q), words[20])
         && is_yes(a.intersects(b), words[21])
+        && same(a.intersection_area(b), words[22])
 }
