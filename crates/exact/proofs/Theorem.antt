@@ -12,7 +12,7 @@ use lib.ListN.{length}
 use lib.IntN.{ℤ, pos}
 use lib.Ieee.{Float, binary64, ofInt}
 use mir.Facts.{and-yes}
-use borrow.Author.Tests.{lt-ltb, le-ltb, eq-eqb, ne-eqb}
+use borrow.Author.Tests.{lt-ltb, le-ltb, le-leb, eq-eqb, ne-eqb}
 use Rattle.heads.specs.declared.Head.{Head}
 use Rattle.heads.specs.declared.Relation.{Relation}
 use Rattle.heads.specs.declared.Relation.the-variants.{Apart, TouchingOutside, Crossing, TouchingInside, Holding, Identical}
@@ -29,7 +29,7 @@ use Rattle.geometry.specs.Circle as circle
 use Rattle.geometry.specs.Meeting.{number-of-points}
 use Rattle.geometry.specs.Point.{at, distance}
 use Rattle.exact.specs.Circle.{circleOf}
-use Rattle.exact.specs.Decisions.{IsDrawn, DecidesExactly, StaysBounded, NoPointsUnlessMet, sum, difference}
+use Rattle.exact.specs.Decisions.{IsDrawn, DecidesExactly, StaysBounded, NoPointsUnlessMet, NoAreaBeyond, sum, difference}
 use Rattle.exact.proofs.Chord.{gap-either}
 use Rattle.exact.proofs.Distance.{rootOf, distance-is, root-is-finite, root-most, root-at-least}
 use Rattle.exact.proofs.Tests.{identical-is, apart-is, intersects-is, contains-heads, beyond-is, within-is}
@@ -253,3 +253,7 @@ stays-bounded a b ha hb = record {
 -- Heads that do not meet have no meeting points, in either order.
 pub no-points-unless-met : NoPointsUnlessMet
 no-points-unless-met a b ha hb e = (decides-exactly a b ha hb .none .1 e, decides-exactly b a hb ha .none .1 (meetsOf-comm b a ∙ e))
+
+-- Heads that touch from outside or are apart share no area.
+pub no-area-beyond : NoAreaBeyond
+no-area-beyond a b ha hb h = rw (decides-exactly a b ha hb .outside ∙ le-leb (sum a b * sum a b) (squaredDistance a b) h)

@@ -1,7 +1,7 @@
 -- Document 01, "Facts to hold", of the float code: D is the squared centre distance, s the sum and t the difference of the radii, all whole. "On the domain
 -- below rounding changes none of these." Each statement equates what the definitions of `geometry` give, with f64, with what those of `heads` give, over
 -- whole numbers. proofs/Theorem.antt proves these records for every ordered pair of heads within document 01's limits.
-use Prim.Native.Nat.{ℕ, _+_, _*_, _<_}
+use Prim.Native.Nat.{ℕ, _+_, _*_, _≤_, _<_}
 use mathlib.Core.Path.{_≡_}
 use mathlib.Core.Bool.{Bool, true, false, _&&_}
 use mathlib.Core.List.{[]}
@@ -15,13 +15,14 @@ use Rattle.heads.specs.Relation.{gap, points}
 use Rattle.heads.specs.Pair.{squaredDistance, radiusOf, relationOf, meetsOf, meetsOnceOf, containsOf}
 use Rattle.binary64.specs.Units.{negative}
 use Rattle.binary64.specs.Functions.{absolute}
+use Rattle.binary64.specs.Constants.{zero64}
 use Rattle.binary64.specs.Magnitude.{Most, Least}
 use Rattle.geometry.specs.declared.circle.Circle.{Circle}
 use Rattle.geometry.specs.declared.meeting.Meeting.{Meeting}
 use Rattle.geometry.specs.Meeting as meeting
 use Rattle.geometry.specs.Floats.{_+ᶠ_, _-ᶠ_, _≤ᶠ_}
 use Rattle.geometry.specs.Point.{distance}
-use Rattle.geometry.specs.Circle.{contains, intersects, intersectionPoints}
+use Rattle.geometry.specs.Circle.{intersectionArea, contains, intersects, intersectionPoints}
 use Rattle.exact.specs.Circle.{circleOf}
 use Rattle.exact.specs.Points.{AllPlaced}
 
@@ -95,3 +96,8 @@ StaysBounded = (a b : Head) → T (inLimits a) → T (inLimits b) → Bounded a 
 abbrev pub NoPointsUnlessMet : Type 0
 NoPointsUnlessMet = (a b : Head) → T (inLimits a) → T (inLimits b) → meetsOf a b ≡ false
     → (intersectionPoints (circleOf a) (circleOf b) ≡ []) × (intersectionPoints (circleOf b) (circleOf a) ≡ [])
+
+-- "Giving heads that touch from outside an `intersection_area` above zero" is a slip: heads that touch from outside or are apart have +0.
+abbrev pub NoAreaBeyond : Type 0
+NoAreaBeyond = (a b : Head) → T (inLimits a) → T (inLimits b) → sum a b * sum a b ≤ squaredDistance a b
+    → intersectionArea (circleOf a) (circleOf b) ≡ zero64
