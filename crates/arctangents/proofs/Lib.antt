@@ -4,3 +4,4 @@ pub mod Exit
 pub mod Aimed
 pub mod Fractions
 pub mod Promise
+pub mod Inverse
