@@ -5,3 +5,4 @@ pub mod Exit
 pub mod Aimed
 pub mod Fractions
 pub mod Promise
+pub mod Inverse

@@ -12,7 +12,7 @@ use Rattle.binary64.specs.Magnitude.{Most}
 use Rattle.binary64.specs.Constants.{pi}
 use Rattle.series.specs.Fraction.{Fraction, _⊹_, exact}
 use Rattle.series.specs.Taylor.{sin40, cos40}
-use Rattle.elementary.specs.Arctangent.{atan2, acos, asin, +0}
+use Rattle.elementary.specs.Arctangent.{atan2, cofunction, acos, asin, +0}
 
 -- ---- fractions (no denominator here is 0: proofs/arctangent/Fractions.antt)
 
@@ -78,3 +78,20 @@ pub record Atan2Promise : Type 0 where
   pub right : (y x : Float) → Domain y x → mag y ≡ 0 → negative x ≡ false → atan2 y x ≡ signedZero (negative y)
   pub left : (y x : Float) → Domain y x → mag y ≡ 0 → negative x ≡ true → atan2 y x ≡ withSign y pi
   pub upright : (y x : Float) → Domain y x → mag x ≡ 0 → atan2 y x ≡ withSign y halfPi
+
+-- ---- acos and asin
+
+-- f c is atan2 of y c and x c for c from -1 to 1, and so the angle of that point; +0 outside; finite and at most PI in magnitude everywhere.
+pub record InversePromise (f y x : Float → Float) : Type 0 where
+  pub is : (c : Float) → Most 1 1074 c → f c ≡ atan2 (y c) (x c)
+  pub angle : (c : Float) → Most 1 1074 c → Angle (y c) (x c) (f c)
+  pub outside : (c : Float) → T (fits binary64 c) → (Most 1 1074 c → ⊥) → f c ≡ +0
+  pub always : (c : Float) → T (fits binary64 c) → Within (f c)
+
+-- Document 01: "`acos(c)` is atan2(root((1-c)×(1+c)), c)"
+abbrev pub AcosPromise : Type 0
+AcosPromise = InversePromise acos cofunction (λ c. c)
+
+-- "`asin(c)` is atan2(c, root((1-c)×(1+c)))"
+abbrev pub AsinPromise : Type 0
+AsinPromise = InversePromise asin (λ c. c) cofunction

@@ -51,15 +51,15 @@ unfolding ofBits
 unfolding ofBits
 -0-sign = refl
 
-1-finite : Finite 1ᶠ
+pub 1-finite : Finite 1ᶠ
 unfolding ofBits fits
 1-finite = record { fit = tt; number = tt }
 
-1-mag : mag 1ᶠ ≡ one
+pub 1-mag : mag 1ᶠ ≡ one
 unfolding ofBits mag pow2
 1-mag = refl
 
-1-sign : negative 1ᶠ ≡ false
+pub 1-sign : negative 1ᶠ ≡ false
 unfolding ofBits
 1-sign = refl
 

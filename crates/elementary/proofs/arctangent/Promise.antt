@@ -253,7 +253,7 @@ atan2-outside {y} {x} g f none = go (inDomain (magnitude x) (magnitude y)) refl
     go true t = absurd (none (domain g f t))
     go false t = refl
 
-+0-within : Within +0
+pub +0-within : Within +0
 +0-within = record { finite = +0-finite; most = le-trans (le-of-eq +0-mag) zero-le }
 
 pub atan2-within : (y x : Float) → T (fits binary64 y) → T (fits binary64 x) → Within (atan2 y x)
