@@ -74,7 +74,7 @@ book-keeps needed p (e ∷ es) =
     record { n = rest .n ∙ one .n; ground = rest .ground ∙ one .ground; room = rest .room ∙ one .room }
 
 -- a taken edit of a plan within the limits leaves a plan within the limits
-applied-acceptable : (p : Plan) (e : Edit) → length (p .heads) ≡ 10 → Acceptable p → AcceptableEdit (p .n) e → Acceptable (applied p e)
+pub applied-acceptable : (p : Plan) (e : Edit) → length (p .heads) ≡ 10 → Acceptable p → AcceptableEdit (p .n) e → Acceptable (applied p e)
 applied-acceptable p e long ok edit =
     record {
       count = ok .count;

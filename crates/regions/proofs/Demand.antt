@@ -1,15 +1,14 @@
 -- Demand 3's two halves, as specs/Demand.antt states them.
 use Prim.Native.Nat.{ℕ, zero, suc, _≤_, _<_, _^_}
-use mathlib.Core.Path.{_≡_, refl, sym, ap, ap₂, _∙_, subst}
+use mathlib.Core.Path.{_≡_, refl, sym, ap, _∙_, subst}
 use mathlib.Core.Bool.{Bool, true, false, not, cond, _&&_, _||_, true≢false, or-true, and-false}
 use mathlib.Core.List.{List, [], _∷_}
-use mathlib.Core.Logic.{_⊎_, inl, inr, ⊎-elim}
+use mathlib.Core.Logic.{_⊎_, inl, inr}
 use native.Mathlib.Omega.{arith}
-use lib.Dec.{eqb, ltb}
 use lib.Pow.{pow-pos}
-use lib.ListN.{length, getD, set, length-set}
+use lib.ListN.{length, length-set}
 use lib.Seq.{getD-set-same, getD-set-other}
-use borrow.Author.Tests.{lt-ltb, le-ltb, ne-eqb}
+use borrow.Author.Tests.{lt-ltb, le-ltb, eq-eqb, ne-eqb}
 use Rattle.heads.specs.declared.Head.{Head}
 use Rattle.heads.specs.Pair.{meetsOf}
 use Rattle.masks.specs.Mask.{inSet}
@@ -18,12 +17,11 @@ use Rattle.plan.specs.declared.Answer.the-variants.{Taken, Refused}
 use Rattle.plan.specs.declared.Edit.{Edit}
 use Rattle.plan.specs.declared.Needed.{Needed}
 use Rattle.plan.specs.declared.Plan.{Plan}
-use Rattle.plan.specs.Book.{Entry, headOf, applied, entered, book, answers}
-use Rattle.plan.specs.Checks.{planAnswer, editAnswer}
+use Rattle.plan.specs.Book.{Entry, headOf, applied, entered, book, answers, applied-acceptable}
+use Rattle.plan.specs.Checks.{editAnswer}
 use Rattle.plan.specs.Exactly.{HeadMet, Acceptable, AcceptableEdit, noHead, plan-taken, edit-taken}
 use Rattle.regions.specs.Row.{isSingle}
 use Rattle.regions.specs.Edit.{Row, absent, present, afreshRow, overlaps, meetsAny, met, reworked, editedRow}
-use Rattle.regions.specs.Run.{Step}
 use Rattle.regions.specs.Run as Run
 use Rattle.regions.specs.Table.{Method, Sheet, headAt, areaAt, afresh, metBy, edited, leaves, sheetStep, bookStep}
 use Rattle.regions.specs.Demand.{Faithful, AfreshRows, Ends, ListEndsAfresh, Reworks, EditReworksExactly, RefusedLeavesAll}
@@ -78,24 +76,6 @@ record Keeps (m : Method) (s : Sheet) (p : Plan) : Type 0 where
   ok : Acceptable p
   fresh : AfreshRows m p (s .rows)
 
--- a taken edit leaves an accepted plan
-acceptable-edited : (p : Plan) (e : Edit) → length (p .heads) ≡ 10 → Acceptable p → AcceptableEdit (p .n) e → Acceptable (applied p e)
-acceptable-edited p e ten ok oke = record {
-  count = ok .count;
-  x = ok .x;
-  y = ok .y;
-  width = ok .width;
-  height = ok .height;
-  heads = λ i hi. at i hi (native.Mathlib.Decide.ℕ-discrete i (e .head));
-}
-  where
-    small : e .head < 10
-    small = let a = ok .count in let b = oke .head in omega arith
-
-    at : (i : ℕ) → i < p .n → Dec (i ≡ e .head) → HeadMet (headAt (applied p e) i)
-    at i hi (yes q) = subst HeadMet (sym (ap (headAt (applied p e)) q ∙ head-edited p e ten small)) (oke .x, oke .y, oke .radius)
-    at i hi (no n) = subst HeadMet (head-other p e ten small i n) (ok .heads i hi)
-
 module _ (m : Method) (f : Faithful m) (needed : Needed) where
   -- one edit: the sheet answers as the book and keeps to it
   step-keeps : (s : Sheet) (p : Plan) (e : Entry) → Keeps m s p
@@ -114,7 +94,7 @@ module _ (m : Method) (f : Faithful m) (needed : Needed) where
           record {
             plan = refl;
             ten = length-set (p .heads) (e .edit .head) (headOf (e .edit)) ∙ k .ten;
-            ok = acceptable-edited p (e .edit) (k .ten) (k .ok) (parts .1);
+            ok = applied-acceptable p (e .edit) (k .ten) (k .ok) (parts .1);
             fresh = edit-afresh m f p (e .edit) (k .ten) (k .ok) (parts .1) (s .rows) (k .fresh);
           }
       go (Refused r at) q = k
@@ -180,7 +160,7 @@ module _ (m : Method) (p : Plan) (e : Edit) (rows : ℕ → Row) where
 
   by-own : (S : ℕ) → inSet S (e .head) ≡ true → reworked (2 ^ e .head) (metBy p e) (m .sets p) S ≡ true
   unfolding reworked
-  by-own S i = rw (overlap-at S (2 ^ e .head) (e .head) i (in-power (e .head) (e .head) ∙ borrow.Author.Tests.eq-eqb (e .head) (e .head) refl))
+  by-own S i = rw (overlap-at S (2 ^ e .head) (e .head) i (in-power (e .head) (e .head) ∙ eq-eqb (e .head) (e .head) refl))
 
   by-newly : (S : ℕ) → m .sets p S ≡ false → reworked (2 ^ e .head) (metBy p e) (m .sets p) S ≡ true
   unfolding reworked
@@ -220,9 +200,8 @@ module _ (m : Method) (p : Plan) (e : Edit) (rows : ℕ → Row) where
           (overlap-none S (metBy p e) (λ j i. met-at j (head-below S (p .n) j h i) (other j i) ∙ rw (c j i .0, c j i .1)))
           ∙ and-false (not (isSingle S))
 
--- demand 3, second half
-pub edit-reworks-exactly : EditReworksExactly
-edit-reworks-exactly m p e rows = record {
+edited-reworks : (m : Method) (p : Plan) (e : Edit) (rows : ℕ → Row) → Reworks m p e rows (edited m p e rows)
+edited-reworks m p e rows = record {
   ground = row-ground m p e rows;
   gone = row-gone m p e rows;
   own = λ S z h a i. row-reworked m p e rows S z h a (by-own m p e rows S i);
@@ -231,6 +210,12 @@ edit-reworks-exactly m p e rows = record {
   kept = λ S z h a b i w. row-kept m p e rows S z h a (by-none m p e rows S h b i w);
   beyond = row-beyond m p e rows;
 }
+
+-- demand 3, second half
+pub edit-reworks-exactly : EditReworksExactly
+unfolding sheetStep
+edit-reworks-exactly m needed s e q =
+    rw q (refl, edited-reworks m (s .plan) (e .edit) (s .rows))
 
 -- a refused edit leaves all
 pub refused-leaves-all : RefusedLeavesAll

@@ -1,6 +1,6 @@
 -- An edit of the afresh rows gives the afresh rows.
 use mathlib.Core.Path.{_≡_, refl, sym, ap, ap₂, _∙_}
-use mathlib.Core.Bool.{Bool, true, false, not, cond, _&&_, _||_}
+use mathlib.Core.Bool.{Bool, true, false, not, cond, _&&_, _||_, true≢false}
 use mathlib.Core.List.{List, [], _∷_}
 use mathlib.Core.Logic.{_⊎_, inl, inr}
 use Prim.Native.Nat.{ℕ, zero, suc, _<_, _^_}
@@ -17,10 +17,7 @@ use Rattle.regions.proofs.Masks.{no-overlap, own-head, head-below}
 use Rattle.regions.proofs.Kept.{members-same}
 
 or-false : (a b : Bool) → (a || b) ≡ false → (a ≡ false) × (b ≡ false)
-or-false true b e = absurd (true-false e)
-  where
-    true-false : _≡_ {A = Bool} true false → ⊥
-    true-false = mathlib.Core.Bool.true≢false
+or-false true b e = absurd (true≢false e)
 or-false false b e = (refl, e)
 
 not-false : (a : Bool) → not a ≡ false → a ≡ true
@@ -58,7 +55,7 @@ module _ (g : Geometry) (h h' : ℕ → Head) (n k : ℕ) (same : (i : ℕ) → 
       out = own-head S k (rest .0)
 
       unequal : (j : ℕ) → inSet S j ≡ true → j ≡ k → ⊥
-      unequal j i q = mathlib.Core.Bool.true≢false (sym i ∙ ap (inSet S) q ∙ out)
+      unequal j i q = true≢false (sym i ∙ ap (inSet S) q ∙ out)
 
       strict : isSingle S ≡ false → overlaps S (met (h k ∷ h' k ∷ []) h n k) ≡ false
       strict s = ap (λ b. not b && overlaps S (met (h k ∷ h' k ∷ []) h n k)) (sym s) ∙ or-false (not (before S)) _ (rest .1) .1

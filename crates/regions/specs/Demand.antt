@@ -40,42 +40,46 @@ pub record Ends (m : Method) (needed : Needed) (p : Plan) (rows : ℕ → Row) (
   pub fresh : AfreshRows m (book needed p es) (Run.after (sheetStep m needed) (record { plan = p; rows = rows }) es .rows)
 
 -- Demand 3, first half: after any list of edits, refused ones included, each with the lengths lent for it, the table equals the
--- final plan's table worked out afresh. One claim about the whole list, from any accepted plan with its afresh rows.
+-- final plan's table worked out afresh. One claim about the whole list, from any accepted plan with its afresh rows. It holds whatever
+-- rows a call needs; document 01's are `neededFor n`.
 abbrev pub ListEndsAfresh : Type 1
 ListEndsAfresh =
     (m : Method) → Faithful m → (needed : Needed) (p : Plan) → length (p .heads) ≡ 10 → planAnswer p ≡ Taken
     → (rows : ℕ → Row) → AfreshRows m p rows → (es : List Entry) → Ends m needed p rows es
 
--- Which number each row has after a taken edit of the plan p, whatever the rows handed in hold. "Still present" and "newly
--- present" compare the sets of the plans before and after.
-pub record Reworks (m : Method) (p : Plan) (e : Edit) (rows : ℕ → Row) : Type 0 where
+-- Which row each row number has after a taken edit of the plan p, from the rows handed in, whatever they hold. "Still present" and
+-- "newly present" compare the sets of the plans before and after.
+pub record Reworks (m : Method) (p : Plan) (e : Edit) (rows rows' : ℕ → Row) : Type 0 where
   -- row 0 keeps the number handed in
-  pub ground : edited m p e rows 0 ≡ present (rows 0 .number)
+  pub ground : rows' 0 ≡ present (rows 0 .number)
   -- no set after the edit: absent
-  pub gone : (S : ℕ) → 0 < S → S < 2 ^ p .n → m .sets (applied p e) S ≡ false → edited m p e rows S ≡ absent
+  pub gone : (S : ℕ) → 0 < S → S < 2 ^ p .n → m .sets (applied p e) S ≡ false → rows' S ≡ absent
   -- a set with the edited head is worked out
   pub own : (S : ℕ) → 0 < S → S < 2 ^ p .n → m .sets (applied p e) S ≡ true → inSet S (e .head) ≡ true
-      → edited m p e rows S ≡ present (areaAt m (applied p e) S)
+      → rows' S ≡ present (areaAt m (applied p e) S)
   -- A set newly present is worked out, even where the edited head meets nobody. Of heads (0,0,50), (30,0,50), (0,30,50), (0,0,1000),
   -- (0,0,2000) move the last to (9000,0): it meets none before or after, and yet the set of the first three becomes present, since
   -- their common points are then adopted by one large head and no more by two.
   pub newly : (S : ℕ) → 0 < S → S < 2 ^ p .n → m .sets (applied p e) S ≡ true → m .sets p S ≡ false
-      → edited m p e rows S ≡ present (areaAt m (applied p e) S)
+      → rows' S ≡ present (areaAt m (applied p e) S)
   -- a set of two heads or more with a head met before or after is worked out
   pub met : (S j : ℕ) → 0 < S → S < 2 ^ p .n → m .sets (applied p e) S ≡ true → isSingle S ≡ false → inSet S j ≡ true → (j ≡ e .head → ⊥)
       → (meetsOf (headAt p (e .head)) (headAt p j) ≡ true) ⊎ (meetsOf (headOf e) (headAt p j) ≡ true)
-      → edited m p e rows S ≡ present (areaAt m (applied p e) S)
+      → rows' S ≡ present (areaAt m (applied p e) S)
   -- any other set still present keeps the number handed in, even a false one
   pub kept : (S : ℕ) → 0 < S → S < 2 ^ p .n → m .sets (applied p e) S ≡ true → m .sets p S ≡ true → inSet S (e .head) ≡ false
       → (isSingle S ≡ true) ⊎ ((j : ℕ) → inSet S j ≡ true
       → (meetsOf (headAt p (e .head)) (headAt p j) ≡ false) × (meetsOf (headOf e) (headAt p j) ≡ false))
-      → edited m p e rows S ≡ present (rows S .number)
+      → rows' S ≡ present (rows S .number)
   -- rows beyond 2^n - 1 stay
-  pub beyond : (S : ℕ) → 2 ^ p .n ≤ S → edited m p e rows S ≡ rows S
+  pub beyond : (S : ℕ) → 2 ^ p .n ≤ S → rows' S ≡ rows S
 
--- Demand 3, second half: each edit reworks exactly the rows it must and keeps every other number it was handed.
+-- Demand 3, second half: each taken edit leaves the plan with its head changed, reworks exactly the rows it must and keeps every other
+-- number it was handed. It is about the same step as the first half, at any sheet.
 abbrev pub EditReworksExactly : Type 1
-EditReworksExactly = (m : Method) (p : Plan) (e : Edit) (rows : ℕ → Row) → Reworks m p e rows
+EditReworksExactly =
+    (m : Method) (needed : Needed) (s : Sheet) (e : Entry) → sheetStep m needed s e .answer ≡ Taken
+    → (sheetStep m needed s e .left .plan ≡ applied (s .plan) (e .edit)) × Reworks m (s .plan) (e .edit) (s .rows) (sheetStep m needed s e .left .rows)
 
 -- A refused edit leaves plan and table as they were.
 abbrev pub RefusedLeavesAll : Type 1
