@@ -1,0 +1,3 @@
+// Stand-in for the elementary functions: known by name only.
+pub mod arctangent;
+pub mod sine;

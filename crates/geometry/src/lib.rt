@@ -1,0 +1,3 @@
+// Stand-in: the types alone, until the crate arrives.
+pub mod circle;
+pub mod point;
