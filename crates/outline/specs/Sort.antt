@@ -1,0 +1,20 @@
+-- The stable sort of angles: each is put in before the first that is greater.
+use mathlib.Core.Bool.{cond}
+use mathlib.Core.List.{List, [], _∷_}
+use lib.Ieee.{Float}
+use Rattle.outline.specs.Numbers.{_<ᶠ_}
+
+-- x before the first that is greater than x
+unfoldable pub insert : Float → List Float → List Float
+insert x [] = x ∷ []
+insert x (y ∷ ys) = cond (x <ᶠ y) (x ∷ y ∷ ys) (y ∷ insert x ys)
+
+-- one after another of the list, put into those before it
+unfoldable pub sortOnto : List Float → List Float → List Float
+unfolding insert
+sortOnto done [] = done
+sortOnto done (x ∷ xs) = sortOnto (insert x done) xs
+
+unfoldable pub sorted : List Float → List Float
+unfolding sortOnto
+sorted l = sortOnto [] l
