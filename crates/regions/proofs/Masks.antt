@@ -1,23 +1,50 @@
--- placeholder
-use mathlib.Core.Path.{_≡_}
-use mathlib.Core.Bool.{Bool, true, false, _&&_}
-use Prim.Native.Nat.{ℕ, _<_, _^_}
-use lib.Dec.{ltb}
-use Rattle.regions.specs.Row.{bit, maskOf, subset}
+-- What the row theorem asks of masks: laws of `masks` at the sets of specs/Row.antt and specs/Edit.antt.
+use mathlib.Core.Path.{_≡_, refl, sym, ap, ap₂, _∙_}
+use mathlib.Core.Bool.{Bool, true, false, not, _&&_, _||_, true≢false}
+use Prim.Native.Nat.{ℕ, zero, suc, _≤_, _<_, _^_}
+use native.Mathlib.Omega.{arith}
+use lib.Bits.{bitAnd}
+use lib.Dec.{eqb, ltb}
+use borrow.Author.Tests.{eqb-true, eq-eqb, ltb-true, ltb-false}
+use Rattle.masks.specs.Mask.{inSet, gather, every, subset}
+use Rattle.masks.specs.Operations.{in-and, in-power, in-of-zero, bit-of-zero, in-beyond}
+use Rattle.masks.specs.Gather.{in-gather}
 use Rattle.regions.specs.Edit.{overlaps}
 
--- whether S lies in a mask that is made by a test looks at the heads of S alone
-pub subset-alike : (S : ℕ) (p p' : ℕ → Bool) (n : ℕ) → ((l : ℕ) → bit S l ≡ true → p l ≡ p' l) → subset S (maskOf p n) ≡ subset S (maskOf p' n)
-subset-alike S p p' n e = ?
+every-cong : (n : ℕ) (p p' : ℕ → Bool) → ((l : ℕ) → l < n → p l ≡ p' l) → every n p ≡ every n p'
+unfolding every
+every-cong zero p p' e = refl
+every-cong (suc n) p p' e = ap₂ _&&_ (every-cong n p p' (λ l h. e l (omega arith))) (e n (omega arith))
 
-pub bit-maskOf : (p : ℕ → Bool) (n l : ℕ) → bit (maskOf p n) l ≡ (ltb l n && p l)
-bit-maskOf p n l = ?
+-- whether S lies in a mask that is gathered by a test looks at the heads of S alone
+pub subset-alike : (n S : ℕ) (p p' : ℕ → Bool) → ((l : ℕ) → inSet S l ≡ true → p l ≡ p' l) → subset n S (gather n p) ≡ subset n S (gather n p')
+subset-alike n S p p' e = every-cong n _ _ (λ l h. at l h (inSet S l) refl)
+  where
+    at : (l : ℕ) → l < n → (b : Bool) → inSet S l ≡ b → (not b || inSet (gather n p) l) ≡ (not b || inSet (gather n p') l)
+    at l h true i = in-gather n p l h ∙ e l i ∙ sym (in-gather n p' l h)
+    at l h false i = refl
 
-pub no-overlap : (S U l : ℕ) → overlaps S U ≡ false → bit S l ≡ true → bit U l ≡ false
-no-overlap S U l e i = ?
+-- a head of S is not in a set that S does not overlap
+pub no-overlap : (S U l : ℕ) → overlaps S U ≡ false → inSet S l ≡ true → inSet U l ≡ false
+no-overlap S U l e i =
+    ap (λ b. b && inSet U l) (sym i) ∙ sym (in-and S U l) ∙ ap (λ m. inSet m l) (empty (eqb (bitAnd S U) 0) refl e) ∙ in-of-zero 0 l (bit-of-zero l)
+  where
+    empty : (b : Bool) → eqb (bitAnd S U) 0 ≡ b → not b ≡ false → bitAnd S U ≡ 0
+    empty true f g = eqb-true (bitAnd S U) 0 f
+    empty false f g = absurd (true≢false g)
 
-pub own-bit : (S k : ℕ) → overlaps S (2 ^ k) ≡ false → bit S k ≡ false
-own-bit S k e = ?
+-- a set that does not overlap the single of head k does not have it
+pub own-head : (S k : ℕ) → overlaps S (2 ^ k) ≡ false → inSet S k ≡ false
+own-head S k e = at (inSet S k) refl
+  where
+    at : (b : Bool) → inSet S k ≡ b → b ≡ false
+    at true i = absurd (true≢false (sym (eq-eqb k k refl) ∙ sym (in-power k k) ∙ no-overlap S (2 ^ k) k e i))
+    at false i = refl
 
-pub bit-below : (S n l : ℕ) → S < 2 ^ n → bit S l ≡ true → l < n
-bit-below S n l h i = ?
+-- the heads of a mask below 2 ^ n are below n
+pub head-below : (S n l : ℕ) → S < 2 ^ n → inSet S l ≡ true → l < n
+head-below S n l h i = at (ltb l n) refl
+  where
+    at : (b : Bool) → ltb l n ≡ b → l < n
+    at true e = ltb-true l n e
+    at false e = absurd (true≢false (sym i ∙ in-beyond n S l h (ltb-false l n e)))

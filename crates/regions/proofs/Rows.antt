@@ -4,14 +4,16 @@ use mathlib.Core.Bool.{Bool, true, false, not, cond, _&&_, _||_}
 use mathlib.Core.List.{List, [], _∷_}
 use mathlib.Core.Logic.{_⊎_, inl, inr}
 use Prim.Native.Nat.{ℕ, zero, suc, _<_, _^_}
-use lib.Dec.{eqb, ltb}
+use lib.Dec.{eqb}
 use lib.Ieee.{Float}
-use borrow.Author.Tests.{ne-eqb, lt-ltb}
+use borrow.Author.Tests.{ne-eqb}
 use Rattle.heads.specs.declared.Head.{Head}
 use Rattle.heads.specs.Pair.{meetsOf}
-use Rattle.regions.specs.Row.{Geometry, bit, maskOf, isSingle, members, rowArea}
+use Rattle.masks.specs.Mask.{inSet}
+use Rattle.masks.specs.Gather.{in-gather}
+use Rattle.regions.specs.Row.{Geometry, isSingle, members, rowArea}
 use Rattle.regions.specs.Edit.{Row, absent, present, afreshRow, overlaps, meetsAny, met, reworked, editedRow}
-use Rattle.regions.proofs.Masks.{bit-maskOf, no-overlap, own-bit, bit-below}
+use Rattle.regions.proofs.Masks.{no-overlap, own-head, head-below}
 use Rattle.regions.proofs.Kept.{members-same}
 
 or-false : (a b : Bool) → (a || b) ≡ false → (a ≡ false) × (b ≡ false)
@@ -28,13 +30,13 @@ not-false false e = sym e
 module _ (g : Geometry) (h h' : ℕ → Head) (n k : ℕ) (same : (i : ℕ) → (i ≡ k → ⊥) → h i ≡ h' i)
     (apart : (j : ℕ) → j < n → (v : Head) → (v ≡ h k) ⊎ (v ≡ h' k) → meetsOf v (h j) ≡ false → (g .meeting v (h j) ≡ []) × (g .meeting (h j) v ≡ [])) where
   -- a head that is not met, before or after, has no meeting point with the edited head
-  unmet : (j : ℕ) → (j ≡ k → ⊥) → j < n → bit (met (h k ∷ h' k ∷ []) h n k) j ≡ false
+  unmet : (j : ℕ) → (j ≡ k → ⊥) → j < n → inSet (met (h k ∷ h' k ∷ []) h n k) j ≡ false
       → (f : ℕ → Head) → (f ≡ h) ⊎ (f ≡ h') → (g .meeting (f j) (f k) ≡ []) × (g .meeting (f k) (f j) ≡ [])
   unfolding met meetsAny
   unmet j nk hj e = either
     where
       tests : (meetsOf (h k) (h j) ≡ false) × ((meetsOf (h' k) (h j) || false) ≡ false)
-      tests = or-false _ _ (rw (bit-maskOf, lt-ltb j n hj, ne-eqb j k nk) at e)
+      tests = or-false _ _ (rw (in-gather n (λ i. not (eqb i k) && meetsAny (h k ∷ h' k ∷ []) (h i)) j hj, ne-eqb j k nk) at e)
 
       either : (f : ℕ → Head) → (f ≡ h) ⊎ (f ≡ h') → (g .meeting (f j) (f k) ≡ []) × (g .meeting (f k) (f j) ≡ [])
       either f (inl e₁) = rw e₁ (apart j hj (h k) (inl refl) (tests .0) .1, apart j hj (h k) (inl refl) (tests .0) .0)
@@ -52,17 +54,17 @@ module _ (g : Geometry) (h h' : ℕ → Head) (n k : ℕ) (same : (i : ℕ) → 
       rest : (overlaps S (2 ^ k) ≡ false) × ((not (before S) || (not (isSingle S) && overlaps S (met (h k ∷ h' k ∷ []) h n k))) ≡ false)
       rest = or-false _ _ e
 
-      out : bit S k ≡ false
-      out = own-bit S k (rest .0)
+      out : inSet S k ≡ false
+      out = own-head S k (rest .0)
 
-      unequal : (j : ℕ) → bit S j ≡ true → j ≡ k → ⊥
-      unequal j i q = mathlib.Core.Bool.true≢false (sym i ∙ ap (bit S) q ∙ out)
+      unequal : (j : ℕ) → inSet S j ≡ true → j ≡ k → ⊥
+      unequal j i q = mathlib.Core.Bool.true≢false (sym i ∙ ap (inSet S) q ∙ out)
 
       strict : isSingle S ≡ false → overlaps S (met (h k ∷ h' k ∷ []) h n k) ≡ false
       strict s = ap (λ b. not b && overlaps S (met (h k ∷ h' k ∷ []) h n k)) (sym s) ∙ or-false (not (before S)) _ (rest .1) .1
 
-      clear : isSingle S ≡ false → (j : ℕ) → bit S j ≡ true → (f : ℕ → Head) → (f ≡ h) ⊎ (f ≡ h') → (g .meeting (f j) (f k) ≡ []) × (g .meeting (f k) (f j) ≡ [])
-      clear s j i = unmet j (unequal j i) (bit-below S n j hS i) (no-overlap S (met (h k ∷ h' k ∷ []) h n k) j (strict s) i)
+      clear : isSingle S ≡ false → (j : ℕ) → inSet S j ≡ true → (f : ℕ → Head) → (f ≡ h) ⊎ (f ≡ h') → (g .meeting (f j) (f k) ≡ []) × (g .meeting (f k) (f j) ≡ [])
+      clear s j i = unmet j (unequal j i) (head-below S n j hS i) (no-overlap S (met (h k ∷ h' k ∷ []) h n k) j (strict s) i)
 
   -- the edited row of the afresh rows is the afresh row
   pub edited-afresh : (box : Float) (before after : ℕ → Bool) (rows : ℕ → Row) (S : ℕ) → S < 2 ^ n

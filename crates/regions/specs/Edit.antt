@@ -9,7 +9,8 @@ use lib.IntN.{pos}
 use lib.Ieee.{Float, fin}
 use Rattle.heads.specs.declared.Head.{Head}
 use Rattle.heads.specs.Pair.{meetsOf}
-use Rattle.regions.specs.Row.{Geometry, maskOf, isSingle, rowArea}
+use Rattle.masks.specs.Mask.{gather}
+use Rattle.regions.specs.Row.{isSingle}
 
 -- A row of the table: its presence byte and its number.
 pub record Row : Type 0 where
@@ -42,7 +43,7 @@ meetsAny (v ∷ vs) b = meetsOf v b || meetsAny vs b
 -- head k are a list: the old and the new ones for a move, one of the two where there is no before or no after.
 unfoldable pub met : List Head → (ℕ → Head) → ℕ → ℕ → ℕ
 unfolding meetsAny
-met values h n k = maskOf (λ j. not (eqb j k) && meetsAny values (h j)) n
+met values h n k = gather n (λ j. not (eqb j k) && meetsAny values (h j))
 
 -- Which sets after an edit have their row worked out: those that have the edited head (its own bit), those that were no
 -- set before ("newly present"), and those of two heads or more that have a head met before or after. A single is

@@ -4,10 +4,10 @@ use Prim.Native.Nat.{ℕ, zero, suc, _+_, _-_, _*_, _/_, _%_, _^_}
 use mathlib.Core.Bool.{Bool, true, false, _&&_, _||_, cond}
 use mathlib.Core.List.{List, [], _∷_, _++_, map}
 use lib.Dec.{eqb}
-use lib.Bits.{bitAnd, bitOr}
 use lib.Count.{ones}
 use lib.Ieee.{Float}
 use Rattle.heads.specs.declared.Head.{Head}
+use Rattle.masks.specs.Mask.{inSet, gather, subset}
 
 -- A head of a set, with the coordinates of the meeting points counted for the set at that head. It has no head number.
 pub record Member (Point : Type 0) : Type 0 where
@@ -35,19 +35,6 @@ unfoldable pub keep : {A : Type 0} → (A → Bool) → List A → List A
 keep p [] = []
 keep p (x ∷ xs) = cond (p x) (x ∷ keep p xs) (keep p xs)
 
--- "A mask has bit i set if head i is in the set."
-abbrev pub bit : ℕ → ℕ → Bool
-bit S i = eqb (S / 2 ^ i % 2) 1
-
--- the mask of the numbers below m that pass
-unfoldable pub maskOf : (ℕ → Bool) → ℕ → ℕ
-maskOf p zero = 0
-maskOf p (suc m) = cond (p m) (bitOr (maskOf p m) (2 ^ m)) (maskOf p m)
-
--- every head of S is in U
-abbrev pub subset : ℕ → ℕ → Bool
-subset S U = eqb (bitAnd S U) S
-
 -- A meeting point: coordinates, the numbers of its two parents, and its adopters (a mask).
 pub record IntersectionPoint (Point : Type 0) : Type 0 where
   pub point : Point
@@ -61,7 +48,7 @@ adopts? g h i j p l = eqb l i || (eqb l j || g .adopts (h i) (h j) (h l) p)
 
 -- the point p of heads i and j, with its adopters among n heads
 abbrev pub intersectionPoint : (g : Geometry) → (ℕ → Head) → ℕ → ℕ → ℕ → g .Point → IntersectionPoint (g .Point)
-intersectionPoint g h n i j p = record { point = p; first = i; second = j; adopters = maskOf (adopts? g h i j p) n }
+intersectionPoint g h n i j p = record { point = p; first = i; second = j; adopters = gather n (adopts? g h i j p) }
 
 -- the meeting points of heads i and j, among n heads
 unfoldable pub pairPoints : (g : Geometry) → (ℕ → Head) → ℕ → ℕ → ℕ → List (IntersectionPoint (g .Point))
@@ -73,13 +60,13 @@ unfolding upTo pairPoints
 intersections g h n = upTo (λ i. upTo (λ d. pairPoints g h n i (i + 1 + d)) (n - (i + 1))) n
 
 -- a meeting point is counted for the set S at head j: its parents include j, its adopters include S
-unfoldable pub countedFor : {P : Type 0} → ℕ → ℕ → IntersectionPoint P → Bool
-countedFor S j q = (eqb (q .first) j || eqb (q .second) j) && subset S (q .adopters)
+unfoldable pub countedFor : {P : Type 0} → ℕ → ℕ → ℕ → IntersectionPoint P → Bool
+countedFor n S j q = (eqb (q .first) j || eqb (q .second) j) && subset n S (q .adopters)
 
 -- the coordinates of the points counted for S at head j
 unfoldable pub counted : (g : Geometry) → (ℕ → Head) → ℕ → ℕ → ℕ → List (g .Point)
 unfolding keep countedFor intersections
-counted g h n S j = map (λ q. q .point) (keep (countedFor S j) (intersections g h n))
+counted g h n S j = map (λ q. q .point) (keep (countedFor n S j) (intersections g h n))
 
 -- S is the set of one head
 abbrev pub isSingle : ℕ → Bool
@@ -91,7 +78,7 @@ member g h n S j = record { head = h j; points = cond (isSingle S) [] (counted g
 
 -- the members of S among n heads, in order
 unfoldable pub members : (g : Geometry) → (ℕ → Head) → ℕ → ℕ → List (Member (g .Point))
-members g h n S = upTo (λ j. cond (bit S j) (member g h n S j ∷ []) []) n
+members g h n S = upTo (λ j. cond (inSet S j) (member g h n S j ∷ []) []) n
 
 -- the area of row S
 unfoldable pub rowArea : (g : Geometry) → (ℕ → Head) → ℕ → ℕ → Float

@@ -1,0 +1,15 @@
+-- `heads::side_in_limits` meets its contract: what `lies_within` ensures.
+use mathlib.Core.Path.{_∙_}
+use mir.Facts.{toZ-ofZ}
+use borrow.Author.Needs.{needs}
+use Rattle.heads.proofs.side_in_limits.Statement.{statement}
+use Rattle.heads.proofs.side_in_limits.Tie as tie
+
+lies-within-requires : tie.Need-lies-within-requires
+lies-within-requires c κs = search needs
+
+returns : tie.Need-returns
+returns c = c .lies-within .ensures ∙ simp (toZ-ofZ (c .before .fits .v))
+
+pub side-in-limits-spec : {M : Type 1} → statement M
+side-in-limits-spec = tie.close (tie.spec lies-within-requires returns)
