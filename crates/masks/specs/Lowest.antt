@@ -7,7 +7,7 @@ use mathlib.Core.Logic.{_⊎_, ⊎-elim}
 use lib.Count.{ones, trailingZeros, under, trailing-of-zero, trailing-le}
 use lib.Dec.{eqb, ltb}
 use borrow.Author.Tests.{ltb-true, ltb-false, eqb-true, eqb-false}
-use Rattle.masks.specs.declared.Lowest.the-variants.{Head, Nobody}
+use Rattle.masks.specs.declared.LowestHead.the-variants.{Head, Nobody}
 use Rattle.masks.specs.Mask.{bit, inSet, Subset, lowestOf, orElse, shifted}
 use Rattle.masks.specs.Operations.{bit-zero, bit-suc, bit-le, bit-of-zero, bit-power, bit-power-other, bit-beyond, shifted-is, lt-or-eq, in-of-one, in-of-zero}
 use Rattle.masks.specs.Size.{ones-of-zero, ones-power, ones-subset-eq}

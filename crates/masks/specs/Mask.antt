@@ -3,8 +3,8 @@
 use Prim.Native.Nat.{ℕ, zero, suc, _+_, _-_, _*_, _/_, _%_, _^_, _≤_}
 use mathlib.Core.Bool.{Bool, true, false, not, cond, _&&_, _||_}
 use lib.Dec.{eqb, ltb}
-use Rattle.masks.specs.declared.Lowest.{Lowest}
-use Rattle.masks.specs.declared.Lowest.the-variants.{Head, Nobody}
+use Rattle.masks.specs.declared.LowestHead.{LowestHead}
+use Rattle.masks.specs.declared.LowestHead.the-variants.{Head, Nobody}
 
 -- bit i of the mask S, 0 or 1
 unfoldable pub bit : ℕ → ℕ → ℕ
@@ -35,12 +35,12 @@ size zero S = 0
 size (suc w) S = size w S + bit S w
 
 -- what stands at i, or else the head k if b holds
-abbrev pub orElse : Lowest → Bool → ℕ → Lowest
+abbrev pub orElse : LowestHead → Bool → ℕ → LowestHead
 orElse (Head i) b k = Head i
 orElse Nobody b k = cond b (Head k) Nobody
 
 -- the lowest head below w in S
-unfoldable pub lowestOf : ℕ → ℕ → Lowest
+unfoldable pub lowestOf : ℕ → ℕ → LowestHead
 lowestOf zero S = Nobody
 lowestOf (suc w) S = orElse (lowestOf w S) (inSet S w) w
 
@@ -71,6 +71,10 @@ withoutHead w S i = gather w (λ j. inSet S j && not (eqb j i))
 -- every head of S below w is in T
 abbrev pub subset : ℕ → ℕ → ℕ → Bool
 subset w S T = every w (λ j. not (inSet S j) || inSet T j)
+
+-- every head of S below w is in T, and they are not the same set
+abbrev pub strictSubset : ℕ → ℕ → ℕ → Bool
+strictSubset w S T = subset w S T && not (eqb S T)
 
 -- ---- the terms that stand for what code writes at width w
 
