@@ -1,0 +1,3 @@
+pub mod Units
+pub mod Rounding
+pub mod Magnitude
