@@ -1,5 +1,6 @@
 pub mod Numbers
-pub mod Lists
 pub mod Sort
 pub mod Outline
 pub mod Area
+pub mod Set
+pub mod Lists

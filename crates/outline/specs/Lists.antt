@@ -1,14 +1,30 @@
--- Lists as loops make them.
-use Prim.Native.Nat.{ℕ, zero, suc}
-use mathlib.Core.Bool.{Bool, cond}
-use mathlib.Core.List.{List, [], _∷_, _++_}
+-- What a struct of a count and an array stands for: the first so many of the array.
+use Prim.Native.Nat.{ℕ}
+use mathlib.Core.List.{List, [], _∷_}
+use lib.ListN.{take}
+use lib.Ieee.{Float}
+use Rattle.geometry.specs.declared.circle.Circle.{Circle}
+use Rattle.outline.specs.declared.sort.Angles.{Angles}
+use Rattle.outline.specs.declared.points.IntersectionPoint.{IntersectionPoint}
+use Rattle.outline.specs.declared.points.Intersections.{Intersections}
+use Rattle.outline.specs.declared.members.Members.{Members}
+use Rattle.outline.specs.declared.arcs.BoundaryArc.{BoundaryArc}
+use Rattle.outline.specs.declared.arcs.Candidate.{Candidate}
+use Rattle.outline.specs.declared.arcs.Candidate.the-variants.{Arc, Nothing}
 
--- f 0 ++ f 1 ++ .. ++ f (m - 1): a loop that appends
-unfoldable pub upTo : {A : Type 0} → (ℕ → List A) → ℕ → List A
-upTo f zero = []
-upTo f (suc m) = upTo f m ++ f m
+abbrev pub angleList : Angles → List Float
+angleList a = take (a .n) (a .phi)
 
--- the elements that pass
-unfoldable pub keep : {A : Type 0} → (A → Bool) → List A → List A
-keep p [] = []
-keep p (x ∷ xs) = cond (p x) (x ∷ keep p xs) (keep p xs)
+abbrev pub pointList : Intersections → List IntersectionPoint
+pointList l = take (l .n) (l .all)
+
+abbrev pub headList : Members → List ℕ
+headList m = take (m .n) (m .heads)
+
+abbrev pub circleList : Members → List Circle
+circleList m = take (m .n) (m .circles)
+
+-- one arc or none
+abbrev pub candidateList : Candidate → List BoundaryArc
+candidateList (Arc a) = a ∷ []
+candidateList Nothing = []

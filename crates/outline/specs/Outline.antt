@@ -12,7 +12,7 @@ use Rattle.geometry.specs.declared.point.Point.{Point}
 use Rattle.geometry.specs.declared.circle.Circle.{Circle}
 use Rattle.outline.specs.declared.arcs.BoundaryArc.{BoundaryArc}
 use Rattle.outline.specs.Numbers.{_+ᶠ_, _-ᶠ_, _*ᶠ_, _/ᶠ_, _<ᶠ_, _≤ᶠ_, zeroᶠ, halfᶠ, oneᶠ, twoᶠ, absolute, remEuclid, pi, twoPi, arcTolerance, coincidence, leastTolerance}
-use Rattle.outline.specs.Lists.{upTo}
+use Rattle.regions.specs.Row.{upTo}
 use Rattle.outline.specs.Sort.{sorted}
 
 -- A member of a set: its circle and the meeting points counted for the set there. It has no head number.

@@ -1,4 +1,5 @@
 -- The stable sort of angles: each is put in before the first that is greater.
+use Prim.Native.Nat.{ℕ, suc}
 use mathlib.Core.Bool.{cond}
 use mathlib.Core.List.{List, [], _∷_}
 use lib.Ieee.{Float}
@@ -18,3 +19,8 @@ sortOnto done (x ∷ xs) = sortOnto (insert x done) xs
 unfoldable pub sorted : List Float → List Float
 unfolding sortOnto
 sorted l = sortOnto [] l
+
+-- how many stand before the first that is greater than x
+unfoldable pub place : Float → List Float → ℕ
+place x [] = 0
+place x (y ∷ ys) = cond (x <ᶠ y) 0 (suc (place x ys))

@@ -36,3 +36,9 @@ pub fn between(position: usize, circle: Circle, phi_a: f64, delta: f64) -> Bound
         delta_phi: delta,
     }
 }
+
+// An arc, or none where the gap is collapsed or the midpoint is another member's.
+pub enum Candidate {
+    Arc(BoundaryArc),
+    Nothing,
+}
