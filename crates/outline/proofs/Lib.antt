@@ -3,3 +3,7 @@ pub mod Sign
 pub mod Sorting
 pub mod Gathering
 pub mod Counting
+pub mod Owning
+pub mod Gaps
+pub mod Summing
+pub mod Walking

@@ -9,6 +9,7 @@ use Rattle.outline.specs.declared.points.IntersectionPoint.{Intersection
 use Rattle.outline.specs.declared.points.Intersections.{Intersections}
 use Rattle.outline.specs.declared.members.Members.{Members}
 use Rattle.outline.specs.declared.arcs.BoundaryArc.{BoundaryArc}
+use Rattle.outline.specs.declared.arcs.Arcs.{Arcs}
 use Rattle.outline.specs.declared.arcs.Candidate.{Candidate}
 use Rattle.outline.specs.declared.arcs.Candidate.the-variants.{Arc, Nothing}
 
@@ -23,6 +24,9 @@ headList m = take (m .n) (m .heads)
 
 abbrev pub circleList : Members → List Circle
 circleList m = take (m .n) (m .circles)
+
+abbrev pub arcList : Arcs → List BoundaryArc
+arcList l = take (l .n) (l .all)
 
 -- one arc or none
 abbrev pub candidateList : Candidate → List BoundaryArc

@@ -51,6 +51,13 @@ unfoldable pub membersOf : List Circle → List IntersectionPoint → ℕ → Li
 unfolding headsOf memberAt
 membersOf circles points S = map (memberAt circles points S) (headsOf (length circles) S)
 
+-- the members whose numbers and circles are given one by one
+unfoldable pub membersWith : List IntersectionPoint → ℕ → List ℕ → List Circle → List Member
+unfolding pointsFor
+membersWith points S [] cs = []
+membersWith points S (j ∷ js) [] = []
+membersWith points S (j ∷ js) (c ∷ cs) = record { circle = c; points = pointsFor points S j } ∷ membersWith points S js cs
+
 -- the arc of the member at a position, as the arc of that member's head
 unfoldable pub numbered : List ℕ → BoundaryArc → BoundaryArc
 numbered heads arc =
@@ -61,7 +68,15 @@ numbered heads arc =
       «delta_phi» = arc .«delta_phi»;
     }
 
+-- what stands for an arc that a list does not have
+abbrev pub noArc : BoundaryArc
+noArc = record { circle = 0; «phi_start» = nan; «phi_end» = nan; «delta_phi» = nan }
+
+-- A list of arcs has room for 180; no plan of ten heads needs more.
+abbrev pub arcsHeld : ℕ
+arcsHeld = 180
+
 -- the arcs of the set S, in the Rust's order, each with its head's number
 unfoldable pub regionArcs : List Circle → List IntersectionPoint → ℕ → List BoundaryArc
 unfolding headsOf numbered membersOf outline
-regionArcs circles points S = map (numbered (headsOf (length circles) S)) (outline (membersOf circles points S))
+regionArcs circles points S = take arcsHeld (map (numbered (headsOf (length circles) S)) (outline (membersOf circles points S)))

@@ -42,3 +42,9 @@ pub enum Candidate {
     Arc(BoundaryArc),
     Nothing,
 }
+
+// The first n of all: ten heads have at most 180 arcs in an outline.
+pub struct Arcs {
+    pub n: usize,
+    pub all: [BoundaryArc; 180],
+}

@@ -2,6 +2,8 @@
 // part of circle.rs. Rests on the circles of `geometry` and, by name alone, on sine, cosine and atan2 of `elementary`.
 pub mod angles;
 pub mod arcs;
+pub mod area;
+pub mod candidates;
 pub mod members;
 pub mod numbers;
 pub mod ownership;

@@ -1,10 +1,12 @@
 // Which member of a set has a point of its edge: where edges coincide, the one at the lowest position.
 // Rests on `lets` and `owned` of specs/Outline.antt.
+use crate::members::Members;
 use crate::numbers::abs;
 use geometry::circle::Circle;
 use geometry::point::Point;
 ghost use mathlib.Core.Path.{_≡_};
-ghost use Rattle.outline.specs.Outline.{implicitValue, tolerance, lets};
+ghost use Rattle.outline.specs.Outline.{implicitValue, tolerance, lets, owned};
+ghost use Rattle.outline.specs.Lists.{circleList};
 
 // The distance at which two edges count as one.
 const BOUNDARY_COINCIDENCE_GEOM_TOL: f64 = 1e-7;
@@ -47,6 +49,24 @@ pub fn lets(k: usize, p: Point, l: usize, c: Circle) -> bool
     }
     if abs(v - 1.0) <= eps {
         return !(l < k);
+    }
+    true
+}
+
+// The point p of the edge of the member at k is that member's own: every member of the set lets it have p.
+pub fn owned(k: usize, p: Point, set: Members) -> bool
+    ensures { λ r. ⌜ r ≡ owned k p (circleList set) ⌝ }
+{
+    let n = set.n;
+    let mut l: usize = 0;
+    while l < 10 {
+        if n <= l {
+            return true;
+        }
+        if !lets(k, p, l, set.circles[l]) {
+            return false;
+        }
+        l += 1;
     }
     true
 }

@@ -1,0 +1,38 @@
+-- The arc of one gap, with the angles in an array; and the arcs of a member with angles.
+use mathlib.Core.Path.{_≡_, refl, sym, ap, _∙_}
+use mathlib.Core.Bool.{Bool, true, false, not, _&&_, cond}
+use mathlib.Core.List.{List, [], _∷_, _++_}
+use Prim.Native.Nat.{ℕ, zero, suc, _+_, _%_, _≤_, _<_}
+use native.Mathlib.Nat.{mod-lt}
+use native.Mathlib.Omega.{arith}
+use lib.ListN.{length, getD, take}
+use lib.Seq.{getD-take, length-take-le}
+use lib.Ieee.{Float, nan}
+use Rattle.regions.specs.Row.{upTo}
+use Rattle.geometry.specs.declared.circle.Circle.{Circle}
+use Rattle.outline.specs.declared.arcs.BoundaryArc.{BoundaryArc}
+use Rattle.outline.specs.Numbers.{_+ᶠ_, _*ᶠ_, halfᶠ}
+use Rattle.outline.specs.Outline.{owned, gap, collapsed, pointAt, between, arcFrom, arcsAt}
+
+-- the next index round a list of n is below n
+pub next-below : (i n : ℕ) → i < n → (i + 1) % n < n
+next-below i n h = mod-lt (i + 1) {m = n} (omega arith)
+
+-- the gap after angle i, the angle over it, and whether there is an arc
+module _ (cs : List Circle) (k : ℕ) (c : Circle) (phi : List Float) (n i : ℕ) (below : i < n) (fits : n ≤ length phi) where
+  pub gap-arc :
+      arcFrom cs k c (take n phi) i
+      ≡ cond
+      (not (collapsed (gap (getD phi i nan) (getD phi ((i + 1) % n) nan)))
+      && owned k (pointAt c (getD phi i nan +ᶠ gap (getD phi i nan) (getD phi ((i + 1) % n) nan) *ᶠ halfᶠ)) cs)
+      (between k c (getD phi i nan) (gap (getD phi i nan) (getD phi ((i + 1) % n) nan)) ∷ [])
+      []
+  unfolding arcFrom
+  gap-arc = rw (length-take-le n phi fits, getD-take n phi i nan below, getD-take n phi ((i + 1) % n) nan (next-below i n below))
+
+-- a member with angles has the arcs of its gaps
+pub arcs-of-gaps : (cs : List Circle) (k : ℕ) (c : Circle) (phis : List Float) → 0 < length phis
+    → arcsAt cs k c phis ≡ upTo (arcFrom cs k c phis) (length phis)
+unfolding arcsAt
+arcs-of-gaps cs k c [] h = absurd (omega arith)
+arcs-of-gaps cs k c (phi ∷ phis) h = refl
