@@ -6,8 +6,8 @@ use Prim.Native.Nat.{ℕ, zero, suc, _+_, _≤_, _<_, zero-le, suc-le-suc}
 use native.Mathlib.Nat.{le-trans, le-of-lt}
 use native.Mathlib.Numerals.{add-one}
 use native.Mathlib.Omega.{arith}
-use lib.ListN.{length, getD, take, drop, set}
-use lib.Seq.{slice, slice-cons, slice-empty, take-take, take-suc-set, take-set-lt, drop-set-lt, length-take-le, append-snoc}
+use lib.ListN.{length, getD, take, drop, set, drop-of-length-le}
+use lib.Seq.{drop-cons, slice, slice-cons, slice-empty, take-take, take-suc-set, take-set-lt, drop-set-lt, length-take-le, append-snoc}
 use lib.Ieee.{Float, nan, lt}
 use Rattle.outline.specs.Sort.{insert, place}
 
@@ -31,15 +31,20 @@ place-le x (y ∷ ys) = by (lt x y) refl (place-le x ys)
     by true e h = rw e zero-le
     by false e h = rw e (suc-le-suc h)
 
-module _ (x : Float) (phi : List Float) (n i : ℕ) (below : i < n) (fits : n ≤ length phi) where
+module _ (x : Float) (l : List Float) (i : ℕ) (below : i < length l) where
   -- the search stops at a greater angle, and goes on past any other
-  pub place-here : lt x (getD phi i nan) ≡ true → place x (slice i n phi) ≡ 0
+  pub place-here : lt x (getD l i nan) ≡ true → place x (drop i l) ≡ 0
   unfolding place
-  place-here e = rw (slice-cons i n phi nan below fits, e)
+  place-here e = rw (drop-cons l i nan below, e)
 
-  pub place-on : lt x (getD phi i nan) ≡ false → place x (slice i n phi) ≡ suc (place x (slice (suc i) n phi))
+  pub place-on : lt x (getD l i nan) ≡ false → place x (drop i l) ≡ suc (place x (drop (suc i) l))
   unfolding place
-  place-on e = rw (slice-cons i n phi nan below fits, e)
+  place-on e = rw (drop-cons l i nan below, e)
+
+-- past the last
+pub place-end : (x : Float) (l : List Float) (i : ℕ) → length l ≤ i → place x (drop i l) ≡ 0
+unfolding place
+place-end x l i h = rw (drop-of-length-le l h)
 
 -- An angle is carried up the array: what stands below i, the angle in hand, and the rest up to n are the list with it.
 pub carried-start : (x : Float) (phi : List Float) (n : ℕ) → n ≤ length phi

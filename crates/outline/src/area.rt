@@ -11,11 +11,11 @@ use crate::members::angles_for;
 use crate::members::members_of;
 use crate::points::Intersections;
 use crate::sort::Angles;
+use crate::sort::count;
 use elementary::sine::cos;
 use elementary::sine::sin;
 use geometry::circle::Circle;
 ghost use mathlib.Core.Path.{_≡_};
-ghost use Prim.Native.Nat.{_<_, _≤_};
 ghost use lib.ListN.{take};
 ghost use Rattle.outline.specs.Outline.{arcsAt, outlineFrom};
 ghost use Rattle.outline.specs.Numbers.{zeroᶠ};
@@ -78,10 +78,9 @@ fn add_candidate(total: f64, candidate: Candidate, set: Members) -> f64
 
 // The arcs of the member at k, added to a sum.
 fn add_member(total: f64, k: usize, circle: Circle, angles: Angles, set: Members) -> f64
-    requires { ⌜ angles .n ≤ 32 ⌝ }
     ensures { λ r. ⌜ r ≡ addArcs (circleList set) total (arcsAt (circleList set) k circle (angleList angles)) ⌝ }
 {
-    let n = angles.n;
+    let n = count(angles);
     if n == 0 {
         return add_candidate(total, whole_circle(k, circle, set), set);
     }

@@ -9,10 +9,13 @@ use crate::arcs::full_circle;
 use crate::members::Members;
 use crate::ownership::owned;
 use crate::sort::Angles;
+use crate::sort::count;
 use geometry::circle::Circle;
 ghost use mathlib.Core.Path.{_≡_};
 ghost use mathlib.Core.List.{[]};
-ghost use Prim.Native.Nat.{_<_, _≤_};
+ghost use mathlib.Core.Bool.{cond};
+ghost use lib.Dec.{ltb};
+ghost use lib.ListN.{length};
 ghost use Rattle.outline.specs.Outline.{arcFrom, arcsAt};
 ghost use Rattle.outline.specs.Lists.{angleList, circleList, candidateList};
 
@@ -27,18 +30,14 @@ pub fn whole_circle(k: usize, circle: Circle, set: Members) -> Candidate
     }
 }
 
-// From the i-th angle to the next, round the circle.
-pub(crate) fn arc_from(
-    k: usize,
-    circle: Circle,
-    angles: Angles,
-    i: usize,
-    set: Members,
-) -> Candidate
-    requires { ⌜ (i < angles .n) × (angles .n ≤ 32) ⌝ }
-    ensures { λ r. ⌜ candidateList r ≡ arcFrom (circleList set) k circle (angleList angles) i ⌝ }
+// From the i-th angle to the next, round the circle; nothing where there is no such angle.
+pub fn arc_from(k: usize, circle: Circle, angles: Angles, i: usize, set: Members) -> Candidate
+    ensures { λ r. ⌜ candidateList r ≡ cond (ltb i (length (angleList angles))) (arcFrom (circleList set) k circle (angleList angles) i) [] ⌝ }
 {
-    let n = angles.n;
+    let n = count(angles);
+    if n <= i {
+        return Candidate::Nothing;
+    }
     let next = (i + 1) % n;
     let phi_a = angles.phi[i];
     let phi_b = angles.phi[next];

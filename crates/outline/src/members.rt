@@ -8,7 +8,6 @@ use crate::sort::no_angles;
 use geometry::circle::Circle;
 ghost use mathlib.Core.Path.{_≡_};
 ghost use mathlib.Core.List.{map};
-ghost use Prim.Native.Nat.{_≤_};
 ghost use lib.ListN.{take, length};
 ghost use Rattle.outline.specs.Set.{headsOf, countedFor, pointsFor, circleAt};
 ghost use Rattle.outline.specs.Outline.{angleAbout};

@@ -3,7 +3,8 @@ ghost use mathlib.Core.Path.{_≡_};
 ghost use mathlib.Core.Bool.{cond};
 ghost use Prim.Native.Nat.{_+_, _≤_};
 ghost use lib.Dec.{ltb};
-ghost use lib.ListN.{take};
+ghost use mathlib.Core.List.{[]};
+ghost use lib.ListN.{take, length};
 ghost use Rattle.outline.specs.Sort.{insert, place};
 ghost use Rattle.outline.specs.Lists.{angleList};
 
@@ -15,18 +16,24 @@ pub struct Angles {
 
 // A list with no angle.
 pub fn no_angles() -> Angles
-    ensures { λ r. ⌜ r .n ≡ 0 ⌝ }
+    ensures { λ r. ⌜ (r .n ≡ 0) × (angleList r ≡ []) ⌝ }
 {
     let phi = [0.0f64; 32];
     Angles { n: 0, phi: phi }
 }
 
+// How many angles the list has.
+pub fn count(list: Angles) -> usize
+    ensures { λ r. ⌜ r ≡ length (angleList list) ⌝ }
+{
+    if list.n < 32 { list.n } else { 32 }
+}
+
 // How many angles stand before the first that is greater than x.
-pub(crate) fn place(list: Angles, x: f64) -> usize
-    requires { ⌜ list .n ≤ 32 ⌝ }
+pub fn place(list: Angles, x: f64) -> usize
     ensures { λ r. ⌜ r ≡ place x (angleList list) ⌝ }
 {
-    let n = list.n;
+    let n = count(list);
     let mut i: usize = 0;
     while i < n {
         if x < list.phi[i] {

@@ -3,22 +3,25 @@ use borrow.Author.Needs.{needs}
 use mathlib.Core.Path.{_≡_, refl, sym, _∙_, ap}
 use Prim.Native.Nat.{_+_, _-_, _≤_, _<_}
 use native.Mathlib.Omega.{arith}
+use borrow.Author.Tests.{lt-ltb}
 use lib.ListN.{length}
-use lib.Seq.{length-take-le}
 use Rattle.regions.specs.Row.{upTo}
 use Rattle.outline.specs.Outline.{arcFrom, arcsAt}
 use Rattle.outline.specs.Area.{addArcs}
 use Rattle.outline.specs.Lists.{angleList, circleList}
-use Rattle.outline.proofs.Gaps.{arcs-of-gaps}
+use Rattle.outline.proofs.Gaps.{none-of-length, arcs-of-gaps}
 use Rattle.outline.proofs.Summing.{addArcs-upTo}
 use Rattle.outline.proofs.area.add_member.Statement.{statement}
 use Rattle.outline.proofs.area.add_member.Tie as tie
 
 abbrev Inv-loop : tie.InvT-loop
-Inv-loop total k circle angles set n sum₀ i₀ sum i = (length (angles .phi) ≡ 32) × (n ≡ angles .n) × (0 < n) × (i ≤ n) × (sum ≡ addArcs (circleList set) total (upTo (arcFrom (circleList set) k circle (angleList angles)) i))
+Inv-loop total k circle angles set n sum₀ i₀ sum i = (n ≡ length (angleList angles)) × (0 < n) × (i ≤ n) × (sum ≡ addArcs (circleList set) total (upTo (arcFrom (circleList set) k circle (angleList angles)) i))
 
 abbrev μ-loop : tie.MeasureT-loop
 μ-loop total k circle angles set n sum₀ i₀ sum i = n - i
+
+count-requires : tie.Need-count-requires Inv-loop μ-loop
+count-requires c κs = search needs
 
 whole-circle-requires : tie.Need-whole-circle-requires Inv-loop μ-loop
 whole-circle-requires c κs = search needs
@@ -27,11 +30,12 @@ add-candidate-requires : tie.Need-add-candidate-requires Inv-loop μ-loop
 add-candidate-requires c κs = omega arith
 
 returns : tie.Need-returns Inv-loop μ-loop
-returns c = rw (c .before .before .if1 .taken, ← (c .before .whole-circle .ensures)) (c .add-candidate .ensures)
+returns c = let a = c .before .before .before .before .args in
+    rw (none-of-length (angleList (a .angles)) (sym (c .before .before .before .count .ensures) ∙ c .before .before .if1 .taken), ← (c .before .whole-circle .ensures)) (c .add-candidate .ensures)
 
 loop-holds : tie.Need-loop-holds Inv-loop μ-loop
 unfolding addArcs upTo
-loop-holds c = (search needs, refl, omega arith, omega arith, refl)
+loop-holds c = (c .before .count .ensures, omega arith, omega arith, refl)
 
 arc-from-requires : tie.Need-arc-from-requires Inv-loop μ-loop
 arc-from-requires c κs = search needs
@@ -46,20 +50,18 @@ loop-less : tie.Need-loop-less Inv-loop μ-loop
 loop-less c = omega arith
 
 loop-again : tie.Need-loop-again Inv-loop μ-loop
-loop-again c = let l = c .before .before .before .loop in let a = c .before .before .before .before .before .args in (
+loop-again c = let l = c .before .before .before .loop in let a = c .before .before .before .before .before .before .args in (
   l .inv .0,
-  refl,
-  l .inv .2,
+  l .inv .1,
   omega arith,
-  c .add-candidate2 .ensures ∙ rw (c .before .arc-from .ensures, l .inv .4)
+  c .add-candidate2 .ensures ∙ rw (c .before .arc-from .ensures, lt-ltb (l .i) (length (angleList (a .angles))) (omega (arith, l .inv .0)), l .inv .3)
       (sym (addArcs-upTo (circleList (a .set)) (a .total) (arcFrom (circleList (a .set)) (a .k) (a .circle) (angleList (a .angles))) (l .i))),
 )
 
 returns-2 : tie.Need-returns-2 Inv-loop μ-loop
-returns-2 c = let l = c .before .loop in let a = c .before .before .before .args in
-    let many = length-take-le (a .angles .n) (a .angles .phi) (omega arith) in
-    let e : l .i ≡ a .angles .n = omega arith in
-    rw (arcs-of-gaps (circleList (a .set)) (a .k) (a .circle) (angleList (a .angles)) (rw many (l .inv .2)), many) (rw e at (l .inv .4))
+returns-2 c = let l = c .before .loop in let a = c .before .before .before .before .args in
+    let e : l .i ≡ length (angleList (a .angles)) = omega (arith, l .inv .0) in
+    rw (arcs-of-gaps (circleList (a .set)) (a .k) (a .circle) (angleList (a .angles)) (omega (arith, l .inv .0))) (rw e at (l .inv .3))
 
 pub add-member-spec : {M : Type 1} → statement M
 add-member-spec =
@@ -67,6 +69,7 @@ add-member-spec =
     (tie.spec
     Inv-loop
     μ-loop
+    count-requires
     whole-circle-requires
     add-candidate-requires
     returns

@@ -11,7 +11,7 @@ use Rattle.outline.specs.Area.{noCircle, addArcs}
 use Rattle.outline.specs.Set.{membersWith}
 use Rattle.outline.specs.Lists.{pointList, headList, circleList}
 use Rattle.outline.proofs.Arrays.{length-of-values}
-use Rattle.outline.proofs.Walking.{points-few, sum-step, sum-end}
+use Rattle.outline.proofs.Walking.{sum-step, sum-end}
 use Rattle.outline.proofs.area.outline_sum.Statement.{statement}
 use Rattle.outline.proofs.area.outline_sum.Tie as tie
 
@@ -44,10 +44,7 @@ angles-for-requires : tie.Need-angles-for-requires Inv-loop μ-loop
 angles-for-requires c κs = search needs
 
 add-member-requires : tie.Need-add-member-requires Inv-loop μ-loop
-add-member-requires c κs =
-    let l = c .before .before .before .before .before .loop in
-    let a = c .before .before .before .before .before .before .args in
-    rw (c .angles-for .ensures .0) (points-few (pointList (a .points)) (a .mask) (getD (a .t2 .heads) (l .k) 0))
+add-member-requires c κs = search needs
 
 add-k : tie.Need-add-k Inv-loop μ-loop
 add-k c = omega arith

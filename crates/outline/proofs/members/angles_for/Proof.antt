@@ -29,7 +29,7 @@ no-angles-requires : tie.Need-no-angles-requires Inv-loop μ-loop
 no-angles-requires c κs = search needs
 
 loop-holds : tie.Need-loop-holds Inv-loop μ-loop
-loop-holds c = (long (c .before), refl, omega arith, omega arith, angles-none (c .before .args .circle) (c .before .args .mask) (c .before .args .j) [] noPoint (c .no-angles .result) (c .no-angles .ensures))
+loop-holds c = (long (c .before), refl, omega arith, omega arith, angles-none (c .before .args .circle) (c .before .args .mask) (c .before .args .j) [] noPoint (c .no-angles .result) (c .no-angles .ensures .0))
 
 returns : tie.Need-returns Inv-loop μ-loop
 returns c = let l = c .before .before .loop in let a = c .before .before .before .before .args in

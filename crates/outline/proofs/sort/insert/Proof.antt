@@ -22,7 +22,7 @@ returns : tie.Need-returns Inv-loop μ-loop
 returns c = rw (le-ltb _ _ (c .if1 .taken)) (refl, refl)
 
 place-requires : tie.Need-place-requires Inv-loop μ-loop
-place-requires c κs = omega arith
+place-requires c κs = search needs
 
 loop-holds : tie.Need-loop-holds Inv-loop μ-loop
 loop-holds c =
