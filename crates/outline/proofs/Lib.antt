@@ -7,3 +7,4 @@ pub mod Owning
 pub mod Gaps
 pub mod Summing
 pub mod Walking
+pub mod Listing
