@@ -3,9 +3,9 @@
 use mathlib.Core.Path.{_≡_, refl, sym, ap, ap₂, _∙_, subst}
 use mathlib.Core.Logic.{_⊎_, inl, inr}
 use Prim.Native.Nat.{ℕ, zero, suc, _+_, _-_, _*_, _/_, _%_, _^_, _≤_, _<_}
-use native.Mathlib.Nat.{lt-irrefl, le-of-lt, le-trans, le-of-eq, lt-of-lt-of-le, lt-of-le-of-lt, eq-or-lt-of-le, add-comm, zero-add, add-zero, add-mul, zero-mul, mul-one, one-mul, mul-comm, mul-assoc, mul-left-comm, mul-right-comm, mul-pos, mul-le-mul-right, mul-lt-mul-of-pos-right, lt-of-mul-lt-mul-right, eq-of-mul-eq-mul-right, mul-div-cancel, pow-succ'}
+use native.Mathlib.Nat.{lt-irrefl, le-of-lt, le-trans, le-of-eq, lt-of-lt-of-le, lt-of-le-of-lt, eq-or-lt-of-le, add-comm, zero-add, add-zero, zero-mul, mul-one, one-mul, mul-assoc, mul-right-comm, mul-pos, mul-le-mul-right, mul-lt-mul-of-pos-right, lt-of-mul-lt-mul-right, mul-div-cancel, pow-succ'}
 use native.Mathlib.Omega.{arith}
-use mathlib.Core.Bool.{Bool, true, false, not, _&&_, _||_, Bool·beq, cond}
+use mathlib.Core.Bool.{Bool, true, false, not, _&&_, _||_, cond}
 use lib.IntN.{ℤ, pos, negsuc}
 use lib.Dec.{T, not-T, leb, ltb, eqb, leb→le, le→leb, ltb→lt, lt→ltb, nltb→le, eqb→eq, lit<}
 use lib.Arith.{le→nltb}
@@ -13,9 +13,10 @@ use lib.Pow.{pow-add, pow-pos, pow-mono, shl-lt}
 use lib.Ieee.{Float, nan, inf, fin, binary64, up, down, size, below, level, fits, isNan, ofBits, toBits, lt, le, eq, neg}
 use lib.Ieee.Digits.{back}
 use lib.Ieee.Exact.{HasValue, round-exact}
-use lib.Ieee.Fits.{up-pos, down-pos, and-i, and-l, and-r, eq→eqb, round-fits, neg-fits}
+use lib.Ieee.Fits.{up-pos, down-pos, and-l, and-r, eq→eqb, round-fits, neg-fits}
 use lib.Ieee.Bits.{ofBits-toBits, is-true, is-false}
-use Rattle.binary64.proofs.Naturals.{same-test, pow-le-back}
+use Rattle.binary64.proofs.Naturals.{same-test, and-true, both-zero, not-ltb, pow-le-back}
+use Rattle.binary64.proofs.Values.{lt-values, eq-values}
 use Rattle.binary64.specs.Units.{pow2, one, limit, Finite, mag, negative, plus, minus, ofUnits, Digits53}
 
 -- ---- powers of two
@@ -278,91 +279,33 @@ neg-minus {x} h = ap₂ (λ (s : Bool) (n : ℕ). cond s n 0) (neg-sign h) (neg-
 
 -- ---- comparisons
 
--- a / x and b / y are both c / k: then a and b compare as x and y do
-scaled-lt : (x y a b k c : ℕ) → 0 < k → 0 < c → a * k ≡ x * c → b * k ≡ y * c → ltb x y ≡ ltb a b
-scaled-lt x y a b k c K C p q =
-    same-test (ltb x y) (ltb a b)
-    (λ t. lt→ltb a b (lt-of-mul-lt-mul-right k (rw (p, q) (mul-lt-mul-of-pos-right (ltb→lt x y t) C))))
-    (λ t. lt→ltb x y (lt-of-mul-lt-mul-right c (rw (← p, ← q) (mul-lt-mul-of-pos-right (ltb→lt a b t) K))))
-
-scaled-eq : (x y a b k c : ℕ) → 0 < k → 0 < c → a * k ≡ x * c → b * k ≡ y * c → eqb x y ≡ eqb a b
-scaled-eq x y a b k c K C p q =
-    same-test (eqb x y) (eqb a b)
-    (λ t. eq→eqb (eq-of-mul-eq-mul-right k K a b (p ∙ ap (λ (z : ℕ). z * c) (eqb→eq x y t) ∙ sym q)))
-    (λ t. eq→eqb (eq-of-mul-eq-mul-right c C x y (sym p ∙ ap (λ (z : ℕ). z * k) (eqb→eq a b t) ∙ q)))
-
-zeros : (k c : ℕ) → 0 * k ≡ 0 * c
-zeros k c = zero-mul k ∙ sym (zero-mul c)
-
-and-true : (b : Bool) → (b && true) ≡ b
-and-true true = refl
-and-true false = refl
-
-both-zero : (a b : ℕ) → (eqb a b && eqb a 0) ≡ eqb (a + b) 0
-both-zero a b =
-    same-test (eqb a b && eqb a 0) (eqb (a + b) 0)
-    (λ t. eq→eqb (sum a b (eqb→eq a b (and-l (eqb a b) (eqb a 0) t)) (eqb→eq a 0 (and-r (eqb a b) (eqb a 0) t))))
-    (λ t. let z = parts a b (eqb→eq (a + b) 0 t) in and-i (eqb a b) (eqb a 0) (eq→eqb (z .0)) (eq→eqb (z .1)))
-  where
-    sum : (a b : ℕ) → a ≡ b → a ≡ 0 → a + b ≡ 0
-    sum a b p q = omega arith
-
-    parts : (a b : ℕ) → a + b ≡ 0 → (a ≡ b) × (a ≡ 0)
-    parts a b p = omega arith
-
 eqb-sym : (a b : ℕ) → eqb a b ≡ eqb b a
 eqb-sym a b = same-test (eqb a b) (eqb b a) (λ t. eq→eqb (sym (eqb→eq a b t))) (λ t. eq→eqb (sym (eqb→eq b a t)))
 
-module _ (x y a b k c : ℕ) (K : 0 < k) (C : 0 < c) (p : a * k ≡ x * c) (q : b * k ≡ y * c) where
-  -- ±x < ±y, in units
-  below-units : (s t : Bool) → below s x t y ≡ ltb (cond s 0 a + cond t b 0) (cond t 0 b + cond s a 0)
-  below-units false false = rw (add-zero, add-zero) (scaled-lt x y a b k c K C p q)
-  below-units false true = sym (is-false (ltb (a + b) 0) (not-T (ltb (a + b) 0) (λ t. never (a + b) (ltb→lt (a + b) 0 t))))
-    where
-      never : (n : ℕ) → n < 0 → ⊥
-      never n h = omega arith
-  below-units true false =
-      scaled-lt 0 (x + y) 0 (a + b) k c K C (zeros k c) (add-mul a b k ∙ ap₂ (λ (u v : ℕ). u + v) p q ∙ sym (add-mul x y c)) ∙ ap (λ (n : ℕ). ltb 0 n) (add-comm a b)
-  below-units true true = rw (zero-add, zero-add) (scaled-lt y x b a k c K C q p)
+-- ±a < ±b and ±a = ±b, by the parts above and below zero
+below-parts : (s t : Bool) (a b : ℕ) → below s a t b ≡ ltb (cond s 0 a + cond t b 0) (cond t 0 b + cond s a 0)
+below-parts false false a b = rw (add-zero a, add-zero b)
+below-parts false true a b = sym (is-false (ltb (a + b) 0) (not-T (ltb (a + b) 0) (λ t. never (a + b) (ltb→lt (a + b) 0 t))))
+  where
+    never : (n : ℕ) → n < 0 → ⊥
+    never n h = omega arith
+below-parts true false a b = ap (λ (n : ℕ). ltb 0 n) (add-comm a b)
+below-parts true true a b = rw (zero-add a, zero-add b)
 
-  -- ±x = ±y, in units
-  level-units : (s t : Bool) → level s x t y ≡ eqb (cond s 0 a + cond t b 0) (cond t 0 b + cond s a 0)
-  level-units s t = rw (scaled-eq x y a b k c K C p q, scaled-eq x 0 a 0 k c K C p (zeros k c)) (go s t)
-    where
-      go : (s t : Bool) → (eqb a b && (Bool·beq s t || eqb a 0)) ≡ eqb (cond s 0 a + cond t b 0) (cond t 0 b + cond s a 0)
-      go false false = rw (add-zero a, add-zero b) (and-true (eqb a b))
-      go false true = both-zero a b
-      go true false = both-zero a b ∙ eqb-sym (a + b) 0 ∙ ap (λ (n : ℕ). eqb 0 n) (add-comm a b)
-      go true true = rw (zero-add a, zero-add b) (and-true (eqb a b) ∙ eqb-sym a b)
-
--- m / e is a / u, so m * d is to e * d as a is to u
-pub crossed : (m e d a u : ℕ) → a * e ≡ m * u → a * (e * d) ≡ m * d * u
-crossed m e d a u p = simp (mul-assoc, mul-comm, mul-left-comm) (simp (mul-assoc, mul-comm) at (ap (λ (z : ℕ). z * d) p))
+level-parts : (s t : Bool) (a b : ℕ) → level s a t b ≡ eqb (cond s 0 a + cond t b 0) (cond t 0 b + cond s a 0)
+level-parts false false a b = rw (add-zero a, add-zero b) (and-true (eqb a b))
+level-parts false true a b = both-zero a b
+level-parts true false a b = both-zero a b ∙ eqb-sym (a + b) 0 ∙ ap (λ (n : ℕ). eqb 0 n) (add-comm a b)
+level-parts true true a b = rw (zero-add a, zero-add b) (and-true (eqb a b) ∙ eqb-sym a b)
 
 -- x < y, x = y, x ≤ y: as comparisons of whole numbers of units
 pub lt-units : {x y : Float} → Finite x → Finite y → lt x y ≡ ltb (plus x + minus y) (plus y + minus x)
-unfolding lt plus minus
-lt-units {x = nan} h k = absurd (h .number)
-lt-units {x = inf s} h k = absurd (h .number)
-lt-units {x = fin s m e} {y = nan} h k = absurd (k .number)
-lt-units {x = fin s m e} {y = inf t} h k = absurd (k .number)
-lt-units {x = fin s m e} {y = fin t n d} h k =
-    below-units (m * up e * down d) (n * up d * down e) (mag (fin s m e)) (mag (fin t n d)) (down e * down d) one (mul-pos (down-pos e) (down-pos d)) one-pos
-    (crossed (m * up e) (down e) (down d) (mag (fin s m e)) one (mag-exact s m e (h .fit)))
-    (ap (λ (z : ℕ). mag (fin t n d) * z) (mul-comm (down e) (down d)) ∙ crossed (n * up d) (down d) (down e) (mag (fin t n d)) one (mag-exact t n d (k .fit)))
-    s t
+unfolding plus minus
+lt-units {x} {y} h k = lt-values x y (negative x) (negative y) (mag x) (mag y) one one-pos (mag-value h) (mag-value k) ∙ below-parts (negative x) (negative y) (mag x) (mag y)
 
 pub eq-units : {x y : Float} → Finite x → Finite y → eq x y ≡ eqb (plus x + minus y) (plus y + minus x)
-unfolding eq plus minus
-eq-units {x = nan} h k = absurd (h .number)
-eq-units {x = inf s} h k = absurd (h .number)
-eq-units {x = fin s m e} {y = nan} h k = absurd (k .number)
-eq-units {x = fin s m e} {y = inf t} h k = absurd (k .number)
-eq-units {x = fin s m e} {y = fin t n d} h k =
-    level-units (m * up e * down d) (n * up d * down e) (mag (fin s m e)) (mag (fin t n d)) (down e * down d) one (mul-pos (down-pos e) (down-pos d)) one-pos
-    (crossed (m * up e) (down e) (down d) (mag (fin s m e)) one (mag-exact s m e (h .fit)))
-    (ap (λ (z : ℕ). mag (fin t n d) * z) (mul-comm (down e) (down d)) ∙ crossed (n * up d) (down d) (down e) (mag (fin t n d)) one (mag-exact t n d (k .fit)))
-    s t
+unfolding plus minus
+eq-units {x} {y} h k = eq-values x y (negative x) (negative y) (mag x) (mag y) one one-pos (mag-value h) (mag-value k) ∙ level-parts (negative x) (negative y) (mag x) (mag y)
 
 pub le-units : {x y : Float} → Finite x → Finite y → le x y ≡ leb (plus x + minus y) (plus y + minus x)
 unfolding le
@@ -408,8 +351,4 @@ not-lt-of-units {x} {y} h k l = lt-units h k ∙ is-false (ltb (plus x + minus y
 
 -- among finite floats x ≤ y just where y < x fails
 pub le-not-lt : {x y : Float} → Finite x → Finite y → le x y ≡ not (lt y x)
-le-not-lt {x} {y} h k = le-units h k ∙ flip (plus x + minus y) (plus y + minus x) ∙ ap not (sym (lt-units k h))
-  where
-    flip : (a b : ℕ) → leb a b ≡ not (ltb b a)
-    flip a b =
-        same-test (leb a b) (not (ltb b a)) (λ t. le→nltb b a (leb→le a b t)) (λ t. le→leb a b (nltb→le b a t))
+le-not-lt {x} {y} h k = le-units h k ∙ sym (not-ltb (plus y + minus x) (plus x + minus y)) ∙ ap not (sym (lt-units k h))
