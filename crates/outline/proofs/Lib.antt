@@ -1,5 +1,4 @@
 pub mod Arrays
-pub mod Sign
 pub mod Sorting
 pub mod Gathering
 pub mod Counting

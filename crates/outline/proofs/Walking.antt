@@ -12,7 +12,8 @@ use Rattle.outline.specs.declared.points.IntersectionPoint.{Intersection
 use Rattle.outline.specs.declared.arcs.BoundaryArc.{BoundaryArc}
 use Rattle.outline.specs.Outline.{Member, circlesOf, fullCircle, anglesOf, angleAbout, arcsAt, outlineFrom, outline}
 use Rattle.outline.specs.Sort.{sorted}
-use Rattle.outline.specs.Numbers.{_*ᶠ_, zeroᶠ, halfᶠ}
+use Rattle.binary64.specs.Constants.{zero64, half64}
+use Rattle.geometry.specs.Floats.{_*ᶠ_}
 use Rattle.outline.specs.Area.{noCircle, addArc, addArcs, areaOf, openArea}
 use Rattle.outline.proofs.Summing.{addArcs-append}
 use Rattle.outline.proofs.Listing.{take-compose}
@@ -87,7 +88,7 @@ pub sum-end : (points : List IntersectionPoint) (S : ℕ) (js : List ℕ) (cs : 
 unfolding addArcs
 sum-end points S js cs k total h = rw (outline-end points S js cs cs k h)
 
-open-area : (ms : List Member) → openArea ms ≡ halfᶠ *ᶠ addArcs (circlesOf ms) zeroᶠ (outline ms)
+open-area : (ms : List Member) → openArea ms ≡ half64 *ᶠ addArcs (circlesOf ms) zero64 (outline ms)
 unfolding openArea areaOf
 open-area ms = refl
 
@@ -97,11 +98,11 @@ one-arc cs total arc = refl
 
 -- the area of one member, and of any other number, from the circles of the members
 pub area-one : (ms : List Member) (cs : List Circle) (c : Circle) → length ms ≡ 1 → cs ≡ circlesOf ms → c ≡ getD cs 0 noCircle
-    → halfᶠ *ᶠ addArc cs zeroᶠ (fullCircle 0 c) ≡ openArea ms
+    → half64 *ᶠ addArc cs zero64 (fullCircle 0 c) ≡ openArea ms
 area-one ms cs c h e f = rw (open-area ms, outline-one ms h, f, e, one-arc)
 
 pub area-other : (ms : List Member) (cs : List Circle) → (length ms ≡ 1 → ⊥) → cs ≡ circlesOf ms
-    → halfᶠ *ᶠ addArcs cs zeroᶠ (outlineFrom cs 0 ms) ≡ openArea ms
+    → half64 *ᶠ addArcs cs zero64 (outlineFrom cs 0 ms) ≡ openArea ms
 area-other ms cs h e = rw (open-area ms, e, outline-other ms h)
 
 -- the members of a set, from the lists of their numbers and circles

@@ -1,8 +1,8 @@
 // The gradient of the area that arcs enclose: x, y and radius of each circle in turn. Rests on specs/Area.antt.
 use crate::arcs::Arcs;
 use crate::arcs::BoundaryArc;
-use crate::numbers::abs;
-use crate::numbers::signum;
+use binary64::abs;
+use binary64::signum;
 use elementary::sine::cos;
 use elementary::sine::sin;
 use geometry::circle::Circle;

@@ -6,7 +6,6 @@ pub mod area;
 pub mod candidates;
 pub mod gradient;
 pub mod members;
-pub mod numbers;
 pub mod outline;
 pub mod ownership;
 pub mod points;
