@@ -7,3 +7,5 @@ pub mod Gaps
 pub mod Summing
 pub mod Walking
 pub mod Listing
+pub mod Adopting
+pub mod Collecting

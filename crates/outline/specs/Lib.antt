@@ -3,3 +3,4 @@ pub mod Outline
 pub mod Area
 pub mod Set
 pub mod Lists
+pub mod Points
