@@ -4,3 +4,4 @@ pub mod Area
 pub mod Set
 pub mod Lists
 pub mod Points
+pub mod Counts

@@ -8,7 +8,8 @@ use lib.Seq.{take-all}
 use Rattle.regions.specs.Row.{upTo}
 use Rattle.outline.specs.Points.{rowPoints, collected}
 use Rattle.outline.specs.Lists.{pointList}
-use Rattle.outline.proofs.Collecting.{rows-on, collected-few}
+use Rattle.outline.specs.Counts.{collected-few}
+use Rattle.outline.proofs.Collecting.{rows-on}
 use Rattle.outline.proofs.collect.collect_intersections.Statement.{statement}
 use Rattle.outline.proofs.collect.collect_intersections.Tie as tie
 
