@@ -1,5 +1,6 @@
 pub mod Arrays
 pub mod Sorting
+pub mod Ordering
 pub mod Gathering
 pub mod Counting
 pub mod Owning

@@ -20,6 +20,7 @@ use Rattle.geometry.specs.declared.point.Point.{Point}
 use Rattle.geometry.specs.declared.circle.Circle.{Circle}
 use Rattle.outline.specs.declared.points.IntersectionPoint.{IntersectionPoint}
 use Rattle.outline.specs.declared.arcs.BoundaryArc.{BoundaryArc}
+use Rattle.outline.specs.Every.{Every, every-map, every-upTo}
 use Rattle.outline.specs.Sort.{insert, sortOnto, sorted}
 use Rattle.outline.specs.Outline.{Member, circlesOf, angleAbout, owned, probe, fullCircle, arcFrom, arcsAt, anglesOf, outlineFrom, outline}
 use Rattle.outline.specs.Set.{headsOf, countedFor, pointsFor, pointsHeld, memberAt, membersOf, numbered, arcsHeld, regionArcs}
@@ -224,24 +225,6 @@ arcs-few cs k c (phi ∷ phis) b o h =
     omega (arith, upTo-few (arcFrom cs k c (phi ∷ phis)) 1 (length (phi ∷ phis)) (λ i g. gap-few cs k c (phi ∷ phis) i))
 
 -- ---- the arcs of a set
-
--- P holds of every element
-abbrev pub Every : {A : Type 0} → (A → Type 0) → List A → Type 0
-Every P [] = Unit
-Every P (x ∷ l) = P x × Every P l
-
-every-append : {A : Type 0} (P : A → Type 0) (a b : List A) → Every P a → Every P b → Every P (a ++ b)
-every-append P [] b h g = g
-every-append P (x ∷ a) b h g = (h .0, every-append P a b (h .1) g)
-
-every-map : {A : Type 0} {P Q : A → Type 0} (l : List A) → ((x : A) → P x → Q x) → Every P l → Every Q l
-every-map [] f h = tt
-every-map (x ∷ l) f h = (f x (h .0), every-map l f (h .1))
-
-every-upTo : {A : Type 0} (P : A → Type 0) (f : ℕ → List A) (m : ℕ) → ((i : ℕ) → i < m → Every P (f i)) → Every P (upTo f m)
-unfolding upTo
-every-upTo P f zero h = tt
-every-upTo P f (suc m) h = every-append P (upTo f m) (f m) (every-upTo P f m (λ i k. h i (omega arith))) (h m (omega arith))
 
 -- the heads of a set are below n, and no more than n
 pub heads-below : (n S : ℕ) → Every (λ j. j < n) (headsOf n S)

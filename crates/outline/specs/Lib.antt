@@ -1,3 +1,4 @@
+pub mod Every
 pub mod Sort
 pub mod Outline
 pub mod Area
