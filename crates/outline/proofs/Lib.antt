@@ -10,3 +10,4 @@ pub mod Walking
 pub mod Listing
 pub mod Adopting
 pub mod Collecting
+pub mod OpenRows

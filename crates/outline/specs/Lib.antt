@@ -6,3 +6,4 @@ pub mod Set
 pub mod Lists
 pub mod Points
 pub mod Counts
+pub mod Rows

@@ -57,11 +57,12 @@ pub fn members_of(mask: usize, circles: [Circle; 10], n_sets: usize) -> Members
 pub fn counted_for(mask: usize, j: usize, q: IntersectionPoint) -> bool
     ensures { λ r. ⌜ r ≡ countedFor mask j q ⌝ }
 {
+    let adopted = mask & q.adopters == mask;
     if q.first == j {
-        return mask & q.adopters == mask;
+        return adopted;
     }
     if q.second == j {
-        return mask & q.adopters == mask;
+        return adopted;
     }
     false
 }
