@@ -11,3 +11,4 @@ pub mod Listing
 pub mod Adopting
 pub mod Collecting
 pub mod OpenRows
+pub mod Finiteness

@@ -11,7 +11,8 @@ use Rattle.regions.specs.Row.{keep}
 use Rattle.outline.specs.Every.{Every, every-map, every-both}
 use Rattle.outline.specs.Sort.{insert, sortOnto, sorted, Ordered, level}
 
-insert-every : (P : Float → Type 0) (x : Float) (l : List Float) → P x → Every P l → Every P (insert x l)
+-- a property of x and of every element of l
+pub insert-every : (P : Float → Type 0) (x : Float) (l : List Float) → P x → Every P l → Every P (insert x l)
 unfolding insert
 insert-every P x [] h g = (h, tt)
 insert-every P x (y ∷ l) h g = by (lt x y) (insert-every P x l h (g .1))

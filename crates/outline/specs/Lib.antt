@@ -7,3 +7,4 @@ pub mod Lists
 pub mod Points
 pub mod Counts
 pub mod Rows
+pub mod Finite
