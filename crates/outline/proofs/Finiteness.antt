@@ -7,12 +7,14 @@ use native.Mathlib.Nat.{mod-lt, le-refl}
 use native.Mathlib.Omega.{arith}
 use borrow.Author.Tests.{ltb-true}
 use lib.Dec.{T, leb→le, lit≤, ltb}
-use lib.ListN.{length, getD}
-use lib.Ieee.{Float, nan, binary64, ofBits, fits, le, add, sub, mul}
-use Rattle.binary64.specs.Units.{Finite, mag, pow2, one}
+use lib.ListN.{length, getD, set, replicate}
+use lib.Ieee.{Float, nan, inf, fin, binary64, ofBits, fits, le, add, sub, mul}
+use Rattle.binary64.specs.Units.{Finite, mag, pow2, negative}
+use Rattle.binary64.specs.Functions.{absolute, signumOf}
+use Rattle.binary64.proofs.Functions.{absolute-of-negative, absolute-of-other}
 use Rattle.binary64.specs.Magnitude.{Most}
 use Rattle.binary64.specs.Constants.{zero64, half64, twoPi}
-use Rattle.binary64.proofs.Magnitude.{most-weaken, most-either, add-most, sub-most, mul-most}
+use Rattle.binary64.proofs.Magnitude.{most-weaken, most-either, neg-most, add-most, sub-most, mul-most}
 use Rattle.elementary.specs.Sine.{sin, cos}
 use Rattle.elementary.specs.Arctangent.{atan2}
 use Rattle.regions.specs.Row.{upTo}
@@ -20,12 +22,12 @@ use Rattle.geometry.specs.Floats.{_+ᶠ_, _-ᶠ_, _*ᶠ_, _≤ᶠ_}
 use Rattle.geometry.specs.declared.point.Point.{Point}
 use Rattle.geometry.specs.declared.circle.Circle.{Circle}
 use Rattle.outline.specs.declared.arcs.BoundaryArc.{BoundaryArc}
-use Rattle.outline.specs.Every.{Every, every-append, every-upTo}
+use Rattle.outline.specs.Every.{Every, every-append, every-map, every-upTo}
 use Rattle.outline.specs.Sort.{insert, sortOnto, sorted}
 use Rattle.outline.specs.Outline.{Member, circlesOf, angleAbout, gap, collapsed, owned, pointAt, probe, fullCircle, between, arcFrom, arcsAt, anglesOf, outlineFrom, outline}
-use Rattle.outline.specs.Area.{noCircle, arcTerms, addArc, addArcs, areaOf, openArea}
+use Rattle.outline.specs.Area.{noCircle, arcTerms, addArc, addArcs, areaOf, openArea, addAt, subAt, arcSlopes, addSlopes, addGradient, openGradient}
 use Rattle.outline.proofs.Ordering.{insert-every}
-use Rattle.outline.specs.Finite.{Promised, InDomain, AreaFinite}
+use Rattle.outline.specs.Finite.{Promised, InDomain, AreaFinite, GradientFinite}
 
 -- ---- constants
 
@@ -164,3 +166,82 @@ area-finite promised ms d few =
     let sum = arcs-most promised (outline ms) 0 zero64 (circlesOf ms) zero-most d (outline-short promised ms) (omega arith) in
     let most : Most 1440000000000 1074 (addArcs (circlesOf ms) zero64 (outline ms)) = most-weaken sum (omega arith) in
     most-weaken (mul-most half-most most 1074 refl (lit≤ tt) (lit≤ tt)) (lit≤ tt)
+
+-- ---- the gradient
+
+signum-most : (x : Float) → Finite x → Most 1 1074 (signumOf x)
+unfolding mag pow2 fits
+signum-most nan f = absurd (f .number)
+signum-most (inf s) f = absurd (f .number)
+signum-most (fin true m e) f = record { finite = record { fit = tt; number = tt }; bound = leb→le _ _ tt }
+signum-most (fin false m e) f = record { finite = record { fit = tt; number = tt }; bound = leb→le _ _ tt }
+
+absolute-most : {j a : ℕ} (x : Float) → Most j a x → Most j a (absolute x)
+absolute-most {j} {a} x h = by (negative x) refl
+  where
+    by : (b : Bool) → negative x ≡ b → Most j a (absolute x)
+    by true e = rw (sym (absolute-of-negative x e)) (neg-most h)
+    by false e = rw (sym (absolute-of-other x e)) h
+
+every-set : {A : Type 0} (P : A → Type 0) (l : List A) (i : ℕ) (v : A) → Every P l → (i < length l → P v) → Every P (set l i v)
+every-set P [] i v e h = tt
+every-set P (x ∷ l) zero v e h = (h (omega arith), e .1)
+every-set P (x ∷ l) (suc i) v e h = (e .0, every-set P l i v (e .1) (λ k. h (omega arith)))
+
+entry-add : (j k : ℕ) (g : List Float) (i : ℕ) (x : Float) → Every (Most j 1074) g → Most k 1074 x → j + k ≤ 2 ^ 53
+    → Every (Most (j + k) 1074) (addAt g i x)
+entry-add j k g i x e h room =
+    every-set (Most (j + k) 1074) g i (getD g i nan +ᶠ x) (every-map g (λ z m. most-weaken m (omega arith)) e)
+    (λ b. add-most (every-at (Most j 1074) g i nan b e) h room (lit≤ tt))
+
+entry-sub : (j k : ℕ) (g : List Float) (i : ℕ) (x : Float) → Every (Most j 1074) g → Most k 1074 x → j + k ≤ 2 ^ 53
+    → Every (Most (j + k) 1074) (subAt g i x)
+entry-sub j k g i x e h room =
+    every-set (Most (j + k) 1074) g i (getD g i nan -ᶠ x) (every-map g (λ z m. most-weaken m (omega arith)) e)
+    (λ b. sub-most (every-at (Most j 1074) g i nan b e) h room (lit≤ tt))
+
+zeros : (n : ℕ) → Every (Most 0 1074) (replicate n zero64)
+zeros zero = tt
+zeros (suc n) = (zero-most, zeros n)
+
+module _ (promised : Promised) where
+  slopes-most : (j : ℕ) (g : List Float) (c : Circle) (arc : BoundaryArc) → Every (Most j 1074) g → InDomain c → Short arc
+      → j + 400000 ≤ 2 ^ 53 → Every (Most (j + 400000) 1074) (arcSlopes g c arc)
+  unfolding arcSlopes
+  slopes-most j g c arc e d hs room =
+      let across = mul-most (signum-most (arc .«delta_phi») (hs .finite)) (d .r) 1074 refl (lit≤ tt) (lit≤ tt) in
+      let off = arc .circle * 3 in
+      let sines = sub-most (promised .sine (arc .«phi_end»)) (promised .sine (arc .«phi_start»)) (lit≤ tt) (lit≤ tt) in
+      let cosines = sub-most (promised .cosine (arc .«phi_end»)) (promised .cosine (arc .«phi_start»)) (lit≤ tt) (lit≤ tt) in
+      let turn = signumOf (arc .«delta_phi») *ᶠ c .radius in
+      let lx = addAt g off (turn *ᶠ (sin (arc .«phi_end») -ᶠ sin (arc .«phi_start»))) in
+      let ly = subAt lx (off + 1) (turn *ᶠ (cos (arc .«phi_end») -ᶠ cos (arc .«phi_start»))) in
+      let lr = addAt ly (off + 2) (c .radius *ᶠ absolute (arc .«delta_phi»)) in
+      let gx = entry-add j 40000 g off (turn *ᶠ (sin (arc .«phi_end») -ᶠ sin (arc .«phi_start»))) e (mul-most across sines 1074 refl (lit≤ tt) (lit≤ tt)) (omega arith) in
+      let gy = entry-sub (j + 40000) 40000 lx (off + 1) (turn *ᶠ (cos (arc .«phi_end») -ᶠ cos (arc .«phi_start»))) gx (mul-most across cosines 1074 refl (lit≤ tt) (lit≤ tt)) (omega arith) in
+      let gr = entry-add (j + 40000 + 40000) 320000 ly (off + 2) (c .radius *ᶠ absolute (arc .«delta_phi»)) gy (mul-most (d .r) (absolute-most (arc .«delta_phi») hs) 1074 refl (lit≤ tt) (lit≤ tt)) (omega arith) in
+      every-map {P = Most (j + 40000 + 40000 + 320000) 1074} {Q = Most (j + 400000) 1074} lr (λ z m. most-weaken m (omega arith)) gr
+
+  arc-slopes-most : (j : ℕ) (g : List Float) (cs : List Circle) (arc : BoundaryArc) → Every (Most j 1074) g → Every InDomain cs → Short arc
+      → j + 400000 ≤ 2 ^ 53 → Every (Most (j + 400000) 1074) (addSlopes cs g arc)
+  unfolding addSlopes
+  arc-slopes-most j g cs arc e d hs room = by (ltb (arc .circle) (length cs)) refl
+    where
+      by : (b : Bool) → ltb (arc .circle) (length cs) ≡ b → Every (Most (j + 400000) 1074) (cond b (arcSlopes g (getD cs (arc .circle) noCircle) arc) g)
+      by true t = slopes-most j g (getD cs (arc .circle) noCircle) arc e (every-at InDomain cs (arc .circle) noCircle (ltb-true _ _ t) d) hs room
+      by false t = every-map g (λ z m. most-weaken m (omega arith)) e
+
+  gradient-most : (arcs : List BoundaryArc) (j : ℕ) (g : List Float) (cs : List Circle) → Every (Most j 1074) g → Every InDomain cs → Every Short arcs
+      → j + length arcs * 400000 ≤ 2 ^ 53 → Every (Most (j + length arcs * 400000) 1074) (addGradient cs g arcs)
+  unfolding addGradient
+  gradient-most [] j g cs e d hs room = every-map g (λ z m. most-weaken m (omega arith)) e
+  gradient-most (arc ∷ arcs) j g cs e d hs room =
+      every-map (addGradient cs (addSlopes cs g arc) arcs) (λ z m. most-weaken m (omega arith))
+      (gradient-most arcs (j + 400000) (addSlopes cs g arc) cs (arc-slopes-most j g cs arc e d (hs .0) (omega arith)) d (hs .1) (omega arith))
+
+-- Gradients of open areas are finite, and each entry at most 72,000,000.
+pub gradient-finite : GradientFinite
+unfolding openGradient
+gradient-finite promised ms d few =
+    every-map (addGradient (circlesOf ms) (replicate (3 * length ms) zero64) (outline ms)) (λ z m. most-weaken m (omega arith))
+    (gradient-most promised (outline ms) 0 (replicate (3 * length ms) zero64) (circlesOf ms) (zeros (3 * length ms)) d (outline-short promised ms) (omega arith))

@@ -28,7 +28,7 @@ pub record InDomain (c : Circle) : Type 0 where
 abbrev pub AreaFinite : Type 0
 AreaFinite = Promised → (ms : List Member) → Every InDomain (circlesOf ms) → length (outline ms) ≤ 180 → Most 1440000000000 1074 (openArea ms)
 
--- Each entry of the gradient is at most 57,600,000: each arc adds at most 320,000.
+-- Each entry of the gradient is at most 72,000,000: each of at most 180 arcs adds at most 400,000 to its three entries together.
 abbrev pub GradientFinite : Type 0
 GradientFinite =
-    Promised → (ms : List Member) → Every InDomain (circlesOf ms) → length (outline ms) ≤ 180 → Every (Most 57600000 1074) (openGradient ms)
+    Promised → (ms : List Member) → Every InDomain (circlesOf ms) → length (outline ms) ≤ 180 → Every (Most 72000000 1074) (openGradient ms)
