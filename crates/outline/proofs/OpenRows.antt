@@ -3,13 +3,16 @@ use mathlib.Core.Path.{_≡_, refl, sym, ap, ap₂, _∙_}
 use mathlib.Core.Bool.{Bool, true, false, _&&_, _||_, cond}
 use mathlib.Core.List.{List, [], _∷_, _++_, map, map-append}
 use mathlib.Core.Logic.{⊎-elim}
-use Prim.Native.Nat.{ℕ, zero, suc, _+_, _-_, _^_, _≤_, _<_}
-use native.Mathlib.Nat.{lt-of-lt-of-le}
+use Prim.Native.Nat.{ℕ, zero, suc, _+_, _-_, _^_, _≤_, _<_, suc-le-suc}
+use native.Mathlib.Nat.{lt-of-lt-of-le, le-trans}
 use native.Mathlib.Omega.{arith}
 use borrow.Author.Tests.{eqb-true}
 use lib.Count.{ones}
-use lib.Dec.{eqb}
-use lib.Ieee.{Float}
+use lib.Dec.{eqb, leb→le, lit≤}
+use lib.Ieee.{Float, binary64, ofInt}
+use lib.IntN.{ℤ, pos, negsuc, natAbs, negℤ}
+use Rattle.binary64.specs.Magnitude.{Most}
+use Rattle.binary64.proofs.Whole.{ofInt-most}
 use lib.ListN.{length, getD, length-append, length-map, List·getD-append}
 use lib.Pow.{pow-mono}
 use lib.Seq.{getD-at}
@@ -26,6 +29,7 @@ use Rattle.regions.specs.Demand.{Faithful, AfreshRows, Ends}
 use Rattle.regions.proofs.Demand.{list-ends-afresh}
 use Rattle.plan.specs.Book.{Entry}
 use Rattle.plan.specs.Checks.{planAnswer}
+use Rattle.plan.specs.Exactly.{Within, HeadMet}
 use Rattle.plan.specs.declared.Answer.the-variants.{Taken}
 use Rattle.plan.specs.declared.Ground.{Ground}
 use Rattle.plan.specs.declared.Needed.{Needed}
@@ -39,7 +43,10 @@ use Rattle.outline.specs.Outline.{Member, circlesOf, outline}
 use Rattle.outline.specs.Area.{noCircle, areaOf, openArea}
 use Rattle.outline.specs.Set.{headsOf, countedFor, pointsFor, circleAt, memberAt, membersOf}
 use Rattle.outline.specs.Points.{adopts, met, pairPoints, rowPoints, collected}
-use Rattle.outline.specs.Counts.{points-whole}
+use Rattle.outline.specs.Counts.{points-whole, heads-below, outline-few}
+use Rattle.outline.specs.Every.{Every, every-map}
+use Rattle.outline.specs.Finite.{Promised, InDomain}
+use Rattle.outline.proofs.Finiteness.{area-finite}
 use Rattle.outline.specs.Rows.{circleOf, circlesOfHeads, memberOf, openGeometry, openMethod}
 use Rattle.outline.proofs.Walking.{circles-of-members, outline-one}
 use Rattle.outline.proofs.Walking.{members-many as heads-many}
@@ -232,3 +239,43 @@ pub open-list-ends-afresh : (box : Ground → Float) (sets : Plan → ℕ → Bo
     → (needed : Needed) (p : Plan) → length (p .heads) ≡ 10 → planAnswer p ≡ Taken
     → (rows : ℕ → TableRow) → AfreshRows (openMethod box sets) p rows → (es : List Entry) → Ends (openMethod box sets) needed p rows es
 open-list-ends-afresh box sets faithful = list-ends-afresh (openMethod box sets) faithful
+
+-- ---- finiteness
+
+float-most : (z : ℤ) → natAbs z ≤ 20000 → Most 20000 1074 (ofInt binary64 z)
+float-most z h = ofInt-most z (le-trans h (lit≤ tt)) h
+
+position-size : (z : ℤ) → Within (negℤ (pos 20000)) (pos 20000) z → natAbs z ≤ 20000
+position-size (pos n) w = leb→le n 20000 (w .1 .le)
+position-size (negsuc n) w = suc-le-suc (leb→le n 19999 (w .0 .le))
+
+radius-size : (z : ℤ) → Within (pos 1) (pos 20000) z → natAbs z ≤ 20000
+radius-size (pos n) w = leb→le n 20000 (w .1 .le)
+radius-size (negsuc n) w = absurd (w .0 .le)
+
+-- the circle of a head within the limits is a circle of the domain
+circle-domain : (h : Head) → HeadMet h → InDomain (circleOf h)
+unfolding circleOf
+circle-domain h m =
+    record {
+      x = float-most (h .x) (position-size (h .x) (m .0));
+      y = float-most (h .y) (position-size (h .y) (m .1));
+      r = float-most (h .radius) (radius-size (h .radius) (m .2));
+    }
+
+every-mapped : {A B : Type 0} (P : B → Type 0) (f : A → B) (l : List A) → Every (λ a. P (f a)) l → Every P (map f l)
+every-mapped P f [] e = tt
+every-mapped P f (a ∷ l) e = (e .0, every-mapped P f l (e .1))
+
+-- The open row of any set of heads within the limits is finite, and at most 1,440,000,000,000.
+pub open-row-finite : Promised → (h : ℕ → Head) (n S : ℕ) → n ≤ 10 → S < 2 ^ n → ((i : ℕ) → i < n → HeadMet (h i))
+    → Most 1440000000000 1074 (rowArea openGeometry h n S)
+open-row-finite promised h n S hn hS met =
+    let cs = circlesOfHeads h n in
+    let few : length cs ≤ 10 = rw (circles-length h n) hn in
+    rw (sym (open-row h n S hn hS))
+    (area-finite promised (membersOf cs (collected cs) S)
+    (rw (circles-of-members cs (collected cs) S, circles-length h n)
+    (every-mapped InDomain (circleAt cs) (headsOf n S)
+    (every-map (headsOf n S) (λ j hj. rw (circle-at h n j hj) (circle-domain (h j) (met j hj))) (heads-below n S))))
+    (outline-few cs S few))
