@@ -7,3 +7,15 @@ pub fn atan2(y: f64, x: f64) -> f64
 {
     0.0
 }
+
+pub fn acos(c: f64) -> f64
+    ensures { λ r. ⌜ r ≡ Arctangent.acos c ⌝ }
+{
+    0.0
+}
+
+pub fn asin(c: f64) -> f64
+    ensures { λ r. ⌜ r ≡ Arctangent.asin c ⌝ }
+{
+    0.0
+}
