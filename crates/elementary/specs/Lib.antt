@@ -1,2 +1,3 @@
+pub mod Root
 pub mod Sine
 pub mod Arctangent
