@@ -2,21 +2,22 @@
 -- finite, and how large it is. Then the magnitude and the sign of a product and a quotient. Rests on Units, Rounding and lib.Ieee.{Exact, Scale}.
 use mathlib.Core.Path.{_≡_, refl, sym, ap, ap₂, _∙_, subst}
 use Prim.Native.Nat.{ℕ, _+_, _-_, _*_, _/_, _^_, _≤_, _<_}
-use native.Mathlib.Nat.{le-trans, le-of-eq, le-of-lt, lt-of-le-of-lt, mul-one, mul-comm, mul-assoc, mul-left-comm, mul-pos, add-mul, mul-sub, mul-le-mul-right, le-of-mul-le-mul-right, mul-mul-mul-comm, eq-of-mul-eq-mul-right}
+use native.Mathlib.Nat.{le-trans, le-of-eq, lt-of-le-of-lt, lt-of-lt-of-le, add-zero, zero-add, sub-eq-zero-of-le, mul-one, mul-assoc, mul-pos}
 use native.Mathlib.Omega.{arith}
-use mathlib.Core.Bool.{Bool, true, false, not, cond, true≢false, false≢true}
-use lib.Dec.{T, ltb, eqb, ltb→lt, nltb→le, eqb→eq, not-T}
-use lib.Ieee.{Float, nan, inf, fin, binary64, up, down, unlike, fits, odd, units, round, sum, add, sub, mul, div, neg}
+use mathlib.Core.Bool.{Bool, true, false, not, _&&_, cond, true≢false, false≢true}
+use lib.Dec.{T, ltb, ltb→lt, nltb→le}
+use lib.Arith.{le→nltb}
+use lib.Ieee.Bits.{is-false}
+use lib.Ieee.{Float, inf, binary64, up, down, unlike, fits, odd, units, round, sum, add, sub, mul, div, neg}
 use lib.Ieee.Exact.{HasValue, units-val}
-use lib.Ieee.Fits.{round-is, round-fits, up-pos, down-pos}
-use lib.Ieee.Bits.{cond-no}
-use lib.Ieee.Positive.{first-pos}
+use lib.Ieee.Fits.{round-is, round-fits}
 use lib.Ieee.Order.{drop, kept}
 use lib.Ieee.Scale.{finite, round-same}
-use Rattle.binary64.specs.Units.{one, limit, Finite, mag, negative, plus, minus, Digits53}
+use Rattle.binary64.specs.Units.{one, limit, Finite, mag, negative, plus, minus, ofUnits, signedZero, Digits53}
 use Rattle.binary64.specs.Rounding.{rnd, Rounded, Result}
-use Rattle.binary64.proofs.Units.{crossed, one-is, one-pos, limit-pow, mag-exact, value-mag, value-sign, value-finite, plus-is, minus-is, plus-sign, minus-sign, neg-finite, neg-plus, neg-minus}
-use Rattle.binary64.proofs.Rounding.{rnd-is, rnd-same, rnd-le, rnd-zero}
+use Rattle.binary64.proofs.Values.{add-values, mul-values, div-values}
+use Rattle.binary64.proofs.Units.{is-ofUnits, ofUnits-zero, mag-value, one-is, one-pos, limit-pow, value-mag, value-sign, value-finite, plus-is, minus-is, plus-sign, minus-sign, neg-finite, neg-plus, neg-minus}
+use Rattle.binary64.proofs.Rounding.{plus-exact, minus-exact, rnd-is, rnd-same, rnd-le, rnd-zero}
 
 -- ---- `round` in units
 
@@ -56,6 +57,7 @@ module _ (s : Bool) (a c : ℕ) where
   pub round-finite : {w : ℕ} → 0 < c → Digits53 w → w < limit → a * one ≤ w * c → Finite (round binary64 s a c)
   round-finite C d l h = value-finite (round binary64 s a c) s (rnd (a * one) c) one (round-fits binary64 s a c) (round-value (lt-of-le-of-lt (rnd-le (a * one) c C d h) l))
 
+  -- Finite, it has that magnitude and the sign s.
   pub round-mag : Finite (round binary64 s a c) → mag (round binary64 s a c) ≡ rnd (a * one) c
   round-mag f = value-mag (round binary64 s a c) s (rnd (a * one) c) (round-value (round-below (f .number)))
 
@@ -83,6 +85,7 @@ module _ {z : Float} {p n c : ℕ} (C : 0 < c) (r : Result z p n c) where
   pub result-mag : Finite z → mag z ≡ rnd (r .size) c
   result-mag f = value-mag z (r .minus?) (rnd (r .size) c) (value (below f))
 
+  -- z is (p - n) / c, rounded, by its parts above and below zero.
   pub result-rounded : Finite z → Rounded z p n c
   result-rounded f = go (r .minus?) (result-sign f) (r .above) (r .below)
     where
@@ -132,60 +135,77 @@ module _ (top bottom size c : ℕ) {p n : ℕ} (B : 0 < bottom) (e : top * one *
 
 -- ---- the sum
 
--- a / c is A / one and b / c is B / one: then so for their sum and their difference, and A and B are in the order of a and b
-module _ (a b A B c : ℕ) (C : 0 < c) (p : a * one ≡ A * c) (q : b * one ≡ B * c) where
-  total : (a + b) * one * 1 ≡ (A + B) * c
-  total = mul-one ((a + b) * one) ∙ add-mul a b one ∙ ap₂ (λ (x y : ℕ). x + y) p q ∙ sym (add-mul A B c)
-
-  diff : (a - b) * one * 1 ≡ (A - B) * c
-  diff = mul-one ((a - b) * one) ∙ sub-mul a b one ∙ ap₂ (λ (x y : ℕ). x - y) p q ∙ sym (sub-mul A B c)
-    where
-      sub-mul : (x y k : ℕ) → (x - y) * k ≡ x * k - y * k
-      sub-mul x y k = mul-comm (x - y) k ∙ mul-sub k x y ∙ ap₂ (λ (u v : ℕ). u - v) (mul-comm k x) (mul-comm k y)
-
-  ordered : a ≤ b → A ≤ B
-  ordered h = le-of-mul-le-mul-right (rw (← p, ← q) (mul-le-mul-right one h)) C
-
-sum-result : (a b A B c : ℕ) → 0 < c → a * one ≡ A * c → b * one ≡ B * c → (s t : Bool) → Result (sum binary64 s a t b c) (cond s 0 A + cond t 0 B) (cond s A 0 + cond t B 0) 1
+-- the sum of ±A and ±B units
+sum-result : (s t : Bool) (A B : ℕ) → Result (sum binary64 s A t B one) (cond s 0 A + cond t 0 B) (cond s A 0 + cond t B 0) 1
 unfolding sum
-sum-result a b A B c C p q false false = plus-result (a + b) c (A + B) 1 C (total a b A B c C p q) (omega arith)
-sum-result a b A B c C p q true true = minus-result (a + b) c (A + B) 1 C (total a b A B c C p q) (omega arith)
-sum-result a b A B c C p q false true = go (ltb a b) (ltb→lt a b) (nltb→le a b)
+sum-result false false A B = plus-result (A + B) one (A + B) 1 one-pos (mul-one ((A + B) * one)) (omega arith)
+sum-result true true A B = minus-result (A + B) one (A + B) 1 one-pos (mul-one ((A + B) * one)) (omega arith)
+sum-result false true A B = go (ltb A B) (ltb→lt A B) (nltb→le A B)
   where
-    go : (l : Bool) → (T l → a < b) → (T (not l) → b ≤ a) → Result (cond l (round binary64 true (b - a) c) (round binary64 false (a - b) c)) (A + 0) (0 + B) 1
-    go true f g = let h = ordered a b A B c C p q (le-of-lt (f tt)) in minus-result (b - a) c (B - A) 1 C (diff b a B A c C q p) (omega arith)
-    go false f g = let h = ordered b a B A c C q p (g tt) in plus-result (a - b) c (A - B) 1 C (diff a b A B c C p q) (omega arith)
-sum-result a b A B c C p q true false = go (ltb a b) (ltb→lt a b) (nltb→le a b)
+    go : (l : Bool) → (T l → A < B) → (T (not l) → B ≤ A) → Result (cond l (round binary64 true (B - A) one) (round binary64 false (A - B) one)) (A + 0) (0 + B) 1
+    go true f g = let h = f tt in minus-result (B - A) one (B - A) 1 one-pos (mul-one ((B - A) * one)) (omega arith)
+    go false f g = let h = g tt in plus-result (A - B) one (A - B) 1 one-pos (mul-one ((A - B) * one)) (omega arith)
+sum-result true false A B = go (ltb A B) (ltb→lt A B) (nltb→le A B)
   where
     -- a difference of equal numbers is +0
-    least : (l : Bool) → (T (not l) → a ≤ b) → B ≤ A → Result (round binary64 l (a - b) c) (0 + B) (A + 0) 1
-    least true f h = minus-result (a - b) c (A - B) 1 C (diff a b A B c C p q) (omega arith)
-    least false f h = let k = ordered a b A B c C p q (f tt) in plus-result (a - b) c (A - B) 1 C (diff a b A B c C p q) (omega arith)
+    least : (l : Bool) → (T (not l) → A ≤ B) → B ≤ A → Result (round binary64 l (A - B) one) (0 + B) (A + 0) 1
+    least true f h = minus-result (A - B) one (A - B) 1 one-pos (mul-one ((A - B) * one)) (omega arith)
+    least false f h = let k = f tt in plus-result (A - B) one (A - B) 1 one-pos (mul-one ((A - B) * one)) (omega arith)
 
-    go : (l : Bool) → (T l → a < b) → (T (not l) → b ≤ a) → Result (cond l (round binary64 false (b - a) c) (round binary64 (ltb b a) (a - b) c)) (0 + B) (A + 0) 1
-    go true f g = let h = ordered a b A B c C p q (le-of-lt (f tt)) in plus-result (b - a) c (B - A) 1 C (diff b a B A c C q p) (omega arith)
-    go false f g = least (ltb b a) (nltb→le b a) (ordered b a B A c C q p (g tt))
+    go : (l : Bool) → (T l → A < B) → (T (not l) → B ≤ A) → Result (cond l (round binary64 false (B - A) one) (round binary64 (ltb B A) (A - B) one)) (0 + B) (A + 0) 1
+    go true f g = let h = f tt in plus-result (B - A) one (B - A) 1 one-pos (mul-one ((B - A) * one)) (omega arith)
+    go false f g = least (ltb B A) (nltb→le B A) (g tt)
 
 -- x + y is (plus x + plus y) - (minus x + minus y), rounded.
 pub add-result : {x y : Float} → Finite x → Finite y → Result (add binary64 x y) (plus x + plus y) (minus x + minus y) 1
-unfolding add plus minus
-add-result {x = nan} h k = absurd (h .number)
-add-result {x = inf s} h k = absurd (h .number)
-add-result {x = fin s m e} {y = nan} h k = absurd (k .number)
-add-result {x = fin s m e} {y = inf t} h k = absurd (k .number)
-add-result {x = fin s m e} {y = fin t n d} h k =
-    sum-result (m * up e * down d) (n * up d * down e) (mag (fin s m e)) (mag (fin t n d)) (down e * down d) (mul-pos (down-pos e) (down-pos d))
-    (sym (crossed (m * up e) (down e) (down d) (mag (fin s m e)) one (mag-exact s m e (h .fit))))
-    (sym (ap (λ (z : ℕ). mag (fin t n d) * z) (mul-comm (down e) (down d)) ∙ crossed (n * up d) (down d) (down e) (mag (fin t n d)) one (mag-exact t n d (k .fit))))
-    s t
+unfolding plus minus
+add-result {x} {y} h k = rw (add-values x y (negative x) (negative y) (mag x) (mag y) one one-pos (mag-value h) (mag-value k)) (sum-result (negative x) (negative y) (mag x) (mag y))
 
 -- x - y is x + (-y), and so plus and minus of y change places.
 pub sub-is : (x y : Float) → sub binary64 x y ≡ add binary64 x (neg y)
 unfolding sub
 sub-is x y = refl
 
+-- x - y is (plus x + minus y) - (minus x + plus y), rounded.
 pub sub-result : {x y : Float} → Finite x → Finite y → Result (sub binary64 x y) (plus x + minus y) (minus x + plus y) 1
 sub-result {x} {y} h k = rw (sub-is x y) (rw (neg-plus k, neg-minus k) at (add-result h (neg-finite k)))
+
+-- ---- results as floats
+
+-- A Result that has 53 digits, and is not zero, is the float of so many units.
+module _ {z : Float} {p n c w : ℕ} (C : 0 < c) (r : Result z p n c) (W : 0 < w) (d : Digits53 w) (l : w < limit) where
+  pub result-plus : p ≡ n + w * c → z ≡ ofUnits false w
+  result-plus e =
+      let f = result-finite C r d (omega arith) (omega arith) l in
+      let u = plus-exact C (result-rounded C r f) d e in
+      let v = plus-is z (plus-sign z (lt-of-lt-of-le W (le-of-eq (sym u)))) in
+      is-ofUnits f ∙ ap₂ ofUnits (plus-sign z (lt-of-lt-of-le W (le-of-eq (sym u)))) (sym (v .0) ∙ u)
+
+  pub result-minus : n ≡ p + w * c → z ≡ ofUnits true w
+  result-minus e =
+      let f = result-finite C r d (omega arith) (omega arith) l in
+      let u = minus-exact C (result-rounded C r f) d e in
+      let v = minus-is z (minus-sign z (lt-of-lt-of-le W (le-of-eq (sym u)))) in
+      is-ofUnits f ∙ ap₂ ofUnits (minus-sign z (lt-of-lt-of-le W (le-of-eq (sym u)))) (sym (v .1) ∙ u)
+
+not-less : (a b : ℕ) → b ≤ a → ltb a b ≡ false
+not-less a b h = is-false (ltb a b) (le→nltb a b h)
+
+-- A sum that is exactly zero is -0 where both are negative, and +0 otherwise.
+sum-zero : (s t : Bool) (A B : ℕ) → cond s 0 A + cond t 0 B ≡ cond s A 0 + cond t B 0 → sum binary64 s A t B one ≡ ofUnits (s && t) 0
+unfolding sum
+sum-zero false false A B e = let h : A + B ≡ 0 = omega arith in ap (λ (n : ℕ). ofUnits false n) h
+sum-zero true true A B e = let h : A + B ≡ 0 = omega arith in ap (λ (n : ℕ). ofUnits true n) h
+sum-zero false true A B e = rw (not-less A B (omega arith)) (ap (λ (n : ℕ). ofUnits false n) (sub-eq-zero-of-le (le-of-eq (sym (add-zero A) ∙ e ∙ zero-add B))))
+sum-zero true false A B e = rw (not-less A B (omega arith), not-less B A (omega arith)) (ap (λ (n : ℕ). ofUnits false n) (sub-eq-zero-of-le (le-of-eq (sym (add-zero A) ∙ sym e ∙ zero-add B))))
+
+-- So x + y, where it is exactly zero, is the zero with that sign.
+pub add-zero-sum : {x y : Float} → Finite x → Finite y → plus x + plus y ≡ minus x + minus y → add binary64 x y ≡ signedZero (negative x && negative y)
+unfolding plus minus
+add-zero-sum {x} {y} h k e =
+    add-values x y (negative x) (negative y) (mag x) (mag y) one one-pos (mag-value h) (mag-value k)
+    ∙ sum-zero (negative x) (negative y) (mag x) (mag y) e
+    ∙ ofUnits-zero (negative x && negative y)
 
 -- ---- the product and the quotient
 
@@ -197,14 +217,7 @@ product-result a c A B C e true false = minus-result a c (A * B) one C e (omega 
 
 -- x * y as one rounding of the magnitudes' product
 pub mul-round : {x y : Float} → Finite x → Finite y → mul binary64 x y ≡ round binary64 (unlike (negative x) (negative y)) (mag x * mag y) (one * one)
-unfolding mul
-mul-round {x = nan} h k = absurd (h .number)
-mul-round {x = inf s} h k = absurd (h .number)
-mul-round {x = fin s m e} {y = nan} h k = absurd (k .number)
-mul-round {x = fin s m e} {y = inf t} h k = absurd (k .number)
-mul-round {x = fin s m e} {y = fin t n d} h k =
-    round-same binary64 (unlike s t) (m * up e * (n * up d)) (down e * down d) (mag (fin s m e) * mag (fin t n d)) (one * one) (mul-pos (down-pos e) (down-pos d)) (mul-pos one-pos one-pos)
-    (mul-mul-mul-comm (m * up e) (n * up d) one one ∙ ap₂ (λ (u v : ℕ). u * v) (sym (mag-exact s m e (h .fit))) (sym (mag-exact t n d (k .fit))) ∙ mul-mul-mul-comm (mag (fin s m e)) (down e) (mag (fin t n d)) (down d))
+mul-round {x} {y} h k = mul-values x y (negative x) (negative y) (mag x) (mag y) one one one-pos one-pos (mag-value h) (mag-value k)
 
 -- x * y is the product of the two, in units of one times one, rounded.
 pub mul-result : {x y : Float} → Finite x → Finite y → Result (mul binary64 x y) (plus x * plus y + minus x * minus y) (plus x * minus y + minus x * plus y) one
@@ -222,25 +235,9 @@ quotient-result a c A B C e true false = minus-result a c (A * one) B C e (omega
 
 -- x / y as one rounding of the magnitudes' quotient
 pub div-round : {x y : Float} → Finite x → Finite y → 0 < mag y → div binary64 x y ≡ round binary64 (unlike (negative x) (negative y)) (mag x) (mag y)
-unfolding div
-div-round {x = nan} h k Y = absurd (h .number)
-div-round {x = inf s} h k Y = absurd (h .number)
-div-round {x = fin s m e} {y = nan} h k Y = absurd (k .number)
-div-round {x = fin s m e} {y = inf t} h k Y = absurd (k .number)
-div-round {x = fin s m e} {y = fin t n d} h k Y =
-    cond-no (eqb n 0) (cond (eqb m 0) nan (inf (unlike s t))) (round binary64 (unlike s t) (m * up e * down d) (n * up d * down e)) (not-T (eqb n 0) (λ z. none n N (eqb→eq n 0 z)))
-    ∙ round-same binary64 (unlike s t) (m * up e * down d) (n * up d * down e) (mag (fin s m e)) (mag (fin t n d)) (mul-pos (mul-pos N (up-pos d)) (down-pos e)) Y
-    (eq-of-mul-eq-mul-right one one-pos (m * up e * down d * mag (fin t n d)) (mag (fin s m e) * (n * up d * down e))
-    (quotients (m * up e) (n * up d) (down e) (down d) (mag (fin s m e)) (mag (fin t n d)) one (mag-exact s m e (h .fit)) (mag-exact t n d (k .fit))))
-  where
-    N : 0 < n
-    N = first-pos n (up d) (first-pos (n * up d) one (subst (λ (z : ℕ). 0 < z) (mag-exact t n d (k .fit)) (mul-pos Y (down-pos d))))
-
-    none : (n : ℕ) → 0 < n → n ≡ 0 → ⊥
-    none n h z = omega arith
-
-    quotients : (m n e d A B u : ℕ) → A * e ≡ m * u → B * d ≡ n * u → m * d * B * u ≡ A * (n * e) * u
-    quotients m n e d A B u p q = simp (mul-assoc, mul-comm, mul-left-comm) (simp (mul-assoc, mul-comm, mul-left-comm) at (ap₂ (λ (x y : ℕ). x * y) (sym p) q))
+div-round {x} {y} h k Y =
+    div-values x y (negative x) (negative y) (mag x) (mag y) one one Y one-pos one-pos (mag-value h) (mag-value k)
+    ∙ round-same binary64 (unlike (negative x) (negative y)) (mag x * one) (one * mag y) (mag x) (mag y) (mul-pos one-pos Y) Y (mul-assoc (mag x) one (mag y))
 
 signed-quotient : {x y : Float} → Finite x → Finite y → 0 < mag y → Result (div binary64 x y) (cond (negative y) (minus x) (plus x) * one) (cond (negative y) (plus x) (minus x) * one) (mag y)
 unfolding plus minus
@@ -262,6 +259,7 @@ div-result-minus {x} {y} h k Y =
 -- ---- magnitude and sign of a product and a quotient, that of a zero included
 
 module _ {x y : Float} (h : Finite x) (k : Finite y) where
+  -- A product has the sign of unlike factors, and the rounded product of the magnitudes.
   pub mul-sign : Finite (mul binary64 x y) → negative (mul binary64 x y) ≡ unlike (negative x) (negative y)
   mul-sign = subst (λ (z : Float). Finite z → negative z ≡ unlike (negative x) (negative y)) (sym (mul-round h k)) (round-sign (unlike (negative x) (negative y)) (mag x * mag y) (one * one))
 
@@ -272,6 +270,7 @@ module _ {x y : Float} (h : Finite x) (k : Finite y) where
       round-mag (unlike (negative x) (negative y)) (mag x * mag y) (one * one) f
       ∙ rnd-same (mag x * mag y * one) (one * one) (mag x * mag y) one (mul-pos one-pos one-pos) one-pos (mul-assoc (mag x * mag y) one one))
 
+  -- A quotient has the sign of unlike operands, and the rounded quotient of the magnitudes.
   pub div-sign : 0 < mag y → Finite (div binary64 x y) → negative (div binary64 x y) ≡ unlike (negative x) (negative y)
   div-sign Y = subst (λ (z : Float). Finite z → negative z ≡ unlike (negative x) (negative y)) (sym (div-round h k Y)) (round-sign (unlike (negative x) (negative y)) (mag x) (mag y))
 

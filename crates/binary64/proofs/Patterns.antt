@@ -157,6 +157,7 @@ pub pattern-finite : (b : ℕ) → finite (ofBits binary64 b) ≡ not (eqb (b % 
 unfolding ofBits
 pattern-finite b = fields-finite (leb (2 ^ 63) b) (b % 2 ^ 63 / 2 ^ 52) (b % 2 ^ 52)
 
+-- So a pattern below the infinities', its sign apart, is a finite float.
 pub finite-pattern : (b : ℕ) → b % 2 ^ 63 < 2047 * 2 ^ 52 → Finite (ofBits binary64 b)
 finite-pattern b h = record {
   fit = ofBits-fits binary64 b;

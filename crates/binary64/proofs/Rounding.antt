@@ -164,6 +164,7 @@ rnd-ge {n} a c C d h = le-trans (le-of-eq (sym (rnd-exact n c C d))) (rnd-mono (
 pub rnd-small : (n : ℕ) → n ≤ 2 ^ 53 → rnd n 1 ≡ n
 rnd-small n h = ap (λ (x : ℕ). rnd x 1) (sym (mul-one n)) ∙ rnd-exact n 1 (pow-pos 0) (subst (λ (x : ℕ). Digits53 x) (mul-one n) (digits53 n 0 h))
 
+-- Zero stays zero.
 pub rnd-zero : (c : ℕ) → 0 < c → rnd 0 c ≡ 0
 rnd-zero c C = ap (λ (x : ℕ). rnd x c) (sym (zero-mul c)) ∙ rnd-exact 0 c C (digits53 0 0 zero-le)
 

@@ -1,11 +1,11 @@
 -- A finite f64 in units of 2^-1074: that the division in `mag` is exact, which numbers of units are magnitudes, that sign and magnitude
 -- determine a float, and comparisons as comparisons of natural numbers. Rests on lib.Ieee.{Exact, Fits, Bits}.
 use mathlib.Core.Path.{_≡_, refl, sym, ap, ap₂, _∙_, subst}
-use mathlib.Core.Logic.{_⊎_, inl, inr}
-use Prim.Native.Nat.{ℕ, zero, suc, _+_, _-_, _*_, _/_, _%_, _^_, _≤_, _<_}
-use native.Mathlib.Nat.{lt-irrefl, le-of-lt, le-trans, le-of-eq, lt-of-lt-of-le, lt-of-le-of-lt, eq-or-lt-of-le, add-comm, zero-add, add-zero, add-mul, zero-mul, mul-one, one-mul, mul-comm, mul-assoc, mul-left-comm, mul-right-comm, mul-pos, mul-le-mul-right, mul-lt-mul-of-pos-right, lt-of-mul-lt-mul-right, eq-of-mul-eq-mul-right, mul-div-cancel, pow-succ'}
+use mathlib.Core.Logic.{_⊎_, inl, inr, ⊎-elim}
+use Prim.Native.Nat.{ℕ, zero, suc, _+_, _-_, _*_, _/_, _%_, _^_, _≤_, _<_, zero-le}
+use native.Mathlib.Nat.{lt-irrefl, le-trans, le-of-eq, lt-of-lt-of-le, lt-of-le-of-lt, eq-or-lt-of-le, add-comm, zero-add, add-zero, zero-mul, div-one, mul-one, one-mul, mul-assoc, mul-right-comm, mul-pos, mul-le-mul-right, mul-lt-mul-of-pos-right, lt-of-mul-lt-mul-right, mul-div-cancel, pow-succ'}
 use native.Mathlib.Omega.{arith}
-use mathlib.Core.Bool.{Bool, true, false, not, _&&_, _||_, Bool·beq, cond}
+use mathlib.Core.Bool.{Bool, true, false, not, _&&_, cond}
 use lib.IntN.{ℤ, pos, negsuc}
 use lib.Dec.{T, not-T, leb, ltb, eqb, leb→le, le→leb, ltb→lt, lt→ltb, nltb→le, eqb→eq, lit<}
 use lib.Arith.{le→nltb}
@@ -13,13 +13,16 @@ use lib.Pow.{pow-add, pow-pos, pow-mono, shl-lt}
 use lib.Ieee.{Float, nan, inf, fin, binary64, up, down, size, below, level, fits, isNan, ofBits, toBits, lt, le, eq, neg}
 use lib.Ieee.Digits.{back}
 use lib.Ieee.Exact.{HasValue, round-exact}
-use lib.Ieee.Fits.{up-pos, down-pos, and-i, and-l, and-r, eq→eqb, round-fits, neg-fits}
+use lib.Ieee.Fits.{up-pos, down-pos, and-l, and-r, eq→eqb, round-fits, neg-fits}
 use lib.Ieee.Bits.{ofBits-toBits, is-true, is-false}
-use Rattle.binary64.proofs.Naturals.{same-test, pow-le-back}
-use Rattle.binary64.specs.Units.{pow2, one, limit, Finite, mag, negative, plus, minus, ofUnits, Digits53}
+use Rattle.binary64.proofs.Naturals.{same-test, lt-or-eq, and-true, both-zero, not-ltb, pow-le-back}
+use Rattle.binary64.proofs.Values.{lt-values, eq-values}
+use Rattle.binary64.specs.Constants.{zero64, zero64-is}
+use Rattle.binary64.specs.Units.{pow2, one, limit, Finite, mag, negative, plus, minus, ofUnits, signedZero, Digits53}
 
 -- ---- powers of two
 
+-- what `pow2` is; it is above 0, turns sums into products, and grows
 pub pow2-is : (k : ℕ) → pow2 k ≡ 2 ^ k
 unfolding pow2
 pow2-is k = refl
@@ -41,6 +44,7 @@ pub pow2-mono : {i k : ℕ} → i ≤ k → pow2 i ≤ pow2 k
 unfolding pow2
 pow2-mono h = pow-mono h
 
+-- The number 1 is 2 ^ 1074 units, and all finite floats lie below 2 ^ 2098 units, which is the number 2 ^ 1024.
 pub one-is : one ≡ 2 ^ 1074
 one-is = pow2-is 1074
 
@@ -102,12 +106,13 @@ place-mag s m e t =
 pub mag-exact : (s : Bool) (m : ℕ) (e : ℤ) → T (fits binary64 (fin s m e)) → mag (fin s m e) * down e ≡ m * up e * one
 mag-exact s m e t = let p = place-mag s m e t in ap (λ (x : ℕ). x * down e) (p .1) ∙ sym (p .2)
 
+-- A finite float is ±mag x / one.
 pub mag-value : {x : Float} → Finite x → HasValue x (negative x) (mag x) one
 mag-value {x = nan} h = absurd (h .number)
 mag-value {x = inf s} h = absurd (h .number)
 mag-value {x = fin s m e} h = (refl, sym (mag-exact s m e (h .fit)))
 
--- What has the value ±a units is finite, and has that sign and that magnitude.
+-- What has the value ±a units has that magnitude and that sign, and is finite.
 pub value-mag : (x : Float) (s : Bool) (a : ℕ) → HasValue x s a one → mag x ≡ a
 value-mag nan s a h = absurd h
 value-mag (inf t) s a h = absurd h
@@ -125,6 +130,7 @@ value-finite (fin u m e) s a c t h = record { fit = t; number = tt }
 
 -- ---- which numbers of units are magnitudes: those of at most 53 digits before their closing zeros, below `limit`
 
+-- A magnitude has 53 digits, and is below the limit.
 pub mag-digits : {x : Float} → Finite x → Digits53 (mag x)
 mag-digits {x = nan} h = absurd (h .number)
 mag-digits {x = inf s} h = absurd (h .number)
@@ -183,6 +189,7 @@ bits-mag {x = nan} h = absurd (h .number)
 bits-mag {x = inf s} h = absurd (h .number)
 bits-mag {x = fin s m e} h = unfold toBits mag pow2 in refl
 
+-- Two finite floats with the same sign and the same magnitude are the same float.
 pub same-float : {x y : Float} → Finite x → Finite y → negative x ≡ negative y → mag x ≡ mag y → x ≡ y
 same-float {x} {y} h k s n =
     sym (ofBits-toBits binary64 x (h .fit))
@@ -205,6 +212,7 @@ not-nan {x = fin s m e} h = tt
 
 -- ---- plus and minus
 
+-- The two parts make up the magnitude.
 pub plus-minus : (x : Float) → plus x + minus x ≡ mag x
 unfolding plus minus
 plus-minus x = go (negative x) (mag x)
@@ -223,6 +231,14 @@ pub minus-is : (x : Float) → negative x ≡ true → (plus x ≡ 0) × (minus 
 unfolding plus minus
 minus-is x h = (ap (λ (s : Bool). cond s 0 (mag x)) h, ap (λ (s : Bool). cond s (mag x) 0) h)
 
+-- x is all above zero, or all below
+pub one-sided : (x : Float) → ((plus x ≡ mag x) × (minus x ≡ 0)) ⊎ ((plus x ≡ 0) × (minus x ≡ mag x))
+one-sided x = go (negative x) refl
+  where
+    go : (s : Bool) → negative x ≡ s → ((plus x ≡ mag x) × (minus x ≡ 0)) ⊎ ((plus x ≡ 0) × (minus x ≡ mag x))
+    go false e = inl (plus-is x e)
+    go true e = inr (minus-is x e)
+
 -- what has a part above zero has not the sign bit, and what has one below has it
 pub plus-sign : (x : Float) → 0 < plus x → negative x ≡ false
 unfolding plus
@@ -240,8 +256,40 @@ minus-sign x = go (negative x)
     go true h = refl
     go false h = absurd (lt-irrefl 0 h)
 
+-- ---- zero
+
+-- A zero of either sign is finite and has no units.
+pub zero-finite : (s : Bool) → Finite (signedZero s)
+unfolding fits
+zero-finite s = record { fit = tt; number = tt }
+
+pub zero-mag : (s : Bool) → mag (signedZero s) ≡ 0
+zero-mag s = mag-fin s 0 (pos 0) ∙ div-one (0 * 1 * one) ∙ zero-mul one
+
+pub zero-plus : (s : Bool) → plus (signedZero s) ≡ 0
+unfolding plus
+zero-plus true = refl
+zero-plus false = zero-mag false
+
+pub zero-minus : (s : Bool) → minus (signedZero s) ≡ 0
+unfolding minus
+zero-minus true = zero-mag true
+zero-minus false = refl
+
+-- What has no units is a zero.
+pub is-zero : {x : Float} → Finite x → mag x ≡ 0 → x ≡ signedZero (negative x)
+is-zero {x} h e = same-float h (zero-finite (negative x)) refl (e ∙ sym (zero-mag (negative x)))
+
+-- No units, with a sign, are the zero with that sign.
+pub ofUnits-zero : (s : Bool) → ofUnits s 0 ≡ signedZero s
+ofUnits-zero s =
+    let d = digits53 0 0 zero-le in
+    let l = below-limit 0 0 zero-le zero-le in
+    is-zero (ofUnits-finite s 0 d l) (ofUnits-mag s 0 d l) ∙ ap signedZero (ofUnits-sign s 0 d l)
+
 -- ---- the float -x
 
+-- It has the magnitude of x and the other sign, so its parts are those of x the other way round.
 pub neg-mag : (x : Float) → mag (neg x) ≡ mag x
 unfolding neg mag
 neg-mag nan = refl
@@ -260,138 +308,52 @@ neg-finite {x = nan} h = absurd (h .number)
 neg-finite {x = inf s} h = absurd (h .number)
 neg-finite {x = fin s m e} h = record { fit = neg-fits binary64 (fin s m e) (h .fit); number = tt }
 
+cond-not : (s : Bool) (m n : ℕ) → cond (not s) m n ≡ cond s n m
+cond-not true m n = refl
+cond-not false m n = refl
+
 pub neg-plus : {x : Float} → Finite x → plus (neg x) ≡ minus x
 unfolding plus minus
-neg-plus {x} h = ap₂ (λ (s : Bool) (n : ℕ). cond s 0 n) (neg-sign h) (neg-mag x) ∙ turned (negative x) (mag x)
-  where
-    turned : (s : Bool) (n : ℕ) → cond (not s) 0 n ≡ cond s n 0
-    turned true n = refl
-    turned false n = refl
+neg-plus {x} h = ap₂ (λ (s : Bool) (n : ℕ). cond s 0 n) (neg-sign h) (neg-mag x) ∙ cond-not (negative x) 0 (mag x)
 
 pub neg-minus : {x : Float} → Finite x → minus (neg x) ≡ plus x
 unfolding plus minus
-neg-minus {x} h = ap₂ (λ (s : Bool) (n : ℕ). cond s n 0) (neg-sign h) (neg-mag x) ∙ turned (negative x) (mag x)
-  where
-    turned : (s : Bool) (n : ℕ) → cond (not s) n 0 ≡ cond s 0 n
-    turned true n = refl
-    turned false n = refl
+neg-minus {x} h = ap₂ (λ (s : Bool) (n : ℕ). cond s n 0) (neg-sign h) (neg-mag x) ∙ cond-not (negative x) (mag x) 0
 
 -- ---- comparisons
-
--- a / x and b / y are both c / k: then a and b compare as x and y do
-scaled-lt : (x y a b k c : ℕ) → 0 < k → 0 < c → a * k ≡ x * c → b * k ≡ y * c → ltb x y ≡ ltb a b
-scaled-lt x y a b k c K C p q =
-    same-test (ltb x y) (ltb a b)
-    (λ t. lt→ltb a b (lt-of-mul-lt-mul-right k (rw (p, q) (mul-lt-mul-of-pos-right (ltb→lt x y t) C))))
-    (λ t. lt→ltb x y (lt-of-mul-lt-mul-right c (rw (← p, ← q) (mul-lt-mul-of-pos-right (ltb→lt a b t) K))))
-
-scaled-eq : (x y a b k c : ℕ) → 0 < k → 0 < c → a * k ≡ x * c → b * k ≡ y * c → eqb x y ≡ eqb a b
-scaled-eq x y a b k c K C p q =
-    same-test (eqb x y) (eqb a b)
-    (λ t. eq→eqb (eq-of-mul-eq-mul-right k K a b (p ∙ ap (λ (z : ℕ). z * c) (eqb→eq x y t) ∙ sym q)))
-    (λ t. eq→eqb (eq-of-mul-eq-mul-right c C x y (sym p ∙ ap (λ (z : ℕ). z * k) (eqb→eq a b t) ∙ q)))
-
-zeros : (k c : ℕ) → 0 * k ≡ 0 * c
-zeros k c = zero-mul k ∙ sym (zero-mul c)
-
-and-true : (b : Bool) → (b && true) ≡ b
-and-true true = refl
-and-true false = refl
-
-both-zero : (a b : ℕ) → (eqb a b && eqb a 0) ≡ eqb (a + b) 0
-both-zero a b =
-    same-test (eqb a b && eqb a 0) (eqb (a + b) 0)
-    (λ t. eq→eqb (sum a b (eqb→eq a b (and-l (eqb a b) (eqb a 0) t)) (eqb→eq a 0 (and-r (eqb a b) (eqb a 0) t))))
-    (λ t. let z = parts a b (eqb→eq (a + b) 0 t) in and-i (eqb a b) (eqb a 0) (eq→eqb (z .0)) (eq→eqb (z .1)))
-  where
-    sum : (a b : ℕ) → a ≡ b → a ≡ 0 → a + b ≡ 0
-    sum a b p q = omega arith
-
-    parts : (a b : ℕ) → a + b ≡ 0 → (a ≡ b) × (a ≡ 0)
-    parts a b p = omega arith
 
 eqb-sym : (a b : ℕ) → eqb a b ≡ eqb b a
 eqb-sym a b = same-test (eqb a b) (eqb b a) (λ t. eq→eqb (sym (eqb→eq a b t))) (λ t. eq→eqb (sym (eqb→eq b a t)))
 
-module _ (x y a b k c : ℕ) (K : 0 < k) (C : 0 < c) (p : a * k ≡ x * c) (q : b * k ≡ y * c) where
-  -- ±x < ±y, in units
-  below-units : (s t : Bool) → below s x t y ≡ ltb (cond s 0 a + cond t b 0) (cond t 0 b + cond s a 0)
-  below-units false false = rw (add-zero, add-zero) (scaled-lt x y a b k c K C p q)
-  below-units false true = sym (is-false (ltb (a + b) 0) (not-T (ltb (a + b) 0) (λ t. never (a + b) (ltb→lt (a + b) 0 t))))
-    where
-      never : (n : ℕ) → n < 0 → ⊥
-      never n h = omega arith
-  below-units true false =
-      scaled-lt 0 (x + y) 0 (a + b) k c K C (zeros k c) (add-mul a b k ∙ ap₂ (λ (u v : ℕ). u + v) p q ∙ sym (add-mul x y c)) ∙ ap (λ (n : ℕ). ltb 0 n) (add-comm a b)
-  below-units true true = rw (zero-add, zero-add) (scaled-lt y x b a k c K C q p)
+-- ±a < ±b and ±a = ±b, by the parts above and below zero
+below-parts : (s t : Bool) (a b : ℕ) → below s a t b ≡ ltb (cond s 0 a + cond t b 0) (cond t 0 b + cond s a 0)
+below-parts false false a b = rw (add-zero a, add-zero b)
+below-parts false true a b = sym (is-false (ltb (a + b) 0) (not-T (ltb (a + b) 0) (λ t. never (a + b) (ltb→lt (a + b) 0 t))))
+  where
+    never : (n : ℕ) → n < 0 → ⊥
+    never n h = omega arith
+below-parts true false a b = ap (λ (n : ℕ). ltb 0 n) (add-comm a b)
+below-parts true true a b = rw (zero-add a, zero-add b)
 
-  -- ±x = ±y, in units
-  level-units : (s t : Bool) → level s x t y ≡ eqb (cond s 0 a + cond t b 0) (cond t 0 b + cond s a 0)
-  level-units s t = rw (scaled-eq x y a b k c K C p q, scaled-eq x 0 a 0 k c K C p (zeros k c)) (go s t)
-    where
-      go : (s t : Bool) → (eqb a b && (Bool·beq s t || eqb a 0)) ≡ eqb (cond s 0 a + cond t b 0) (cond t 0 b + cond s a 0)
-      go false false = rw (add-zero a, add-zero b) (and-true (eqb a b))
-      go false true = both-zero a b
-      go true false = both-zero a b ∙ eqb-sym (a + b) 0 ∙ ap (λ (n : ℕ). eqb 0 n) (add-comm a b)
-      go true true = rw (zero-add a, zero-add b) (and-true (eqb a b) ∙ eqb-sym a b)
-
--- m / e is a / u, so m * d is to e * d as a is to u
-pub crossed : (m e d a u : ℕ) → a * e ≡ m * u → a * (e * d) ≡ m * d * u
-crossed m e d a u p = simp (mul-assoc, mul-comm, mul-left-comm) (simp (mul-assoc, mul-comm) at (ap (λ (z : ℕ). z * d) p))
+level-parts : (s t : Bool) (a b : ℕ) → level s a t b ≡ eqb (cond s 0 a + cond t b 0) (cond t 0 b + cond s a 0)
+level-parts false false a b = rw (add-zero a, add-zero b) (and-true (eqb a b))
+level-parts false true a b = both-zero a b
+level-parts true false a b = both-zero a b ∙ eqb-sym (a + b) 0 ∙ ap (λ (n : ℕ). eqb 0 n) (add-comm a b)
+level-parts true true a b = rw (zero-add a, zero-add b) (and-true (eqb a b) ∙ eqb-sym a b)
 
 -- x < y, x = y, x ≤ y: as comparisons of whole numbers of units
 pub lt-units : {x y : Float} → Finite x → Finite y → lt x y ≡ ltb (plus x + minus y) (plus y + minus x)
-unfolding lt plus minus
-lt-units {x = nan} h k = absurd (h .number)
-lt-units {x = inf s} h k = absurd (h .number)
-lt-units {x = fin s m e} {y = nan} h k = absurd (k .number)
-lt-units {x = fin s m e} {y = inf t} h k = absurd (k .number)
-lt-units {x = fin s m e} {y = fin t n d} h k =
-    below-units (m * up e * down d) (n * up d * down e) (mag (fin s m e)) (mag (fin t n d)) (down e * down d) one (mul-pos (down-pos e) (down-pos d)) one-pos
-    (crossed (m * up e) (down e) (down d) (mag (fin s m e)) one (mag-exact s m e (h .fit)))
-    (ap (λ (z : ℕ). mag (fin t n d) * z) (mul-comm (down e) (down d)) ∙ crossed (n * up d) (down d) (down e) (mag (fin t n d)) one (mag-exact t n d (k .fit)))
-    s t
+unfolding plus minus
+lt-units {x} {y} h k = lt-values x y (negative x) (negative y) (mag x) (mag y) one one-pos (mag-value h) (mag-value k) ∙ below-parts (negative x) (negative y) (mag x) (mag y)
 
+-- x = y: -0 equals +0
 pub eq-units : {x y : Float} → Finite x → Finite y → eq x y ≡ eqb (plus x + minus y) (plus y + minus x)
-unfolding eq plus minus
-eq-units {x = nan} h k = absurd (h .number)
-eq-units {x = inf s} h k = absurd (h .number)
-eq-units {x = fin s m e} {y = nan} h k = absurd (k .number)
-eq-units {x = fin s m e} {y = inf t} h k = absurd (k .number)
-eq-units {x = fin s m e} {y = fin t n d} h k =
-    level-units (m * up e * down d) (n * up d * down e) (mag (fin s m e)) (mag (fin t n d)) (down e * down d) one (mul-pos (down-pos e) (down-pos d)) one-pos
-    (crossed (m * up e) (down e) (down d) (mag (fin s m e)) one (mag-exact s m e (h .fit)))
-    (ap (λ (z : ℕ). mag (fin t n d) * z) (mul-comm (down e) (down d)) ∙ crossed (n * up d) (down d) (down e) (mag (fin t n d)) one (mag-exact t n d (k .fit)))
-    s t
+unfolding plus minus
+eq-units {x} {y} h k = eq-values x y (negative x) (negative y) (mag x) (mag y) one one-pos (mag-value h) (mag-value k) ∙ level-parts (negative x) (negative y) (mag x) (mag y)
 
 pub le-units : {x y : Float} → Finite x → Finite y → le x y ≡ leb (plus x + minus y) (plus y + minus x)
 unfolding le
-le-units {x} {y} h k = rw (lt-units h k, eq-units h k) (either (plus x + minus y) (plus y + minus x))
-  where
-    or-l : (a b : Bool) → T a → T (a || b)
-    or-l true b t = tt
-    or-l false b t = absurd t
-
-    weak : (a b : Bool) (p : Type 0) → (T a → p) → (T b → p) → T (a || b) → p
-    weak true b p f g t = f tt
-    weak false b p f g t = g t
-
-    more : (a b : ℕ) → (ltb a b ≡ true) ⊎ (ltb a b ≡ false) → a ≤ b → T (ltb a b || eqb a b)
-    more a b (inl e) l = subst (λ (z : Bool). T (z || eqb a b)) (sym e) tt
-    more a b (inr e) l = subst (λ (z : Bool). T (z || eqb a b)) (sym e) (eq→eqb (same a b l (nltb→le a b (subst (λ (z : Bool). T (not z)) (sym e) tt))))
-      where
-        same : (a b : ℕ) → a ≤ b → b ≤ a → a ≡ b
-        same a b p q = omega arith
-
-    dec : (b : Bool) → (b ≡ true) ⊎ (b ≡ false)
-    dec true = inl refl
-    dec false = inr refl
-
-    either : (a b : ℕ) → (ltb a b || eqb a b) ≡ leb a b
-    either a b =
-        same-test (ltb a b || eqb a b) (leb a b)
-        (weak (ltb a b) (eqb a b) (T (leb a b)) (λ t. le→leb a b (le-of-lt (ltb→lt a b t))) (λ t. le→leb a b (le-of-eq (eqb→eq a b t))))
-        (λ t. more a b (dec (ltb a b)) (leb→le a b t))
+le-units {x} {y} h k = rw (lt-units h k, eq-units h k) (lt-or-eq (plus x + minus y) (plus y + minus x))
 
 -- what a test of the code says, and what it takes to pass or fail it
 pub units-of-lt : {x y : Float} → Finite x → Finite y → lt x y ≡ true → plus x + minus y < plus y + minus x
@@ -406,10 +368,57 @@ lt-of-units {x} {y} h k l = lt-units h k ∙ is-true (ltb (plus x + minus y) (pl
 pub not-lt-of-units : {x y : Float} → Finite x → Finite y → plus y + minus x ≤ plus x + minus y → lt x y ≡ false
 not-lt-of-units {x} {y} h k l = lt-units h k ∙ is-false (ltb (plus x + minus y) (plus y + minus x)) (le→nltb (plus x + minus y) (plus y + minus x) l)
 
+pub units-of-le : {x y : Float} → Finite x → Finite y → le x y ≡ true → plus x + minus y ≤ plus y + minus x
+units-of-le {x} {y} h k e = leb→le (plus x + minus y) (plus y + minus x) (subst (λ (b : Bool). T b) (sym e ∙ le-units h k) tt)
+
+pub le-of-units : {x y : Float} → Finite x → Finite y → plus x + minus y ≤ plus y + minus x → le x y ≡ true
+le-of-units {x} {y} h k l = le-units h k ∙ is-true (leb (plus x + minus y) (plus y + minus x)) (le→leb (plus x + minus y) (plus y + minus x) l)
+
+pub eq-of-units : {x y : Float} → Finite x → Finite y → plus x + minus y ≡ plus y + minus x → eq x y ≡ true
+eq-of-units {x} {y} h k e = eq-units h k ∙ is-true (eqb (plus x + minus y) (plus y + minus x)) (eq→eqb e)
+
+-- what is below is not equal
+pub lt-not-eq : {x y : Float} → Finite x → Finite y → lt x y ≡ true → eq x y ≡ false
+lt-not-eq {x} {y} h k e =
+    let l = units-of-lt h k e in
+    eq-units h k ∙ is-false (eqb (plus x + minus y) (plus y + minus x)) (not-T (eqb (plus x + minus y) (plus y + minus x)) (λ t. let q = eqb→eq (plus x + minus y) (plus y + minus x) t in omega arith))
+
 -- among finite floats x ≤ y just where y < x fails
 pub le-not-lt : {x y : Float} → Finite x → Finite y → le x y ≡ not (lt y x)
-le-not-lt {x} {y} h k = le-units h k ∙ flip (plus x + minus y) (plus y + minus x) ∙ ap not (sym (lt-units k h))
-  where
-    flip : (a b : ℕ) → leb a b ≡ not (ltb b a)
-    flip a b =
-        same-test (leb a b) (not (ltb b a)) (λ t. le→nltb b a (leb→le a b t)) (λ t. le→leb a b (nltb→le b a t))
+le-not-lt {x} {y} h k = le-units h k ∙ sym (not-ltb (plus y + minus x) (plus x + minus y)) ∙ ap not (sym (lt-units k h))
+
+-- ---- tests against zero
+
+-- the literal 0.0
+pub zero64-finite : Finite zero64
+zero64-finite = subst (λ (x : Float). Finite x) (sym zero64-is) (zero-finite false)
+
+pub zero64-plus : plus zero64 ≡ 0
+zero64-plus = ap plus zero64-is ∙ zero-plus false
+
+pub zero64-minus : minus zero64 ≡ 0
+zero64-minus = ap minus zero64-is ∙ zero-minus false
+
+-- one part of a float is 0: the smaller one
+no-plus : (x : Float) → plus x ≤ minus x → plus x ≡ 0
+no-plus x l = ⊎-elim (λ s. omega (arith, s)) (λ s. s .0) (one-sided x)
+
+no-minus : (x : Float) → minus x ≤ plus x → minus x ≡ 0
+no-minus x l = ⊎-elim (λ s. s .1) (λ s. omega (arith, s)) (one-sided x)
+
+module _ {x : Float} (h : Finite x) where
+  -- x < 0.0
+  pub below-zero : lt x zero64 ≡ true → (plus x ≡ 0) × (0 < minus x)
+  below-zero e = let l : plus x < minus x = omega (arith, units-of-lt h zero64-finite e, zero64-plus, zero64-minus) in (no-plus x (omega arith), omega arith)
+
+  -- x < 0.0 fails: x is a zero or above
+  pub not-below-zero : lt x zero64 ≡ false → minus x ≡ 0
+  not-below-zero e = no-minus x (omega (arith, units-of-not-lt h zero64-finite e, zero64-plus, zero64-minus))
+
+  -- 0.0 < x
+  pub above-zero : lt zero64 x ≡ true → (0 < plus x) × (minus x ≡ 0)
+  above-zero e = let l : minus x < plus x = omega (arith, units-of-lt zero64-finite h e, zero64-plus, zero64-minus) in (omega arith, no-minus x (omega arith))
+
+  -- 0.0 < x fails: x is a zero or below
+  pub not-above-zero : lt zero64 x ≡ false → plus x ≡ 0
+  not-above-zero e = no-plus x (omega (arith, units-of-not-lt zero64-finite h e, zero64-plus, zero64-minus))

@@ -21,7 +21,8 @@ pub record Near (z : Float) (p n c h : ℕ) : Type 0 where
   pub over : plus z * c + n ≤ minus z * c + p + h * c
   pub under : minus z * c + p ≤ plus z * c + n + h * c
 
--- z is what binary64 makes of (p - n) / c units: the sign `minus?` and the fraction `top` / `bottom` handed to `round`. It may be an infinity.
+-- z is what binary64 makes of (p - n) / c units, a NaN excepted: finite, or an infinity. Its sign is `minus?`, and |p - n| is `size`;
+-- `top` / `bottom` is the fraction size / c in numbers, not in units, which was handed to `round`.
 pub record Result (z : Float) (p n c : ℕ) : Type 0 where
   pub minus? : Bool
   pub size : ℕ

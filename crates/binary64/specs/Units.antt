@@ -4,6 +4,7 @@ use Prim.Native.Nat.{ℕ, _*_, _/_, _^_, _<_}
 use mathlib.Core.Bool.{Bool, false, cond}
 use mathlib.Core.Path.{_≡_}
 use lib.Dec.{T}
+use lib.IntN.{pos}
 use lib.Ieee.{Float, nan, inf, fin, binary64, up, down, fits, round}
 use lib.Ieee.Scale as kit
 
@@ -46,6 +47,10 @@ minus x = cond (negative x) (mag x) 0
 -- The float with the sign s that is nearest to n units; ±n units itself, where binary64 holds that.
 abbrev pub ofUnits : Bool → ℕ → Float
 ofUnits s n = round binary64 s n one
+
+-- The zero with the sign s.
+abbrev pub signedZero : Bool → Float
+signedZero s = fin s 0 (pos 0)
 
 -- n has at most 53 binary digits before its closing zeros. Below `limit`, these are the magnitudes of the finite floats.
 pub record Digits53 (n : ℕ) : Type 0 where
