@@ -11,7 +11,8 @@ use lib.Ieee.{Float, nan}
 use Rattle.regions.specs.Row.{upTo}
 use Rattle.geometry.specs.declared.circle.Circle.{Circle}
 use Rattle.outline.specs.declared.arcs.BoundaryArc.{BoundaryArc}
-use Rattle.outline.specs.Numbers.{_+ᶠ_, _*ᶠ_, halfᶠ}
+use Rattle.binary64.specs.Constants.{half64}
+use Rattle.geometry.specs.Floats.{_+ᶠ_, _*ᶠ_}
 use Rattle.outline.specs.Outline.{owned, gap, collapsed, pointAt, between, arcFrom, arcsAt}
 
 -- the next index round a list of n is below n
@@ -27,7 +28,7 @@ module _ (cs : List Circle) (k : ℕ) (c : Circle) (phi : List Float) (m n i : �
       arcFrom cs k c (take m phi) i
       ≡ cond
       (not (collapsed (gap (getD phi i nan) (getD phi ((i + 1) % n) nan)))
-      && owned k (pointAt c (getD phi i nan +ᶠ gap (getD phi i nan) (getD phi ((i + 1) % n) nan) *ᶠ halfᶠ)) cs)
+      && owned k (pointAt c (getD phi i nan +ᶠ gap (getD phi i nan) (getD phi ((i + 1) % n) nan) *ᶠ half64)) cs)
       (between k c (getD phi i nan) (gap (getD phi i nan) (getD phi ((i + 1) % n) nan)) ∷ [])
       []
   unfolding arcFrom

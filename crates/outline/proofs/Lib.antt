@@ -1,5 +1,4 @@
 pub mod Arrays
-pub mod Sign
 pub mod Sorting
 pub mod Gathering
 pub mod Counting
@@ -7,3 +6,4 @@ pub mod Owning
 pub mod Gaps
 pub mod Summing
 pub mod Walking
+pub mod Listing

@@ -9,7 +9,7 @@ use lib.Ieee.{Float}
 use Rattle.regions.specs.Row.{upTo}
 use Rattle.geometry.specs.declared.circle.Circle.{Circle}
 use Rattle.outline.specs.declared.arcs.BoundaryArc.{BoundaryArc}
-use Rattle.outline.specs.Area.{addArc, addArcs}
+use Rattle.outline.specs.Area.{addArc, addArcs, addSlopes, addGradient}
 
 module _ (cs : List Circle) where
   -- the sum over two lists is that over the second, onto that over the first
@@ -29,3 +29,16 @@ module _ (cs : List Circle) where
       → addArcs cs total (upTo f (i + 1)) ≡ addArcs cs (addArcs cs total (upTo f i)) (f i)
   unfolding upTo
   addArcs-upTo total f i = rw (add-one i) (addArcs-append total (upTo f i) (f i))
+
+module _ (cs : List Circle) where
+  -- the gradient of two lists, one after the other
+  pub addGradient-append : (g : List Float) (a b : List BoundaryArc) → addGradient cs g (a ++ b) ≡ addGradient cs (addGradient cs g a) b
+  unfolding addGradient
+  addGradient-append g [] b = refl
+  addGradient-append g (arc ∷ a) b = addGradient-append (addSlopes cs g arc) a b
+
+  -- one arc more
+  pub addGradient-suc : (g : List Float) (arcs : List BoundaryArc) (i : ℕ) (d : BoundaryArc) → i < length arcs
+      → addGradient cs g (take (i + 1) arcs) ≡ addSlopes cs (addGradient cs g (take i arcs)) (getD arcs i d)
+  unfolding addGradient
+  addGradient-suc g arcs i d h = rw (add-one i, take-suc arcs i d h) (addGradient-append g (take i arcs) (getD arcs i d ∷ []))

@@ -1,6 +1,6 @@
 -- The members of a set one after another: laws for the loops that go through them, and how a set's lists make its members.
 use mathlib.Core.Path.{_≡_, refl, sym, ap, ap₂, _∙_}
-use mathlib.Core.List.{List, [], _∷_, _++_, map}
+use mathlib.Core.List.{List, [], _∷_, _++_, map, map-append, append-assoc, append-nil}
 use Prim.Native.Nat.{ℕ, zero, suc, _+_, _≤_, _<_, min}
 use native.Mathlib.Numerals.{add-one}
 use native.Mathlib.Omega.{arith}
@@ -12,10 +12,12 @@ use Rattle.outline.specs.declared.points.IntersectionPoint.{Intersection
 use Rattle.outline.specs.declared.arcs.BoundaryArc.{BoundaryArc}
 use Rattle.outline.specs.Outline.{Member, circlesOf, fullCircle, anglesOf, angleAbout, arcsAt, outlineFrom, outline}
 use Rattle.outline.specs.Sort.{sorted}
-use Rattle.outline.specs.Numbers.{_*ᶠ_, zeroᶠ, halfᶠ}
+use Rattle.binary64.specs.Constants.{zero64, half64}
+use Rattle.geometry.specs.Floats.{_*ᶠ_}
 use Rattle.outline.specs.Area.{noCircle, addArc, addArcs, areaOf, openArea}
 use Rattle.outline.proofs.Summing.{addArcs-append}
-use Rattle.outline.specs.Set.{headsOf, pointsFor, pointsHeld, circleAt, memberAt, membersOf, membersWith}
+use Rattle.outline.proofs.Listing.{take-compose}
+use Rattle.outline.specs.Set.{headsOf, pointsFor, pointsHeld, circleAt, memberAt, membersOf, membersWith, numbered, arcsHeld, regionArcs}
 
 -- no more points than are held
 pub points-few : (points : List IntersectionPoint) (S j : ℕ) → length (pointsFor points S j) ≤ 32
@@ -86,7 +88,7 @@ pub sum-end : (points : List IntersectionPoint) (S : ℕ) (js : List ℕ) (cs : 
 unfolding addArcs
 sum-end points S js cs k total h = rw (outline-end points S js cs cs k h)
 
-open-area : (ms : List Member) → openArea ms ≡ halfᶠ *ᶠ addArcs (circlesOf ms) zeroᶠ (outline ms)
+open-area : (ms : List Member) → openArea ms ≡ half64 *ᶠ addArcs (circlesOf ms) zero64 (outline ms)
 unfolding openArea areaOf
 open-area ms = refl
 
@@ -96,11 +98,11 @@ one-arc cs total arc = refl
 
 -- the area of one member, and of any other number, from the circles of the members
 pub area-one : (ms : List Member) (cs : List Circle) (c : Circle) → length ms ≡ 1 → cs ≡ circlesOf ms → c ≡ getD cs 0 noCircle
-    → halfᶠ *ᶠ addArc cs zeroᶠ (fullCircle 0 c) ≡ openArea ms
+    → half64 *ᶠ addArc cs zero64 (fullCircle 0 c) ≡ openArea ms
 area-one ms cs c h e f = rw (open-area ms, outline-one ms h, f, e, one-arc)
 
 pub area-other : (ms : List Member) (cs : List Circle) → (length ms ≡ 1 → ⊥) → cs ≡ circlesOf ms
-    → halfᶠ *ᶠ addArcs cs zeroᶠ (outlineFrom cs 0 ms) ≡ openArea ms
+    → half64 *ᶠ addArcs cs zero64 (outlineFrom cs 0 ms) ≡ openArea ms
 area-other ms cs h e = rw (open-area ms, e, outline-other ms h)
 
 -- the members of a set, from the lists of their numbers and circles
@@ -109,3 +111,38 @@ pub members-are : (circles : List Circle) (points : List IntersectionPoint) (S :
     → membersWith points S js cs ≡ membersOf circles points S
 unfolding membersOf
 members-are circles points S js cs e f = rw (e, f) (members-with circles points S (headsOf (length circles) S))
+
+-- one member's arcs, pushed
+pub push-step : (m : ℕ) (num : BoundaryArc → BoundaryArc) (points : List IntersectionPoint) (S : ℕ) (js : List ℕ) (cs : List Circle) (k : ℕ)
+    → k < length js → k < length cs
+    → (c : Circle) (j : ℕ) (phis : List Float) (l more : List BoundaryArc)
+    → c ≡ getD cs k noCircle → j ≡ getD js k 0 → phis ≡ sorted (map (angleAbout c) (pointsFor points S j))
+    → more ≡ take m (l ++ map num (arcsAt cs k c phis))
+    → take m (more ++ map num (outlineFrom cs (k + 1) (membersWith points S (drop (k + 1) js) (drop (k + 1) cs))))
+    ≡ take m (l ++ map num (outlineFrom cs k (membersWith points S (drop k js) (drop k cs))))
+push-step m num points S js cs k h g c j phis l more ec ej ep em =
+    let own = arcsAt cs k (getD cs k noCircle) (sorted (map (angleAbout (getD cs k noCircle)) (pointsFor points S (getD js k 0)))) in
+    let rest = outlineFrom cs (k + 1) (membersWith points S (drop (k + 1) js) (drop (k + 1) cs)) in
+    rw (em, ep, ec, ej, outline-step points S js cs cs k h g)
+    (take-compose m (l ++ map num own) (map num rest)
+    ∙ ap (take m) (append-assoc l (map num own) (map num rest) ∙ ap (λ t. l ++ t) (sym (map-append num own rest))))
+
+-- the last member is past
+pub push-end : (num : BoundaryArc → BoundaryArc) (points : List IntersectionPoint) (S : ℕ) (js : List ℕ) (cs : List Circle) (k : ℕ) (l : List BoundaryArc)
+    → length js ≤ k → l ++ map num (outlineFrom cs k (membersWith points S (drop k js) (drop k cs))) ≡ l
+push-end num points S js cs k l h = rw (outline-end points S js cs cs k h) (append-nil l)
+
+region-arcs : (circles : List Circle) (points : List IntersectionPoint) (S : ℕ)
+    → regionArcs circles points S ≡ take arcsHeld (map (numbered (headsOf (length circles) S)) (outline (membersOf circles points S)))
+unfolding regionArcs
+region-arcs circles points S = refl
+
+module _ (circles : List Circle) (points : List IntersectionPoint) (S : ℕ) (js : List ℕ) (cs : List Circle) (heads : js ≡ headsOf (length circles) S) (theirs : cs ≡ circlesOf (membersOf circles points S)) where
+  -- the arcs of one member, and of any other number, under head numbers
+  pub arcs-one : (c : Circle) → length (membersOf circles points S) ≡ 1 → c ≡ getD cs 0 noCircle
+      → take arcsHeld (numbered js (fullCircle 0 c) ∷ []) ≡ regionArcs circles points S
+  arcs-one c h f = rw (region-arcs circles points S, outline-one (membersOf circles points S) h, f, theirs, heads)
+
+  pub arcs-other : (length (membersOf circles points S) ≡ 1 → ⊥)
+      → take arcsHeld (map (numbered js) (outlineFrom cs 0 (membersOf circles points S))) ≡ regionArcs circles points S
+  arcs-other h = rw (region-arcs circles points S, outline-other (membersOf circles points S) h, theirs, heads)

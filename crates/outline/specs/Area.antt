@@ -9,7 +9,9 @@ use lib.Ieee.{Float, nan}
 use Rattle.elementary.specs.Sine.{sin, cos}
 use Rattle.geometry.specs.declared.circle.Circle.{Circle}
 use Rattle.outline.specs.declared.arcs.BoundaryArc.{BoundaryArc}
-use Rattle.outline.specs.Numbers.{_+ᶠ_, _-ᶠ_, _*ᶠ_, zeroᶠ, halfᶠ, absolute, signum}
+use Rattle.binary64.specs.Constants.{zero64, half64}
+use Rattle.binary64.specs.Functions.{absolute, signumOf}
+use Rattle.geometry.specs.Floats.{_+ᶠ_, _-ᶠ_, _*ᶠ_}
 use Rattle.outline.specs.Outline.{Member, circlesOf, outline}
 
 -- what stands for a circle that the list does not have
@@ -41,7 +43,7 @@ addArcs cs total (arc ∷ arcs) = addArcs cs (addArc cs total arc) arcs
 -- the area that the arcs enclose
 unfoldable pub areaOf : List Circle → List BoundaryArc → Float
 unfolding addArcs
-areaOf cs arcs = halfᶠ *ᶠ addArcs cs zeroᶠ arcs
+areaOf cs arcs = half64 *ᶠ addArcs cs zero64 arcs
 
 -- ---- gradient: x, y and radius of each circle in turn
 
@@ -54,10 +56,9 @@ subAt g i x = set g i (getD g i nan -ᶠ x)
 
 -- one arc of a circle, added to that circle's three entries
 unfoldable pub arcSlopes : List Float → Circle → BoundaryArc → List Float
-unfolding signum absolute
 arcSlopes g c arc =
     let r = c .radius in
-    let sign = signum (arc .«delta_phi») in
+    let sign = signumOf (arc .«delta_phi») in
     let off = arc .circle * 3 in
     let gx = addAt g off (sign *ᶠ r *ᶠ (sin (arc .«phi_end») -ᶠ sin (arc .«phi_start»))) in
     let gy = subAt gx (off + 1) (sign *ᶠ r *ᶠ (cos (arc .«phi_end») -ᶠ cos (arc .«phi_start»))) in
@@ -83,4 +84,4 @@ openArea ms = areaOf (circlesOf ms) (outline ms)
 -- its gradient, by position
 unfoldable pub openGradient : List Member → List Float
 unfolding addGradient outline
-openGradient ms = addGradient (circlesOf ms) (replicate (3 * length ms) zeroᶠ) (outline ms)
+openGradient ms = addGradient (circlesOf ms) (replicate (3 * length ms) zero64) (outline ms)

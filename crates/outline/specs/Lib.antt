@@ -1,4 +1,3 @@
-pub mod Numbers
 pub mod Sort
 pub mod Outline
 pub mod Area

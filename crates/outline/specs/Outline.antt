@@ -11,7 +11,11 @@ use Rattle.elementary.specs.Arctangent.{atan2}
 use Rattle.geometry.specs.declared.point.Point.{Point}
 use Rattle.geometry.specs.declared.circle.Circle.{Circle}
 use Rattle.outline.specs.declared.arcs.BoundaryArc.{BoundaryArc}
-use Rattle.outline.specs.Numbers.{_+ᶠ_, _-ᶠ_, _*ᶠ_, _/ᶠ_, _<ᶠ_, _≤ᶠ_, zeroᶠ, halfᶠ, oneᶠ, twoᶠ, absolute, remEuclid, pi, twoPi, arcTolerance, coincidence, leastTolerance}
+use Rattle.binary64.specs.Constants.{zero64, half64, one64, two64, pi, twoPi}
+use Rattle.binary64.specs.Functions.{absolute, largerOf, remEuclid}
+use Rattle.geometry.specs.Point.{at}
+use Rattle.geometry.specs.Floats.{_+ᶠ_, _-ᶠ_, _*ᶠ_, _/ᶠ_, _<ᶠ_, _≤ᶠ_}
+use Rattle.geometry.specs.Tolerances.{arcEps, coincidence, coincidenceShare}
 use Rattle.regions.specs.Row.{upTo}
 use Rattle.outline.specs.Sort.{sorted}
 
@@ -31,16 +35,16 @@ implicitValue p c =
 
 -- How far from 1 the implicit form counts as 1: twice the distance 1e-7 over the radius, and at least 1e-12.
 unfoldable pub tolerance : Circle → Float
-tolerance c = let e = twoᶠ *ᶠ coincidence /ᶠ c .radius in cond (leastTolerance <ᶠ e) e leastTolerance
+tolerance c = largerOf (two64 *ᶠ coincidence /ᶠ c .radius) coincidenceShare
 
 -- The member at position l lets the one at k have the point p: l is k, or p is not beyond l's circle, and not on its
 -- edge with l the lower position.
 unfoldable pub lets : ℕ → Point → ℕ → Circle → Bool
-unfolding tolerance implicitValue absolute
+unfolding tolerance implicitValue
 lets k p l c =
     eqb l k
-    || (not (oneᶠ +ᶠ tolerance c <ᶠ implicitValue p c)
-    && not (absolute (implicitValue p c -ᶠ oneᶠ) ≤ᶠ tolerance c && ltb l k))
+    || (not (one64 +ᶠ tolerance c <ᶠ implicitValue p c)
+    && not ((absolute (implicitValue p c -ᶠ one64) ≤ᶠ tolerance c) && ltb l k))
 
 -- all of the circles, from position l on, let k have p
 unfoldable pub ownedFrom : ℕ → Point → ℕ → List Circle → Bool
@@ -56,7 +60,6 @@ owned k p cs = ownedFrom k p 0 cs
 
 -- An angle wrapped into (-π, π].
 unfoldable pub wrapAngle : Float → Float
-unfolding remEuclid
 wrapAngle x = let y = remEuclid x twoPi in cond (pi <ᶠ y) (y -ᶠ twoPi) y
 
 -- the angle of a point about a circle's centre
@@ -65,25 +68,25 @@ angleAbout c p = atan2 (p .y -ᶠ c .center .y) (p .x -ᶠ c .center .x)
 
 -- the point of a circle's edge at an angle
 unfoldable pub pointAt : Circle → Float → Point
-pointAt c phi = record { x = c .center .x +ᶠ c .radius *ᶠ cos phi; y = c .center .y +ᶠ c .radius *ᶠ sin phi }
+pointAt c phi = at (c .center .x +ᶠ c .radius *ᶠ cos phi) (c .center .y +ᶠ c .radius *ᶠ sin phi)
 
 -- the point of a circle's edge straight to the right
 unfoldable pub probe : Circle → Point
-probe c = record { x = c .center .x +ᶠ c .radius; y = c .center .y }
+probe c = at (c .center .x +ᶠ c .radius) (c .center .y)
 
 -- the gap from one angle counterclockwise to another
 unfoldable pub gap : Float → Float → Float
-gap a b = let delta = b -ᶠ a in cond (delta ≤ᶠ zeroᶠ) (delta +ᶠ twoPi) delta
+gap a b = let delta = b -ᶠ a in cond (delta ≤ᶠ zero64) (delta +ᶠ twoPi) delta
 
 -- A gap of nothing or of a full turn, within 1e-9, is skipped.
 unfoldable pub collapsed : Float → Bool
-collapsed delta = (delta <ᶠ arcTolerance) || (twoPi -ᶠ arcTolerance <ᶠ delta)
+collapsed delta = (delta <ᶠ arcEps) || (twoPi -ᶠ arcEps <ᶠ delta)
 
 -- ---- arcs
 
 -- The two makers of an arc of the member at a position. The whole circle:
 unfoldable pub fullCircle : ℕ → Circle → BoundaryArc
-fullCircle k c = record { circle = k; «phi_start» = zeroᶠ; «phi_end» = zeroᶠ; «delta_phi» = twoPi }
+fullCircle k c = record { circle = k; «phi_start» = zero64; «phi_end» = zero64; «delta_phi» = twoPi }
 
 -- From an angle over a gap:
 unfoldable pub between : ℕ → Circle → Float → Float → BoundaryArc
@@ -97,7 +100,7 @@ unfolding gap collapsed pointAt between ownedFrom
 arcFrom cs k c phis i =
     let a = getD phis i nan in
     let delta = gap a (getD phis ((i + 1) % length phis) nan) in
-    cond (not (collapsed delta) && owned k (pointAt c (a +ᶠ delta *ᶠ halfᶠ)) cs) (between k c a delta ∷ []) []
+    cond (not (collapsed delta) && owned k (pointAt c (a +ᶠ delta *ᶠ half64)) cs) (between k c a delta ∷ []) []
 
 -- The arcs of the member at k, whose sorted angles are given. With no angle: its full circle, if the probe is k's own.
 -- "A head with just one meeting point counted for it gets no arc there": its one gap is a full turn.

@@ -3,7 +3,7 @@ use Prim.Native.Nat.{ℕ, suc}
 use mathlib.Core.Bool.{cond}
 use mathlib.Core.List.{List, [], _∷_}
 use lib.Ieee.{Float}
-use Rattle.outline.specs.Numbers.{_<ᶠ_}
+use Rattle.geometry.specs.Floats.{_<ᶠ_}
 
 -- x before the first that is greater than x
 unfoldable pub insert : Float → List Float → List Float

@@ -1,7 +1,5 @@
 // Angles about a circle's centre, and points of its edge. Rests on specs/Outline.antt.
-use crate::numbers::PI;
-use crate::numbers::TWO_PI;
-use crate::numbers::rem_euclid;
+use binary64::rem_euclid;
 use elementary::arctangent::atan2;
 use elementary::sine::cos;
 use elementary::sine::sin;
@@ -10,15 +8,15 @@ use geometry::point::Point;
 ghost use mathlib.Core.Path.{_≡_};
 ghost use Rattle.outline.specs.Outline.{wrapAngle, angleAbout, pointAt, probe, gap, collapsed};
 
-// Two angles whose gap is smaller are one meeting; so are two whose gap lacks less of a full turn.
-const ARC_TOLERANCE: f64 = 1e-9;
+// A full turn.
+pub const TWO_PI: f64 = 2.0 * Circle::PI;
 
 // An angle wrapped into (-π, π].
 pub fn wrap_angle(x: f64) -> f64
     ensures { λ r. ⌜ r ≡ wrapAngle x ⌝ }
 {
     let y = rem_euclid(x, TWO_PI);
-    if y > PI { y - TWO_PI } else { y }
+    if y > Circle::PI { y - TWO_PI } else { y }
 }
 
 // The angle of a point about a circle's centre.
@@ -32,20 +30,17 @@ pub fn angle_about(circle: Circle, p: Point) -> f64
 pub fn point_at(circle: Circle, phi: f64) -> Point
     ensures { λ r. ⌜ r ≡ pointAt circle phi ⌝ }
 {
-    Point {
-        x: circle.center.x + circle.radius * cos(phi),
-        y: circle.center.y + circle.radius * sin(phi),
-    }
+    Point::new(
+        circle.center.x + circle.radius * cos(phi),
+        circle.center.y + circle.radius * sin(phi),
+    )
 }
 
 // The point of a circle's edge straight to the right.
 pub fn probe(circle: Circle) -> Point
     ensures { λ r. ⌜ r ≡ probe circle ⌝ }
 {
-    Point {
-        x: circle.center.x + circle.radius,
-        y: circle.center.y,
-    }
+    Point::new(circle.center.x + circle.radius, circle.center.y)
 }
 
 // The gap from one angle counterclockwise to another.
@@ -60,5 +55,5 @@ pub fn gap(phi_a: f64, phi_b: f64) -> f64
 pub fn collapsed(delta: f64) -> bool
     ensures { λ r. ⌜ r ≡ collapsed delta ⌝ }
 {
-    delta < ARC_TOLERANCE || delta > TWO_PI - ARC_TOLERANCE
+    delta < Circle::ARC_EPS || delta > TWO_PI - Circle::ARC_EPS
 }

@@ -1,6 +1,6 @@
 // An arc of an outline, and its two makers. Rests on specs/Outline.antt.
+use crate::angles::TWO_PI;
 use crate::angles::wrap_angle;
-use crate::numbers::TWO_PI;
 use geometry::circle::Circle;
 ghost use mathlib.Core.Path.{_≡_};
 ghost use Rattle.outline.specs.Outline.{fullCircle, between};

@@ -18,7 +18,7 @@ use geometry::circle::Circle;
 ghost use mathlib.Core.Path.{_≡_};
 ghost use lib.ListN.{take};
 ghost use Rattle.outline.specs.Outline.{arcsAt, outlineFrom};
-ghost use Rattle.outline.specs.Numbers.{zeroᶠ};
+ghost use Rattle.binary64.specs.Constants.{zero64};
 ghost use Rattle.outline.specs.Area.{arcTerms, addArc, addArcs, areaOf, openArea};
 ghost use Rattle.outline.specs.Set.{membersOf, membersWith};
 ghost use Rattle.outline.specs.Lists.{angleList, pointList, headList, circleList, candidateList, arcList};
@@ -95,7 +95,7 @@ fn add_member(total: f64, k: usize, circle: Circle, angles: Angles, set: Members
 
 // The arcs of all members of a set, added up.
 fn outline_sum(mask: usize, set: Members, points: Intersections) -> f64
-    ensures { λ r. ⌜ r ≡ addArcs (circleList set) zeroᶠ (outlineFrom (circleList set) 0 (membersWith (pointList points) mask (headList set) (circleList set))) ⌝ }
+    ensures { λ r. ⌜ r ≡ addArcs (circleList set) zero64 (outlineFrom (circleList set) 0 (membersWith (pointList points) mask (headList set) (circleList set))) ⌝ }
 {
     let n = set.n;
     let mut total = 0.0;

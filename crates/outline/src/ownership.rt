@@ -1,18 +1,13 @@
 // Which member of a set has a point of its edge: where edges coincide, the one at the lowest position.
 // Rests on `lets` and `owned` of specs/Outline.antt.
 use crate::members::Members;
-use crate::numbers::abs;
+use binary64::abs;
+use binary64::larger;
 use geometry::circle::Circle;
 use geometry::point::Point;
 ghost use mathlib.Core.Path.{_≡_};
 ghost use Rattle.outline.specs.Outline.{implicitValue, tolerance, lets, owned};
 ghost use Rattle.outline.specs.Lists.{circleList};
-
-// The distance at which two edges count as one.
-const BOUNDARY_COINCIDENCE_GEOM_TOL: f64 = 1e-7;
-
-// The least tolerance of the implicit form, against rounding on large circles.
-const IMPLICIT_VALUE_FP_TOL: f64 = 1e-12;
 
 // The implicit form of a circle at a point: below 1 inside, 1 on the edge, above 1 outside.
 pub fn circle_implicit_value(p: Point, c: Circle) -> f64
@@ -27,12 +22,10 @@ pub fn circle_implicit_value(p: Point, c: Circle) -> f64
 pub fn tolerance(c: Circle) -> f64
     ensures { λ r. ⌜ r ≡ tolerance c ⌝ }
 {
-    let eps = 2.0 * BOUNDARY_COINCIDENCE_GEOM_TOL / c.radius;
-    if IMPLICIT_VALUE_FP_TOL < eps {
-        eps
-    } else {
-        IMPLICIT_VALUE_FP_TOL
-    }
+    larger(
+        2.0 * Circle::BOUNDARY_COINCIDENCE_GEOM_TOL / c.radius,
+        Circle::IMPLICIT_VALUE_FP_TOL,
+    )
 }
 
 // The member at l, whose circle is c, lets the one at k have the point p.

@@ -1,12 +1,15 @@
 -- `angles::probe` meets its contract.
-use mathlib.Core.Path.{refl}
 use Rattle.outline.specs.Outline.{probe}
+use borrow.Author.Needs.{needs}
 use Rattle.outline.proofs.angles.probe.Statement.{statement}
 use Rattle.outline.proofs.angles.probe.Tie as tie
 
+new-requires : tie.Need-new-requires
+new-requires c κs = search needs
+
 returns : tie.Need-returns
 unfolding probe
-returns c = refl
+returns c = c .new .ensures
 
 pub probe-spec : {M : Type 1} → statement M
-probe-spec = tie.close (tie.spec returns)
+probe-spec = tie.close (tie.spec new-requires returns)

@@ -4,7 +4,7 @@ use Prim.Native.Nat.{_+_, _-_, _≤_, _<_}
 use native.Mathlib.Omega.{arith}
 use lib.ListN.{length, take}
 use lib.Seq.{take-all}
-use Rattle.outline.specs.Numbers.{zeroᶠ}
+use Rattle.binary64.specs.Constants.{zero64}
 use Rattle.outline.specs.Area.{addArcs, areaOf}
 use Rattle.outline.specs.Set.{noArc}
 use Rattle.outline.specs.Lists.{arcList}
@@ -14,7 +14,7 @@ use Rattle.outline.proofs.area.area_from_boundary_arcs.Statement.{state
 use Rattle.outline.proofs.area.area_from_boundary_arcs.Tie as tie
 
 abbrev Inv-loop : tie.InvT-loop
-Inv-loop circles n-sets arcs n total₀ i₀ total i = (length (arcs .all) ≡ 180) × (n ≡ arcs .n) × (i ≤ 180) × (i ≤ n) × (total ≡ addArcs (take n-sets circles) zeroᶠ (take i (arcs .all)))
+Inv-loop circles n-sets arcs n total₀ i₀ total i = (length (arcs .all) ≡ 180) × (n ≡ arcs .n) × (i ≤ 180) × (i ≤ n) × (total ≡ addArcs (take n-sets circles) zero64 (take i (arcs .all)))
 
 abbrev μ-loop : tie.MeasureT-loop
 μ-loop circles n-sets arcs n total₀ i₀ total i = 180 - i
@@ -46,7 +46,7 @@ loop-less c = omega arith
 
 loop-again : tie.Need-loop-again Inv-loop μ-loop
 loop-again c = let l = c .before .before .before .before .loop in let a = c .before .before .before .before .before .args in
-    (l .inv .0, refl, omega arith, omega arith, c .add-arc .ensures ∙ rw (l .inv .4) (sym (addArcs-suc (take (a .n-sets) (a .circles)) zeroᶠ (a .t1 .all) (l .i) noArc (omega arith))))
+    (l .inv .0, refl, omega arith, omega arith, c .add-arc .ensures ∙ rw (l .inv .4) (sym (addArcs-suc (take (a .n-sets) (a .circles)) zero64 (a .t1 .all) (l .i) noArc (omega arith))))
 
 returns-2 : tie.Need-returns-2 Inv-loop μ-loop
 unfolding areaOf

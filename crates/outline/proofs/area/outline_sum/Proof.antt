@@ -5,7 +5,7 @@ use Prim.Native.Nat.{_+_, _-_, _≤_, _<_}
 use native.Mathlib.Omega.{arith}
 use lib.ListN.{length, getD, take, drop, length-take}
 use lib.Seq.{getD-take}
-use Rattle.outline.specs.Numbers.{zeroᶠ}
+use Rattle.binary64.specs.Constants.{zero64}
 use Rattle.outline.specs.Outline.{outlineFrom}
 use Rattle.outline.specs.Area.{noCircle, addArcs}
 use Rattle.outline.specs.Set.{membersWith}
@@ -16,7 +16,7 @@ use Rattle.outline.proofs.area.outline_sum.Statement.{statement}
 use Rattle.outline.proofs.area.outline_sum.Tie as tie
 
 abbrev Inv-loop : tie.InvT-loop
-Inv-loop mask points set n total₀ k₀ total k = (length (set .heads) ≡ 10) × (length (set .circles) ≡ 10) × (n ≡ set .n) × (k ≤ 10) × (k ≤ n) × (addArcs (circleList set) total (outlineFrom (circleList set) k (membersWith (pointList points) mask (drop k (headList set)) (drop k (circleList set)))) ≡ addArcs (circleList set) zeroᶠ (outlineFrom (circleList set) 0 (membersWith (pointList points) mask (headList set) (circleList set))))
+Inv-loop mask points set n total₀ k₀ total k = (length (set .heads) ≡ 10) × (length (set .circles) ≡ 10) × (n ≡ set .n) × (k ≤ 10) × (k ≤ n) × (addArcs (circleList set) total (outlineFrom (circleList set) k (membersWith (pointList points) mask (drop k (headList set)) (drop k (circleList set)))) ≡ addArcs (circleList set) zero64 (outlineFrom (circleList set) 0 (membersWith (pointList points) mask (headList set) (circleList set))))
 
 abbrev μ-loop : tie.MeasureT-loop
 μ-loop mask points set n total₀ k₀ total k = 10 - k

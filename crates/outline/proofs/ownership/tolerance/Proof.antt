@@ -1,15 +1,15 @@
 -- `ownership::tolerance` meets its contract.
 use Rattle.outline.specs.Outline.{tolerance}
+use borrow.Author.Needs.{needs}
 use Rattle.outline.proofs.ownership.tolerance.Statement.{statement}
 use Rattle.outline.proofs.ownership.tolerance.Tie as tie
 
+larger-requires : tie.Need-larger-requires
+larger-requires c κs = search needs
+
 returns : tie.Need-returns
 unfolding tolerance
-returns c = rw (c .if1 .taken)
-
-returns-2 : tie.Need-returns-2
-unfolding tolerance
-returns-2 c = rw (c .if1 .left)
+returns c = c .larger .ensures
 
 pub tolerance-spec : {M : Type 1} → statement M
-tolerance-spec = tie.close (tie.spec returns returns-2)
+tolerance-spec = tie.close (tie.spec larger-requires returns)

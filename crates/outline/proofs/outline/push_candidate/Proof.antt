@@ -1,0 +1,35 @@
+-- `outline::push_candidate` meets its contract.
+use mathlib.Core.Path.{_≡_, refl, sym, ap}
+use lib.ListN.{length}
+use Rattle.outline.proofs.Arrays.{length-of-values}
+use Rattle.outline.proofs.Listing.{pushed-none}
+use borrow.Author.Needs.{needs}
+use Rattle.outline.proofs.outline.push_candidate.Statement.{statement}
+use Rattle.outline.proofs.outline.push_candidate.Tie as tie
+
+-- the array has 180 places
+long : (c : tie.Start) → length (c .args .arcs .all) ≡ 180
+long c = search length-of-values
+
+enum-known-candidate : tie.Need-enum-known-candidate
+enum-known-candidate c = search needs
+
+numbered-requires : tie.Need-numbered-requires
+numbered-requires c κs = search needs
+
+push-requires : tie.Need-push-requires
+push-requires c κs = search needs
+
+enum-told : tie.Need-enum-told
+enum-told c = search needs
+
+returns : tie.Need-returns
+returns c = rw (c .before .before .before .candidate .given .1, ← (c .before .numbered .ensures)) (c .push .ensures)
+
+returns-2 : tie.Need-returns-2
+returns-2 c = let s = c .before .before in rw (c .enum-told .given .1) (pushed-none (s .args .arcs .all) 180 (s .args .arcs .n) (long s))
+
+pub push-candidate-spec : {M : Type 1} → statement M
+push-candidate-spec =
+    tie.close
+    (tie.spec enum-known-candidate numbered-requires push-requires enum-told returns returns-2)

@@ -1,0 +1,45 @@
+-- `replay::main` is safe and ends: the turns count down.
+use borrow.Author.Needs.{needs}
+use Rattle.replay.proofs.main.Statement.{statement}
+use Rattle.replay.proofs.main.Tie as tie
+
+abbrev Inv-loop : tie.InvT-loop
+Inv-loop words₀ r₀ turns₀ words r turns = Unit
+
+abbrev μ-loop : tie.MeasureT-loop
+μ-loop words₀ r₀ turns₀ words r turns = turns
+
+loop-holds : tie.Need-loop-holds Inv-loop μ-loop
+loop-holds c = tt
+
+next-part-requires : tie.Need-next-part-requires Inv-loop μ-loop
+next-part-requires c κs = search needs
+
+sub-turns : tie.Need-sub-turns Inv-loop μ-loop
+sub-turns c = search needs
+
+loop-less : tie.Need-loop-less Inv-loop μ-loop
+loop-less c = search needs
+
+loop-again : tie.Need-loop-again Inv-loop μ-loop
+loop-again c = tt
+
+print-sums-requires : tie.Need-print-sums-requires Inv-loop μ-loop
+print-sums-requires c κs = search needs
+
+returns : tie.Need-returns Inv-loop μ-loop
+returns c = search needs
+
+pub main-spec : {M : Type 1} → statement M
+main-spec =
+    tie.close
+    (tie.spec
+    Inv-loop
+    μ-loop
+    loop-holds
+    next-part-requires
+    sub-turns
+    loop-less
+    loop-again
+    print-sums-requires
+    returns)
