@@ -14,6 +14,7 @@ use Rattle.geometry.specs.Floats.{_+ᶠ_, _-ᶠ_, _*ᶠ_, _/ᶠ_}
 use Rattle.outline.specs.Outline.{Member, circlesOf, outline}
 use Rattle.outline.specs.Area.{noCircle, addAt, subAt}
 use Rattle.outline.specs.declared.arcs.BoundaryArc.{BoundaryArc}
+use Rattle.clip.specs.declared.edges.Edge.{Edge}
 use Rattle.clip.specs.Span.{Interval, horizontalSpan, verticalSpan}
 use Rattle.clip.specs.Breaks.{breaks}
 use Rattle.clip.specs.Parts.{overPairs, summed}
@@ -81,14 +82,6 @@ moved false g i x = subAt g i x
 -- 4.0
 abbrev pub fourᶠ : Float
 fourᶠ = ofBits binary64 0x4010000000000000
-
--- An edge of the box: whether it is vertical, whether its outward side is the side of greater x or y, the factor of its
--- length in the area, and the box's side across it.
-pub record Edge : Type 0 where
-  pub upright : Bool
-  pub outward : Bool
-  pub factor : Float
-  pub across : Float
 
 -- The share of a span of length l in the box's four entries from `at` on: the edge moves with the centre, and by a
 -- quarter of the side across with each size parameter.

@@ -2,5 +2,8 @@
 // `outline` and, by name alone, on the functions of `elementary`.
 pub mod area;
 pub mod breaks;
+pub mod edges;
+pub mod gradient;
 pub mod parts;
+pub mod slopes;
 pub mod span;
