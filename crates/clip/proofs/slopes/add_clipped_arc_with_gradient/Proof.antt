@@ -1,0 +1,60 @@
+-- `slopes::add_clipped_arc_with_gradient` meets its contract.
+use borrow.Author.Needs.{needs}
+use mathlib.Core.Path.{_≡_, refl, sym, _∙_, ap}
+use native.Mathlib.Omega.{arith}
+use borrow.Author.Tests.{le-ltb, lt-ltb}
+use lib.ListN.{length, take, length-take}
+use lib.Seq.{getD-take}
+use Rattle.outline.specs.Area.{noCircle}
+use Rattle.clip.specs.Gradient.{onto, addClippedArcWithGradient}
+use Rattle.clip.proofs.slopes.add_clipped_arc_with_gradient.Statement.{statement}
+use Rattle.clip.proofs.slopes.add_clipped_arc_with_gradient.Tie as tie
+
+-- there are ten circles
+long : (c : tie.Start) → length (c .args .t4) ≡ 10
+long c = search needs
+
+returns : tie.Need-returns
+unfolding addClippedArcWithGradient
+returns c = let a = c .before .before .args in
+    rw (le-ltb (a .arc .circle) (length (take (a .n) (a .t4))) (omega (arith, length-take (a .n) (a .t4))))
+
+returns-2 : tie.Need-returns-2
+unfolding addClippedArcWithGradient
+returns-2 c = let s = c .before .before .before in
+    let a = s .args in
+    rw (le-ltb (a .arc .circle) (length (take (a .n) (a .t4))) (omega (arith, length-take (a .n) (a .t4), long s)))
+
+mul-clipped-arc-integral-with-gradient : tie.Need-mul-clipped-arc-integral-with-gradient
+mul-clipped-arc-integral-with-gradient c = search needs
+
+array-copy-out-clipped-arc-integral-with-gradient :
+    tie.Need-array-copy-out-clipped-arc-integral-with-gradient
+array-copy-out-clipped-arc-integral-with-gradient c = search needs
+
+clipped-arc-integral-with-gradient-requires : tie.Need-clipped-arc-integral-with-gradient-requires
+clipped-arc-integral-with-gradient-requires c κs = search needs
+
+same-length : tie.Need-same-length
+same-length c = search needs
+
+returns-3 : tie.Need-returns-3
+unfolding addClippedArcWithGradient
+returns-3 c = let p = c .before .before in
+    let e = p .before .before .before .before in
+    let s = e .before .before in
+    let a = s .args in
+    rw (lt-ltb (a .arc .circle) (length (take (a .n) (a .t4))) (omega (arith, length-take (a .n) (a .t4), long s)), getD-take (a .n) (a .t4) (a .arc .circle) noCircle (e .if1 .left))
+    (ap (onto (a .total)) (p .clipped-arc-integral-with-gradient .ensures))
+
+pub add-clipped-arc-with-gradient-spec : {M : Type 1} → statement M
+add-clipped-arc-with-gradient-spec =
+    tie.close
+    (tie.spec
+    returns
+    returns-2
+    mul-clipped-arc-integral-with-gradient
+    array-copy-out-clipped-arc-integral-with-gradient
+    clipped-arc-integral-with-gradient-requires
+    same-length
+    returns-3)

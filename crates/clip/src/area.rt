@@ -1,0 +1,193 @@
+// The area of a set inside the box: of a list of arcs, and of a set straight from its members, with no list in memory.
+// Rests on specs/Area.antt.
+use crate::parts::clipped_arc_integral;
+use crate::span::Span;
+use crate::span::horizontal_edge_inside_interval;
+use crate::span::vertical_edge_inside_interval;
+use geometry::bounds::Bounds;
+use geometry::circle::Circle;
+use outline::arcs::Arcs;
+use outline::arcs::BoundaryArc;
+use outline::arcs::Candidate;
+use outline::arcs::full_circle;
+use outline::candidates::arc_from;
+use outline::candidates::whole_circle;
+use outline::members::Members;
+use outline::members::angles_for;
+use outline::members::members_of;
+use outline::points::Intersections;
+use outline::sort::Angles;
+use outline::sort::count;
+ghost use mathlib.Core.Path.{_≡_};
+ghost use mathlib.Core.List.{map};
+ghost use lib.ListN.{take, length};
+ghost use Rattle.binary64.specs.Constants.{zero64};
+ghost use Rattle.outline.specs.Outline.{arcsAt, outlineFrom};
+ghost use Rattle.outline.specs.Set.{headsOf, circleAt, membersOf, membersWith};
+ghost use Rattle.outline.specs.Lists.{angleList, pointList, headList, circleList, candidateList, arcList};
+ghost use Rattle.clip.specs.Span.{spans};
+ghost use Rattle.clip.specs.Area.{emptyBox, addClippedArc, addClippedArcs, addSpan, addEdges, clippedAreaOf, clippedArea};
+
+// Whether the box has no inside.
+pub fn empty_box(bounds: Bounds) -> bool
+    ensures { λ r. ⌜ r ≡ emptyBox bounds ⌝ }
+{
+    bounds.x_max <= bounds.x_min || bounds.y_max <= bounds.y_min
+}
+
+// An arc's integral in the box, added to a sum; one of no circle adds nothing.
+fn add_clipped_arc(
+    total: f64,
+    bounds: Bounds,
+    circles: [Circle; 10],
+    n: usize,
+    arc: BoundaryArc,
+) -> f64
+    ensures { λ r. ⌜ r ≡ addClippedArc bounds (take n circles) total arc ⌝ }
+{
+    let at = arc.circle;
+    if n <= at {
+        return total;
+    }
+    if 10 <= at {
+        return total;
+    }
+    total + clipped_arc_integral(arc, circles[at], bounds)
+}
+
+// A factor times the length of a span, added.
+fn add_span(factor: f64, total: f64, span: Span) -> f64
+    ensures { λ r. ⌜ r ≡ addSpan factor total (spans span) ⌝ }
+{
+    match span {
+        Span::None => total,
+        Span::Ends(lo, hi) => total + factor * (hi - lo),
+    }
+}
+
+// The spans of the four edges, counterclockwise from the bottom, added.
+fn add_edges(total: f64, bounds: Bounds, set: Members) -> f64
+    ensures { λ r. ⌜ r ≡ addEdges bounds (circleList set) total ⌝ }
+{
+    let x_min = bounds.x_min;
+    let x_max = bounds.x_max;
+    let y_min = bounds.y_min;
+    let y_max = bounds.y_max;
+    let bottom = horizontal_edge_inside_interval(y_min, x_min, x_max, set);
+    let with_bottom = add_span(-y_min, total, bottom);
+    let right = vertical_edge_inside_interval(x_max, y_min, y_max, set);
+    let with_right = add_span(x_max, with_bottom, right);
+    let top = horizontal_edge_inside_interval(y_max, x_min, x_max, set);
+    let with_top = add_span(y_max, with_right, top);
+    let left = vertical_edge_inside_interval(x_min, y_min, y_max, set);
+    add_span(-x_min, with_top, left)
+}
+
+// The arcs of a list, added up.
+fn arcs_sum(arcs: Arcs, bounds: Bounds, circles: [Circle; 10], n_sets: usize) -> f64
+    ensures { λ r. ⌜ r ≡ addClippedArcs bounds (take «n_sets» circles) zero64 (arcList arcs) ⌝ }
+{
+    let n = arcs.n;
+    let mut total = 0.0;
+    let mut i: usize = 0;
+    while i < 180 {
+        if n <= i {
+            return total;
+        }
+        total = add_clipped_arc(total, bounds, circles, n_sets, arcs.all[i]);
+        i += 1;
+    }
+    total
+}
+
+// The area in the box of the set `mask`, whose arcs are given.
+pub fn area_from_clipped_arcs(
+    arcs: Arcs,
+    circles: [Circle; 10],
+    bounds: Bounds,
+    mask: usize,
+    n_sets: usize,
+) -> f64
+    ensures { λ r. ⌜ r ≡ clippedAreaOf bounds (take «n_sets» circles) (map (circleAt (take «n_sets» circles)) (headsOf (length (take «n_sets» circles)) mask)) (arcList arcs) ⌝ }
+{
+    if empty_box(bounds) {
+        return 0.0;
+    }
+    let total = arcs_sum(arcs, bounds, circles, n_sets);
+    0.5 * add_edges(total, bounds, members_of(mask, circles, n_sets))
+}
+
+fn add_candidate(total: f64, bounds: Bounds, candidate: Candidate, set: Members) -> f64
+    ensures { λ r. ⌜ r ≡ addClippedArcs bounds (circleList set) total (candidateList candidate) ⌝ }
+{
+    let circles = set.circles;
+    match candidate {
+        Candidate::Arc(arc) => add_clipped_arc(total, bounds, circles, set.n, arc),
+        Candidate::Nothing => total,
+    }
+}
+
+// The arcs of the member at k, added to a sum.
+fn add_member(
+    total: f64,
+    bounds: Bounds,
+    k: usize,
+    circle: Circle,
+    angles: Angles,
+    set: Members,
+) -> f64
+    ensures { λ r. ⌜ r ≡ addClippedArcs bounds (circleList set) total (arcsAt (circleList set) k circle (angleList angles)) ⌝ }
+{
+    let n = count(angles);
+    if n == 0 {
+        return add_candidate(total, bounds, whole_circle(k, circle, set), set);
+    }
+    let mut sum = total;
+    let mut i: usize = 0;
+    while i < n {
+        sum = add_candidate(sum, bounds, arc_from(k, circle, angles, i, set), set);
+        i += 1;
+    }
+    sum
+}
+
+// The arcs of all members of a set, added up.
+fn outline_sum(mask: usize, bounds: Bounds, set: Members, points: Intersections) -> f64
+    ensures { λ r. ⌜ r ≡ addClippedArcs bounds (circleList set) zero64 (outlineFrom (circleList set) 0 (membersWith (pointList points) mask (headList set) (circleList set))) ⌝ }
+{
+    let n = set.n;
+    let mut total = 0.0;
+    let mut k: usize = 0;
+    while k < 10 {
+        if n <= k {
+            return total;
+        }
+        let circle = set.circles[k];
+        let angles = angles_for(mask, set.heads[k], circle, points);
+        total = add_member(total, bounds, k, circle, angles, set);
+        k += 1;
+    }
+    total
+}
+
+// The area that the heads of a set water together inside the box.
+pub fn clipped_region_area(
+    mask: usize,
+    circles: [Circle; 10],
+    points: Intersections,
+    n_sets: usize,
+    bounds: Bounds,
+) -> f64
+    ensures { λ r. ⌜ r ≡ clippedArea bounds (membersOf (take «n_sets» circles) (pointList points) mask) ⌝ }
+{
+    if empty_box(bounds) {
+        return 0.0;
+    }
+    let set = members_of(mask, circles, n_sets);
+    if set.n == 1 {
+        let theirs = set.circles;
+        let whole = add_clipped_arc(0.0, bounds, theirs, 1, full_circle(0, theirs[0]));
+        return 0.5 * add_edges(whole, bounds, set);
+    }
+    0.5 * add_edges(outline_sum(mask, bounds, set, points), bounds, set)
+}
