@@ -2,19 +2,19 @@
 -- residual sine - tangent × cosine is small. Rests on Tests and Plain.
 use mathlib.Core.Path.{_≡_, refl, sym, ap, ap₂, _∙_, subst, subst₂}
 use mathlib.Core.List.{List, [], _∷_}
-use mathlib.Core.Bool.{Bool, true, false, _&&_}
-use Prim.Native.Nat.{ℕ, zero, suc, _+_, _-_, _*_, _/_, _%_, _^_, _≤_, _<_, zero-le}
-use native.Mathlib.Nat.{le-refl, le-trans, le-of-eq, le-of-lt, add-le-add, mul-le-mul, mul-le-mul-left, mul-le-mul-right, mul-comm, mul-assoc, one-mul, mul-one, add-zero, add-comm, le-of-mul-le-mul-right, le-of-suc-le-suc, div-add-mod', mod-lt}
+use mathlib.Core.Bool.{Bool, _&&_}
+use Prim.Native.Nat.{ℕ, zero, suc, _+_, _-_, _*_, _/_, _^_, _≤_, _<_, zero-le}
+use native.Mathlib.Nat.{le-refl, le-trans, le-of-eq, le-of-lt, add-le-add, mul-le-mul, mul-le-mul-left, mul-le-mul-right, mul-comm, one-mul, mul-one, add-zero, add-comm, le-of-mul-le-mul-right, le-of-suc-le-suc}
 use native.Mathlib.Omega.{arith}
 use native.Mathlib.Decide.{decLt}
 use lib.Dec.{T, leb, leb→le}
 use lib.Pow.{pow-pos}
 use lib.ListN.{length, take}
-use lib.IntN.{ℤ, pos, negℤ, _+ℤ_, _-ℤ_, _*ℤ_, natAbs, *ℤ-zero, zero-*ℤ, +ℤ-idl, +ℤ-idr, +ℤ-comm, *ℤ-comm}
+use lib.IntN.{ℤ, pos, _+ℤ_, _*ℤ_, natAbs, +ℤ-idl, +ℤ-idr, +ℤ-comm}
 use lib.Ieee.Fits.{and-l, and-r}
 use Rattle.series.specs.Taylor.{factorial}
 use Rattle.series.specs.Kernel.{mulhi, horner}
-use Rattle.series.proofs.Integers.{_⊖_, parts, pos-⊖, ⊖-add, ⊖-mul, ⊖-neg, ⊖-eq, differences, dist, dist-⊖, dist-trans, dist-comm, dist-scale, abs-add, abs-⊖, *ℤ-left-comm}
+use Rattle.series.proofs.Integers.{_⊖_, parts, pos-⊖, ⊖-eq, differences, dist, dist-⊖, dist-trans, dist-comm, dist-scale, abs-add, abs-⊖, *ℤ-left-comm}
 use Rattle.series.proofs.Polynomial.{hval, shift, one-pow}
 use Rattle.series.proofs.Alternating.{alternating, exactSum, falling, alternating-value, Stands, horner-stands, quotient-above, quotient-below}
 use Rattle.cells.specs.Arc.{firstArc, arcs, arc}
@@ -41,26 +41,26 @@ line c d =
 
 module _ (c a : ℕ) (b : List ℤ) (test : T (cell c a b)) (d : ℤ) (small : natAbs d ≤ half) where
   -- the six tests
-  t1 : Bool
-  t1 = angle c a b
+  angle? : Bool
+  angle? = angle c a b
 
-  t2 : Bool
-  t2 = spans b
+  spans? : Bool
+  spans? = spans b
 
-  t3 : Bool
-  t3 = leb (a + reach) (2 ^ 600)
+  starts? : Bool
+  starts? = leb (a + reach) (2 ^ 600)
 
-  t4 : Bool
-  t4 = tail (shift sine24 a)
+  sine-tail? : Bool
+  sine-tail? = tail (shift sine24 a)
 
-  t5 : Bool
-  t5 = tail (shift cosine24 a)
+  cosine-tail? : Bool
+  cosine-tail? = tail (shift cosine24 a)
 
-  t6 : Bool
-  t6 = residual c (take 8 (shift sine24 a)) (take 8 (shift cosine24 a)) (pos 0 ∷ b)
+  residual? : Bool
+  residual? = residual c (take 8 (shift sine24 a)) (take 8 (shift cosine24 a)) (pos 0 ∷ b)
 
-  all : T (t1 && t2 && t3 && t4 && t5 && t6)
-  unfolding cell t1 t2 t3 t4 t5 t6
+  all : T (angle? && spans? && starts? && sine-tail? && cosine-tail? && residual?)
+  unfolding cell angle? spans? starts? sine-tail? cosine-tail? residual?
   all = test
 
   -- the angle less a, and the angle
@@ -75,28 +75,28 @@ module _ (c a : ℕ) (b : List ℤ) (test : T (cell c a b)) (d : ℤ) (small : n
   middle-is = ap (λ (z : ℤ). pos a +ℤ z) (sym (+ℤ-idl (d *ℤ val b d))) ∙ +ℤ-comm (pos a) (pos 0 +ℤ d *ℤ val b d)
 
   pub angle-near : dist (val arcPolynomial (d +ℤ pos c)) (pos grade *ℤ middle) ≤ 512 * tick * grade
-  unfolding angle t1
+  unfolding angle angle?
   angle-near =
       subst₂ (λ (x y : ℤ). dist x y ≤ 512 * tick * grade) (shifted-value arcPolynomial c d) (scaled-value (pos grade) (pos a ∷ b) d ∙ ap (λ (z : ℤ). pos grade *ℤ z) middle-is)
       (le-trans (values-close (shift arcPolynomial c) (scaled (pos grade) (pos a ∷ b)) d half small)
       (leb→le (bound (gaps (shift arcPolynomial c) (scaled (pos grade) (pos a ∷ b))) half) (512 * tick * grade)
-      (and-l t1 t2 (and-l (t1 && t2) t3 (and-l (t1 && t2 && t3) t4 (and-l (t1 && t2 && t3 && t4) t5 (and-l (t1 && t2 && t3 && t4 && t5) t6 all)))))))
+      (and-l angle? spans? (and-l (angle? && spans?) starts? (and-l (angle? && spans? && starts?) sine-tail? (and-l (angle? && spans? && starts? && sine-tail?) cosine-tail? (and-l (angle? && spans? && starts? && sine-tail? && cosine-tail?) residual? all)))))))
 
   part-small : natAbs part ≤ reach
-  unfolding spans t2 part val
+  unfolding spans spans? part val
   part-small =
       le-trans (le-of-eq (size-dist (val (pos 0 ∷ b) d)))
       (le-trans (values-close (pos 0 ∷ b) [] d half small)
       (leb→le (bound (gaps (pos 0 ∷ b) []) half) reach
-      (and-r t1 t2 (and-l (t1 && t2) t3 (and-l (t1 && t2 && t3) t4 (and-l (t1 && t2 && t3 && t4) t5 (and-l (t1 && t2 && t3 && t4 && t5) t6 all)))))))
+      (and-r angle? spans? (and-l (angle? && spans?) starts? (and-l (angle? && spans? && starts?) sine-tail? (and-l (angle? && spans? && starts? && sine-tail?) cosine-tail? (and-l (angle? && spans? && starts? && sine-tail? && cosine-tail?) residual? all)))))))
 
   pub middle-small : natAbs middle ≤ 2 ^ 600
-  unfolding middle t3
+  unfolding middle starts?
   middle-small =
       le-trans (abs-add part (pos a))
       (le-trans (add-le-add part-small (le-refl a))
       (le-trans (le-of-eq (add-comm reach a))
-      (leb→le (a + reach) (2 ^ 600) (and-r (t1 && t2) t3 (and-l (t1 && t2 && t3) t4 (and-l (t1 && t2 && t3 && t4) t5 (and-l (t1 && t2 && t3 && t4 && t5) t6 all)))))))
+      (leb→le (a + reach) (2 ^ 600) (and-r (angle? && spans?) starts? (and-l (angle? && spans? && starts?) sine-tail? (and-l (angle? && spans? && starts? && sine-tail?) cosine-tail? (and-l (angle? && spans? && starts? && sine-tail? && cosine-tail?) residual? all)))))))
 
   -- 8 coefficients about a are enough
   tail-near : (p : List ℤ) → T (tail (shift p a)) → dist (val p middle) (val (take 8 (shift p a)) part) ≤ 128 * unit24
@@ -106,26 +106,26 @@ module _ (c a : ℕ) (b : List ℤ) (test : T (cell c a b)) (d : ℤ) (small : n
       (le-trans (values-close (shift p a) (take 8 (shift p a)) part reach part-small) (leb→le (bound (gaps (shift p a) (take 8 (shift p a))) reach) (128 * unit24) t))
 
   residual-near : dist (pos (2 ^ 64) *ℤ val (take 8 (shift sine24 a)) part) ((d +ℤ pos c) *ℤ val (take 8 (shift cosine24 a)) part) ≤ 512 * 2 ^ 64 * unit24
-  unfolding residual t6 part
+  unfolding residual residual? part
   residual-near =
       subst₂ (λ (x y : ℤ). dist x y ≤ 512 * 2 ^ 64 * unit24)
       (scaled-value (pos (2 ^ 64)) (compose (take 8 (shift sine24 a)) (pos 0 ∷ b)) d ∙ ap (λ (z : ℤ). pos (2 ^ 64) *ℤ z) (compose-value (take 8 (shift sine24 a)) (pos 0 ∷ b) d))
       (times-value (pos c ∷ pos 1 ∷ []) (compose (take 8 (shift cosine24 a)) (pos 0 ∷ b)) d ∙ ap₂ (λ (x y : ℤ). x *ℤ y) (line c d) (compose-value (take 8 (shift cosine24 a)) (pos 0 ∷ b) d))
       (le-trans (values-close (scaled (pos (2 ^ 64)) (compose (take 8 (shift sine24 a)) (pos 0 ∷ b))) (times (pos c ∷ pos 1 ∷ []) (compose (take 8 (shift cosine24 a)) (pos 0 ∷ b))) d half small)
       (leb→le (bound (gaps (scaled (pos (2 ^ 64)) (compose (take 8 (shift sine24 a)) (pos 0 ∷ b))) (times (pos c ∷ pos 1 ∷ []) (compose (take 8 (shift cosine24 a)) (pos 0 ∷ b)))) half) (512 * 2 ^ 64 * unit24)
-      (and-r (t1 && t2 && t3 && t4 && t5) t6 all)))
+      (and-r (angle? && spans? && starts? && sine-tail? && cosine-tail?) residual? all)))
 
   -- sine and cosine by 24 coefficients
   pub cell-residual : (n : ℕ) → pos n ≡ d +ℤ pos c → n ≤ 2 ^ 64 → dist (pos (2 ^ 64) *ℤ val sine24 middle) (pos n *ℤ val cosine24 middle) ≤ 768 * 2 ^ 64 * unit24
-  unfolding t4 t5
+  unfolding sine-tail? cosine-tail?
   cell-residual n e l =
       le-trans (dist-trans (pos (2 ^ 64) *ℤ val sine24 middle) (pos (2 ^ 64) *ℤ val (take 8 (shift sine24 a)) part) (pos n *ℤ val cosine24 middle))
       (three unit24 (le-of-eq (dist-scale (2 ^ 64) (val sine24 middle) (val (take 8 (shift sine24 a)) part)))
-      (tail-near sine24 (and-r (t1 && t2 && t3) t4 (and-l (t1 && t2 && t3 && t4) t5 (and-l (t1 && t2 && t3 && t4 && t5) t6 all))))
+      (tail-near sine24 (and-r (angle? && spans? && starts?) sine-tail? (and-l (angle? && spans? && starts? && sine-tail?) cosine-tail? (and-l (angle? && spans? && starts? && sine-tail? && cosine-tail?) residual? all))))
       (dist-trans (pos (2 ^ 64) *ℤ val (take 8 (shift sine24 a)) part) (pos n *ℤ val (take 8 (shift cosine24 a)) part) (pos n *ℤ val cosine24 middle))
       (subst (λ (z : ℤ). dist (pos (2 ^ 64) *ℤ val (take 8 (shift sine24 a)) part) (z *ℤ val (take 8 (shift cosine24 a)) part) ≤ 512 * 2 ^ 64 * unit24) (sym e) residual-near)
       (le-trans (le-of-eq (dist-scale n (val (take 8 (shift cosine24 a)) part) (val cosine24 middle))) (mul-le-mul l (le-trans (le-of-eq (dist-comm (val (take 8 (shift cosine24 a)) part) (val cosine24 middle)))
-      (tail-near cosine24 (and-r (t1 && t2 && t3 && t4) t5 (and-l (t1 && t2 && t3 && t4 && t5) t6 all)))))))
+      (tail-near cosine24 (and-r (angle? && spans? && starts? && sine-tail?) cosine-tail? (and-l (angle? && spans? && starts? && sine-tail? && cosine-tail?) residual? all)))))))
     where
       three : (u : ℕ) {p q r s t : ℕ} → p ≤ 2 ^ 64 * q → q ≤ 128 * u → r ≤ s + t → s ≤ 512 * 2 ^ 64 * u → t ≤ 2 ^ 64 * (128 * u) → p + r ≤ 768 * 2 ^ 64 * u
       three u h1 h2 h3 h4 h5 = omega arith

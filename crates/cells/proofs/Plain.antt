@@ -2,12 +2,12 @@
 -- distances of the coefficients, for polynomials of any two lengths. Rests on the crate series.
 use mathlib.Core.Path.{_≡_, refl, sym, ap, ap₂, _∙_, subst}
 use mathlib.Core.List.{List, [], _∷_}
-use Prim.Native.Nat.{ℕ, zero, suc, _+_, _*_, _^_, _≤_}
+use Prim.Native.Nat.{ℕ, _+_, _*_, _^_, _≤_}
 use native.Mathlib.Nat.{le-refl, le-trans, le-of-eq, add-le-add, mul-le-mul, pow-suc, mul-one}
 use native.Mathlib.Omega.{arith}
 use lib.ListN.{length}
-use lib.IntN.{ℤ, pos, negℤ, _+ℤ_, _-ℤ_, _*ℤ_, natAbs, *ℤ-zero, zero-*ℤ, +ℤ-idl, +ℤ-idr}
-use Rattle.series.proofs.Integers.{_⊖_, parts, pos-⊖, ⊖-add, ⊖-mul, ⊖-neg, ⊖-eq, differences, dist, dist-self, abs-add, abs-mul, distrib, distrib-r, *ℤ-assoc, *ℤ-left-comm}
+use lib.IntN.{ℤ, pos, _+ℤ_, _-ℤ_, _*ℤ_, natAbs, *ℤ-zero, zero-*ℤ, +ℤ-idl, +ℤ-idr}
+use Rattle.series.proofs.Integers.{_⊖_, parts, ⊖-eq, differences, dist, dist-self, abs-add, abs-mul, distrib, distrib-r, *ℤ-assoc, *ℤ-left-comm}
 use Rattle.series.proofs.Polynomial.{hval, one-pow, shift, shift-value}
 
 -- Σ c_i x^i
@@ -130,18 +130,15 @@ apart c d x H G X B h k =
         let G′ = parts G in
         rw (c′ .2, d′ .2, x′ .2, H′ .2, G′ .2) (simp differences (⊖-eq _ _ _ _ (omega arith)))
 
+none : (x : ℤ) → pos 0 +ℤ x *ℤ pos 0 ≡ pos 0
+none x = +ℤ-idl (x *ℤ pos 0) ∙ *ℤ-zero x
+
 -- where the coefficients are close, so are the values
 pub values-close : (p q : List ℤ) (x : ℤ) (X : ℕ) → natAbs x ≤ X → dist (val p x) (val q x) ≤ bound (gaps p q) X
 unfolding val gaps bound
 values-close [] [] x X h = le-of-eq (dist-self (pos 0))
 values-close [] (d ∷ q) x X h =
     subst (λ (z : ℤ). dist z (d +ℤ x *ℤ val q x) ≤ dist (pos 0) d + X * bound (gaps [] q) X) (none x) (apart (pos 0) d x (pos 0) (val q x) X (bound (gaps [] q) X) h (values-close [] q x X h))
-  where
-    none : (x : ℤ) → pos 0 +ℤ x *ℤ pos 0 ≡ pos 0
-    none x = +ℤ-idl (x *ℤ pos 0) ∙ *ℤ-zero x
 values-close (c ∷ p) [] x X h =
     subst (λ (z : ℤ). dist (c +ℤ x *ℤ val p x) z ≤ dist c (pos 0) + X * bound (gaps p []) X) (none x) (apart c (pos 0) x (val p x) (pos 0) X (bound (gaps p []) X) h (values-close p [] x X h))
-  where
-    none : (x : ℤ) → pos 0 +ℤ x *ℤ pos 0 ≡ pos 0
-    none x = +ℤ-idl (x *ℤ pos 0) ∙ *ℤ-zero x
 values-close (c ∷ p) (d ∷ q) x X h = apart c d x (val p x) (val q x) X (bound (gaps p q) X) h (values-close p q x X h)

@@ -1,15 +1,15 @@
 -- The sine is odd and the cosine even; what they are a quarter turn or half a turn less an angle; how far the cosine is from 0; and how little
 -- both change where the angle changes by little. Rests on the computed tests.
-use mathlib.Core.Path.{_≡_, refl, sym, ap, ap₂, _∙_, subst, subst₂}
+use mathlib.Core.Path.{_≡_, refl, sym, ap, _∙_, subst}
 use mathlib.Core.List.{List, [], _∷_}
-use Prim.Native.Nat.{ℕ, zero, suc, _+_, _-_, _*_, _^_, _≤_, _<_}
-use native.Mathlib.Nat.{le-refl, le-trans, le-of-eq, mul-le-mul, mul-le-mul-left, mul-le-mul-right, mul-assoc}
+use Prim.Native.Nat.{ℕ, _+_, _-_, _*_, _^_, _≤_}
+use native.Mathlib.Nat.{le-trans, le-of-eq, mul-le-mul-left, mul-le-mul-right, mul-assoc}
 use native.Mathlib.Omega.{arith}
 use lib.Dec.{T, leb, leb→le}
 use lib.ListN.{length}
 use lib.IntN.{ℤ, pos, negℤ, _+ℤ_, _-ℤ_, _*ℤ_, natAbs, *ℤ-zero, +ℤ-idr, +ℤ-comm, negℤ-negℤ}
 use Rattle.series.specs.Taylor.{factorial, sign}
-use Rattle.series.proofs.Integers.{_⊖_, parts, pos-⊖, ⊖-add, ⊖-mul, ⊖-neg, ⊖-eq, differences, dist, abs-negℤ}
+use Rattle.series.proofs.Integers.{_⊖_, parts, ⊖-eq, differences, dist, abs-negℤ}
 use Rattle.series.proofs.Polynomial.{hval, shift, finer, slope, sizes, length-sizes, values-follow, slope-units}
 use Rattle.series.proofs.Alternating.{negated, negated-value}
 use Rattle.series.proofs.Sums.{rising, sinFrom, cosFrom, sin79, cos79}
@@ -94,11 +94,11 @@ cosine-near-one x h =
 
 -- ---- where the angle changes by k × 2^-62, sine and cosine change by at most 16 k × 2^-61
 
-length-sine : length sine80 ≡ 80
+pub length-sine : length sine80 ≡ 80
 unfolding sine80 sin79 sinFrom finer
 length-sine = refl
 
-length-cosine : length cosine80 ≡ 80
+pub length-cosine : length cosine80 ≡ 80
 unfolding cosine80 cos79 cosFrom finer
 length-cosine = refl
 

@@ -2,7 +2,8 @@
 -- units of 2^-64, an angle one of units of 2^-62.
 -- Method: the angle is the tangent times an alternating polynomial in its square, by Horner's rule with 22 coefficients, each product cut to
 -- its upper 64 bits. Error, as the residual sin - tangent × cos of the 40-term sums: below 2^-45 (measured 2^-52).
-use Prim.Native.Nat.{ℕ, _/_}
+use mathlib.Core.Path.{_≡_, refl}
+use Prim.Native.Nat.{ℕ, _+_, _*_, _/_, _^_}
 use mathlib.Core.List.{List, [], _∷_}
 use Rattle.series.specs.Kernel.{mulhi, horner}
 
@@ -29,9 +30,15 @@ unfoldable pub arc : ℕ → ℕ
 unfolding horner
 arc n = mulhi n (horner firstArc arcs (mulhi n n)) / 2
 
--- A quarter turn and a half turn, PI / 2 and PI in units of 2^-62, cut.
+-- A quarter turn and a half turn, PI / 2 and PI in units of 2^-62, rounded to the nearest.
 abbrev pub quarterTurn : ℕ
 quarterTurn = 7244019458077122842
 
 abbrev pub halfTurn : ℕ
 halfTurn = 14488038916154245685
+
+-- From the decimal of PI.
+pub turns-are :
+    (quarterTurn ≡ (314159265358979323846264338327950288 * 2 ^ 62 + 10 ^ 35) / (2 * 10 ^ 35))
+    × (halfTurn ≡ (314159265358979323846264338327950288 * 2 ^ 63 + 10 ^ 35) / (2 * 10 ^ 35))
+turns-are = (refl, refl)

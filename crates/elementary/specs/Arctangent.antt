@@ -1,9 +1,11 @@
--- The recipe of atan2, step by step, and of acos and asin over it: the smaller of |x| and |y| over the larger is one float division, cut to a whole number of units of 2^-64;
--- the angle is worked out in whole numbers of units of 2^-62 (crate cells, Arc), and made a float. So the bits of every answer are fixed.
+-- The recipe of atan2, step by step, and acos and asin over it. The smaller of |x| and |y| over the larger is one float division, cut to a whole
+-- number of units of 2^-64; the angle is worked out in whole numbers of units of 2^-62 (crate cells, Arc), and made a float. So the bits of
+-- every answer are fixed.
 use Prim.Native.Nat.{ℕ, _-_, _^_}
+use mathlib.Core.Path.{_≡_, refl}
 use mathlib.Core.Bool.{Bool, true, false, cond, _&&_, _||_}
 use lib.IntN.{pos}
-use lib.Ieee.{Float, binary64, ofBits, neg, add, sub, mul, div, lt, le, ofInt, toUnsigned}
+use lib.Ieee.{Float, binary64, ofBits, neg, add, sub, mul, div, lt, le, round, ofInt, toUnsigned}
 use Rattle.elementary.specs.Root.{root}
 use Rattle.cells.specs.Arc.{arc, quarterTurn, halfTurn}
 
@@ -22,6 +24,12 @@ tangentScale = ofBits binary64 0x43F0000000000000
 
 abbrev pub angleScale : Float
 angleScale = ofBits binary64 0x3C10000000000000
+
+-- These are their bits.
+pub constants-are :
+    (largest ≡ round binary64 false (2 ^ 20) 1) × (tangentScale ≡ round binary64 false (2 ^ 64) 1) × (angleScale ≡ round binary64 false 1 (2 ^ 62))
+unfolding ofBits round
+constants-are = (refl, refl, refl)
 
 -- The sign bit of x, without its bits: -0 has it, and so has what is below zero. (A NaN has none.)
 abbrev pub isNegative : Float → Bool

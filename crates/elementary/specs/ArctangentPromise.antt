@@ -1,12 +1,12 @@
 -- What atan2 is worth, in document 01's words: "not both zero: an angle t of magnitude at most the f64 `PI`, with |x×S - y×C| ≤ 2^-40 × (|x|+|y|)
 -- and x×C + y×S > 0, where S and C are those 40-term sums at t. Zero signs follow IEEE 754"; "promised for magnitudes up to 2^20"; outside +0.
 -- The proof is proofs/arctangent/Promise.antt.
-use mathlib.Core.Path.{_≡_}
-use mathlib.Core.Bool.{Bool, true, false, cond}
+use mathlib.Core.Path.{_≡_, refl}
+use mathlib.Core.Bool.{true, false, cond}
 use Prim.Native.Nat.{ℕ, suc, _+_, _*_, _^_, _≤_, _<_}
 use lib.Dec.{T}
-use lib.IntN.{ℤ, pos, natAbs, _-ℤ_, _*ℤ_}
-use lib.Ieee.{Float, binary64, fits, ofBits, neg}
+use lib.IntN.{pos, natAbs, _-ℤ_, _*ℤ_}
+use lib.Ieee.{Float, binary64, fits, ofBits, neg, round}
 use Rattle.binary64.specs.Units.{Finite, mag, negative, signedZero}
 use Rattle.binary64.specs.Magnitude.{Most}
 use Rattle.binary64.specs.Constants.{pi}
@@ -51,7 +51,7 @@ pub record Domain (y x : Float) : Type 0 where
   pub some : 0 < mag x + mag y
 
 -- t is finite, and at most PI in magnitude.
-pub record Within (t : Float) : Type 0 where
+pub record UpToPi (t : Float) : Type 0 where
   pub finite : Finite t
   pub most : mag t ≤ mag pi
 
@@ -59,11 +59,15 @@ pub record Within (t : Float) : Type 0 where
 pub record Angle (y x t : Float) : Type 0 where
   pub residual : AtMost (exact x ⊛ sin40 (exact t) ⊝ exact y ⊛ cos40 (exact t)) (2^-40 ⊛ (size (exact x) ⊹ size (exact y)))
   pub ahead : Positive (exact x ⊛ cos40 (exact t) ⊹ exact y ⊛ sin40 (exact t))
-  pub within : Within t
+  pub within : UpToPi t
 
 -- PI / 2, rounded.
 abbrev pub halfPi : Float
 halfPi = ofBits binary64 0x3FF9_21FB_5444_2D18
+
+pub halfPi-is : halfPi ≡ round binary64 false 314159265358979323846264338327950288 (2 * 10 ^ 35)
+unfolding ofBits round
+halfPi-is = refl
 
 -- t with the sign bit of y, for a t above zero
 abbrev pub withSign : Float → Float → Float
@@ -73,7 +77,7 @@ pub record Atan2Promise : Type 0 where
   pub angle : (y x : Float) → Domain y x → Angle y x (atan2 y x)
   pub outside : (y x : Float) → T (fits binary64 y) → T (fits binary64 x) → (Domain y x → ⊥) → atan2 y x ≡ +0
   -- whatever a program hands it
-  pub always : (y x : Float) → T (fits binary64 y) → T (fits binary64 x) → Within (atan2 y x)
+  pub always : (y x : Float) → T (fits binary64 y) → T (fits binary64 x) → UpToPi (atan2 y x)
   -- IEEE 754's zeros, y's sign on each: atan2(±0, x) is ±0 for x above zero and ±PI for x below zero; atan2(y, ±0) is ±PI/2 for y not zero
   pub right : (y x : Float) → Domain y x → mag y ≡ 0 → negative x ≡ false → atan2 y x ≡ signedZero (negative y)
   pub left : (y x : Float) → Domain y x → mag y ≡ 0 → negative x ≡ true → atan2 y x ≡ withSign y pi
@@ -86,7 +90,7 @@ pub record InversePromise (f y x : Float → Float) : Type 0 where
   pub is : (c : Float) → Most 1 1074 c → f c ≡ atan2 (y c) (x c)
   pub angle : (c : Float) → Most 1 1074 c → Angle (y c) (x c) (f c)
   pub outside : (c : Float) → T (fits binary64 c) → (Most 1 1074 c → ⊥) → f c ≡ +0
-  pub always : (c : Float) → T (fits binary64 c) → Within (f c)
+  pub always : (c : Float) → T (fits binary64 c) → UpToPi (f c)
 
 -- Document 01: "`acos(c)` is atan2(root((1-c)×(1+c)), c)"
 abbrev pub AcosPromise : Type 0

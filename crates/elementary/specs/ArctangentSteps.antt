@@ -1,5 +1,5 @@
 -- What the steps of the recipe are handed: finite floats without the sign bit.
-use Prim.Native.Nat.{ℕ, _+_, _≤_, _<_}
+use Prim.Native.Nat.{_+_, _≤_, _<_}
 use mathlib.Core.Path.{_≡_}
 use mathlib.Core.Bool.{false}
 use lib.Ieee.{Float}

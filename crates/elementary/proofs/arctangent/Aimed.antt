@@ -1,16 +1,16 @@
 -- The recipe's angle in whole numbers points at (x, y): there is an angle within 534 × 2^-62 of it whose 40-term sums are Good for x and y.
 -- First below the diagonal, then by the quarter turn, the half turn and the sign. Rests on the cells.
-use mathlib.Core.Path.{_≡_, refl, sym, ap, ap₂, _∙_, subst, subst₂}
+use mathlib.Core.Path.{_≡_, refl, sym, ap, _∙_, subst, subst₂}
 use mathlib.Core.Bool.{Bool, true, false, cond}
-use Prim.Native.Nat.{ℕ, zero, suc, _+_, _-_, _*_, _/_, _^_, _≤_, _<_}
-use native.Mathlib.Nat.{le-refl, le-trans, le-of-eq, add-le-add, sub-le, mul-le-mul-right, mul-comm, mul-assoc, div-mul-le-self}
+use Prim.Native.Nat.{ℕ, _+_, _-_, _*_, _/_, _^_, _≤_, _<_}
+use native.Mathlib.Nat.{le-trans, le-of-eq, add-le-add, sub-le, mul-le-mul-right, div-mul-le-self}
 use native.Mathlib.Omega.{arith}
 use lib.Dec.{leb→le}
-use lib.IntN.{ℤ, pos, negℤ, _+ℤ_, _-ℤ_, _*ℤ_, natAbs, negℤ-+ℤ, +ℤ-comm}
+use lib.IntN.{ℤ, pos, negℤ, _-ℤ_, _*ℤ_, natAbs}
 use lib.Ieee.{Float, lt}
 use Rattle.series.specs.Fraction.{signed}
 use Rattle.series.specs.Kernel.{mulhi, horner}
-use Rattle.series.proofs.Integers.{_⊖_, parts, pos-⊖, neg-pos-⊖, ⊖-add, ⊖-mul, ⊖-neg, ⊖-eq, differences, dist, dist-⊖, dist-comm, dist-neg, size-near, abs-mul, neg-*ℤ}
+use Rattle.series.proofs.Integers.{_⊖_, parts, differences, dist, dist-⊖, dist-comm, dist-neg, size-near, abs-mul, neg-*ℤ}
 use Rattle.cells.specs.Arc.{arc, firstArc, arcs, quarterTurn, halfTurn}
 use Rattle.cells.proofs.Plain.{val}
 use Rattle.cells.proofs.Tests.{sine80, cosine80, unit80, tick}
@@ -19,7 +19,7 @@ use Rattle.cells.proofs.Turns.{sine-odd, cosine-even, sine-at-quarter, cosine-a
 use Rattle.binary64.specs.Units.{mag}
 use Rattle.elementary.specs.Arctangent.{tangent, firstQuarter, upperHalf, isNegative}
 use Rattle.elementary.specs.ArctangentSteps.{InQuarter, Ordered}
-use Rattle.elementary.proofs.arctangent.Edges.{below-diagonal, above-diagonal, tangent-small, tangent-above, tangent-below}
+use Rattle.elementary.proofs.arctangent.Slope.{below-diagonal, above-diagonal, tangent-small, tangent-above, tangent-below}
 use Rattle.elementary.proofs.arctangent.Good.{Good, good, swapped, mirrored, turned, moved, loosened}
 
 -- a is the angle in units of 2^-62

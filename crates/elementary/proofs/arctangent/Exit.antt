@@ -1,8 +1,8 @@
 -- The angle as a float: within 2048 units of 2^-62 of the whole number of units, and at most PI. Rests on the crate binary64.
 use mathlib.Core.Path.{_≡_, refl, sym, ap, ap₂, _∙_, subst}
-use mathlib.Core.Bool.{Bool, true, false}
+use mathlib.Core.Bool.{false}
 use Prim.Native.Nat.{ℕ, _+_, _*_, _^_, _≤_, _<_}
-use native.Mathlib.Nat.{le-refl, le-trans, le-of-eq, mul-le-mul-right, mul-le-mul-left, mul-one, one-mul, mul-comm, mul-assoc, le-of-mul-le-mul-right}
+use native.Mathlib.Nat.{le-trans, le-of-eq, mul-le-mul-right, mul-one, one-mul, le-of-mul-le-mul-right}
 use native.Mathlib.Omega.{arith}
 use lib.Dec.{leb→le, lit<, lit≤}
 use lib.IntN.{pos}
@@ -11,7 +11,7 @@ use Rattle.binary64.specs.Units.{pow2, one, Finite, mag, negative}
 use Rattle.binary64.specs.Magnitude.{Most}
 use Rattle.binary64.specs.Rounding.{rnd}
 use Rattle.binary64.specs.Constants.{pi}
-use Rattle.binary64.proofs.Units.{pow2-pos, pow2-split, pow2-add, one-pos, mag-digits}
+use Rattle.binary64.proofs.Units.{pow2-split, pow2-add, one-pos, mag-digits}
 use Rattle.binary64.proofs.Rounding.{rnd-le, rnd-near, rnd-mono}
 use Rattle.binary64.proofs.Magnitude.{bound-digits, bound-limit, mul-most}
 use Rattle.binary64.proofs.Operations.{round-finite, round-mag, round-sign, mul-mag, mul-sign}

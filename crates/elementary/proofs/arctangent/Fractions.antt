@@ -1,22 +1,22 @@
 -- From Good, over integers, to the fractions of the promise: x, y and t as exact fractions, and the 40-term sums at t.
 use mathlib.Core.Path.{_≡_, refl, sym, ap, ap₂, _∙_, subst, subst₂}
-use mathlib.Core.Bool.{Bool, true, false, cond}
+use mathlib.Core.Bool.{Bool, true, false}
 use Prim.Native.Nat.{ℕ, zero, suc, _+_, _-_, _*_, _^_, _≤_, _<_}
-use native.Mathlib.Nat.{le-refl, le-trans, le-of-eq, mul-le-mul, mul-le-mul-left, mul-le-mul-right, mul-comm, mul-assoc, mul-pos, one-le-pow, le-of-mul-le-mul-left, le-of-mul-le-mul-right, lt-irrefl}
+use native.Mathlib.Nat.{le-trans, le-of-eq, mul-le-mul-left, mul-le-mul-right, mul-comm, mul-assoc, mul-pos, one-le-pow, le-of-mul-le-mul-left, le-of-mul-le-mul-right}
 use native.Mathlib.Omega.{arith}
-use lib.Dec.{T, leb→le, lit<}
-use lib.IntN.{ℤ, pos, negℤ, _+ℤ_, _-ℤ_, _*ℤ_, natAbs, *ℤ-comm}
-use lib.Ieee.{Float, nan, inf, fin, binary64, up, down}
+use lib.Dec.{lit<}
+use lib.IntN.{ℤ, pos, _+ℤ_, _*ℤ_, natAbs, *ℤ-comm}
+use lib.Ieee.{Float, nan, inf, fin, up, down}
 use lib.Ieee.Fits.{down-pos}
 use Rattle.series.specs.Fraction.{Fraction, _⊹_, exact, signed}
-use Rattle.series.specs.Taylor.{factorial, sign, term, total, sin40, cos40}
-use Rattle.series.proofs.Integers.{_⊖_, parts, pos-⊖, ⊖-add, ⊖-mul, ⊖-neg, ⊖-eq, differences, dist, dist-⊖, dist-self, dist-scale, abs-mul, abs-negℤ, distrib, neg-*ℤ, *ℤ-assoc, *ℤ-left-comm}
+use Rattle.series.specs.Taylor.{factorial, term, total, sin40, cos40}
+use Rattle.series.proofs.Integers.{_⊖_, parts, differences, dist, dist-⊖, dist-self, dist-scale, abs-mul, abs-negℤ, distrib, neg-*ℤ, *ℤ-assoc, *ℤ-left-comm}
 use Rattle.series.proofs.Sums.{scale, sin79, cos79, sin40-value, cos40-value}
 use Rattle.series.proofs.Polynomial.{hval}
 use Rattle.binary64.specs.Units.{one, Finite, mag, negative}
 use Rattle.binary64.proofs.Units.{mag-exact, one-pos}
 use Rattle.elementary.specs.ArctangentPromise.{_⊛_, _⊝_, size, 2^-40, AtMost, Positive}
-use Rattle.elementary.proofs.arctangent.Good.{Good, scaled, large-near}
+use Rattle.elementary.proofs.arctangent.Good.{Good, difference, scaled}
 
 -- ---- no denominator is 0
 
@@ -90,11 +90,11 @@ divided k f z l e =
     back : (a b : ℕ) → b ≤ a → a ≡ a - b + b
     back a b h = omega arith
 
-    difference : (a b : ℕ) → b ≤ a → a ⊖ b ≡ pos (a - b)
-    difference a b h = simp pos-⊖ (⊖-eq _ _ _ _ (omega arith))
-
     rest : (a b c : ℕ) → k * a ≡ k * b + f → a ≡ c + b → k * c ≡ f
     rest a b c h e = omega (arith, ap (λ (n : ℕ). k * n) e)
+
+spread : (k e a b : ℕ) → k * (e * (a + b)) ≡ e * (k * a + k * b)
+spread k e a b = omega arith
 
 pub stretched : {x y s c : ℤ} {e D : ℕ} (k : ℕ) → Good x y s c e D → Good (pos k *ℤ x) (pos k *ℤ y) s c e D
 stretched {x} {y} {s} {c} {e} {D} k g = record {
@@ -105,9 +105,6 @@ stretched {x} {y} {s} {c} {e} {D} k g = record {
   ahead = ap₂ (λ (a b : ℤ). a +ℤ b) (*ℤ-assoc (pos k) x c) (*ℤ-assoc (pos k) y s) ∙ sym (distrib (pos k) (x *ℤ c) (y *ℤ s)) ∙ ap (λ (z : ℤ). pos k *ℤ z) (g .ahead);
   far = le-trans (le-of-eq (sym (spread k D (natAbs x) (natAbs y) ∙ ap₂ (λ (a b : ℕ). D * (a + b)) (sym (abs-mul (pos k) x)) (sym (abs-mul (pos k) y))))) (mul-le-mul-left k (g .far));
 }
-  where
-    spread : (k e a b : ℕ) → k * (e * (a + b)) ≡ e * (k * a + k * b)
-    spread k e a b = omega arith
 
 pub shrunk : {x y s c : ℤ} {e D : ℕ} (k : ℕ) → 0 < k → Good (pos k *ℤ x) (pos k *ℤ y) s c e D → Good x y s c e D
 shrunk {x} {y} {s} {c} {e} {D} k l g = record {
@@ -125,9 +122,6 @@ shrunk {x} {y} {s} {c} {e} {D} k l g = record {
       l;
 }
   where
-    spread : (k e a b : ℕ) → k * (e * (a + b)) ≡ e * (k * a + k * b)
-    spread k e a b = omega arith
-
     whole : (m : ℕ) × (x *ℤ c +ℤ y *ℤ s ≡ pos m) × (k * m ≡ g .forward)
     whole = divided k (g .forward) (x *ℤ c +ℤ y *ℤ s) l (distrib (pos k) (x *ℤ c) (y *ℤ s) ∙ sym (ap₂ (λ (a b : ℤ). a +ℤ b) (*ℤ-assoc (pos k) x c) (*ℤ-assoc (pos k) y s)) ∙ g .ahead)
 
@@ -142,6 +136,9 @@ sum-scaled d m M K h n e = first (pos d) (pos m) (pos M) h ∙ ap (λ (z : ℤ).
 
     second : (m M K n : ℤ) → m *ℤ (M *ℤ (n *ℤ K)) ≡ (M *ℤ K) *ℤ (n *ℤ m)
     second m M K n = simp (*ℤ-assoc, *ℤ-comm, *ℤ-left-comm)
+
+regroup : (n e s d : ℤ) → (n *ℤ e) *ℤ (s *ℤ d) ≡ (n *ℤ s) *ℤ (e *ℤ d)
+regroup n e s d = simp (*ℤ-assoc, *ℤ-left-comm)
 
 -- (a b) u = one (n b), where u a = n one
 coordinate : (a b o : ℕ) (u n : ℤ) → u *ℤ pos a ≡ n *ℤ pos o → pos (a * b) *ℤ u ≡ pos o *ℤ (n *ℤ pos b)
@@ -221,9 +218,6 @@ module _ {x y : Float} (X : Finite x) (Y : Finite y) (some : 0 < mag x + mag y) 
       (at (dist (P *ℤ (S .num *ℤ pos (C .den))) (R *ℤ (C .num *ℤ pos (S .den)))) (natAbs (a .num) * b .den + natAbs (b .num) * a .den) (a .den) (b .den) (S .den) (C .den)
       (mul-le-mul-right (a .den * b .den) (le-trans residual-over (le-of-eq (ap₂ (λ (p r : ℕ). S .den * C .den * (p + r)) P-size R-size)))))
     where
-      regroup : (n e s d : ℤ) → (n *ℤ e) *ℤ (s *ℤ d) ≡ (n *ℤ s) *ℤ (e *ℤ d)
-      regroup n e s d = simp (*ℤ-assoc, *ℤ-left-comm)
-
       at : (d q a b s c : ℕ) → 2 ^ 40 * d * (a * b) ≤ s * c * q * (a * b) → d * (2 ^ 40 * (a * b)) ≤ 1 * q * (a * s * (b * c))
       at d q a b s c h = omega arith
 
@@ -252,9 +246,6 @@ module _ {x y : Float} (X : Finite x) (Y : Finite y) (some : 0 < mag x + mag y) 
   ahead-fractions = at (whole .0) (sym (ap₂ (λ (c s : ℤ). c +ℤ s) (regroup (a .num) (pos (b .den)) (C .num) (pos (S .den))) (regroup (b .num) (pos (a .den)) (S .num) (pos (C .den)))) ∙ whole .1)
       (subst (λ (f : ℕ). 0 < f) (sym (whole .2)) (above (over-fractions .far) (mul-pos (mul-pos (mul-pos (sin40-proper v v-pos) (cos40-proper v v-pos)) (mul-pos (one-le-pow 80 (v .den) v-pos) (mul-pos (lit< tt) u-pos))) point-some)))
     where
-      regroup : (n e s d : ℤ) → (n *ℤ e) *ℤ (s *ℤ d) ≡ (n *ℤ s) *ℤ (e *ℤ d)
-      regroup n e s d = simp (*ℤ-assoc, *ℤ-left-comm)
-
       whole : (m : ℕ) × (P *ℤ (C .num *ℤ pos (S .den)) +ℤ R *ℤ (S .num *ℤ pos (C .den)) ≡ pos m) × (K * m ≡ over-fractions .forward)
       whole =
           divided K (over-fractions .forward) (P *ℤ (C .num *ℤ pos (S .den)) +ℤ R *ℤ (S .num *ℤ pos (C .den)))

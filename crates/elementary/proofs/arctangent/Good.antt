@@ -1,13 +1,13 @@
 -- When numbers s and c, in proportion to a sine and a cosine, are those of the angle of the point (x, y): the residual x s - y c is small, and
 -- x c + y s is well above 0, both against |x| + |y|. Laws for the point and the angle swapped, mirrored, turned, moved, scaled.
-use mathlib.Core.Path.{_≡_, refl, sym, ap, ap₂, _∙_, subst, subst₂}
-use Prim.Native.Nat.{ℕ, zero, suc, _+_, _-_, _*_, _^_, _≤_, _<_}
-use native.Mathlib.Nat.{le-refl, le-trans, le-of-eq, add-le-add, add-comm, mul-le-mul, mul-le-mul-left, mul-le-mul-right, mul-comm, mul-assoc, le-of-mul-le-mul-left}
+use mathlib.Core.Path.{_≡_, sym, ap, ap₂, _∙_, subst, subst₂}
+use Prim.Native.Nat.{ℕ, _+_, _-_, _*_, _^_, _≤_}
+use native.Mathlib.Nat.{le-trans, le-of-eq, add-comm, mul-le-mul, mul-le-mul-left, mul-le-mul-right, mul-comm, mul-assoc, le-of-mul-le-mul-left}
 use native.Mathlib.Omega.{arith}
 use lib.Pow.{pow-pos}
 use lib.IntN.{ℤ, pos, negℤ, _+ℤ_, _-ℤ_, _*ℤ_, natAbs, +ℤ-comm, negℤ-negℤ, *ℤ-comm}
 use Rattle.cells.proofs.Cell.{near-naturals}
-use Rattle.series.proofs.Integers.{*ℤ-assoc, _⊖_, parts, pos-⊖, ⊖-add, ⊖-mul, ⊖-neg, ⊖-eq, differences, dist, dist-⊖, dist-trans, dist-comm, dist-neg, dist-scale, size-near, abs-add, abs-mul, abs-negℤ, neg-*ℤ, *ℤ-neg, *ℤ-left-comm, distrib}
+use Rattle.series.proofs.Integers.{*ℤ-assoc, _⊖_, parts, pos-⊖, ⊖-eq, differences, dist, dist-⊖, dist-trans, dist-comm, dist-neg, dist-scale, size-near, abs-add, abs-mul, abs-negℤ, neg-*ℤ, *ℤ-neg, *ℤ-left-comm, distrib}
 
 pub record Good (x y s c : ℤ) (e D : ℕ) : Type 0 where
   pub residual : dist (x *ℤ s) (y *ℤ c) ≤ e * (natAbs x + natAbs y)
@@ -33,6 +33,9 @@ dist-sum a b c d = subst (λ (z : ℤ). natAbs z ≤ natAbs (a -ℤ c) + natAbs 
         let d′ = parts d in
         rw (a′ .2, b′ .2, c′ .2, d′ .2) (simp differences (⊖-eq _ _ _ _ (omega arith)))
 
+pub difference : (a b : ℕ) → b ≤ a → a ⊖ b ≡ pos (a - b)
+difference a b h = simp pos-⊖ (⊖-eq _ _ _ _ (omega arith))
+
 -- what is near a large number is one
 pub large-near : (z : ℤ) (n k : ℕ) → dist z (pos n) ≤ k → k ≤ n → (m : ℕ) × (z ≡ pos m) × (n ≤ m + k)
 large-near z n k h l =
@@ -42,9 +45,6 @@ large-near z n k h l =
   where
     apart : (a b : ℕ) → dist (a ⊖ b) (pos n) ≤ k → (b ≤ a) × (n ≤ a - b + k)
     apart a b h = let g = simp (pos-⊖, dist-⊖) at h in omega arith
-
-    difference : (a b : ℕ) → b ≤ a → a ⊖ b ≡ pos (a - b)
-    difference a b h = simp pos-⊖ (⊖-eq _ _ _ _ (omega arith))
 
 -- ---- the laws
 
@@ -144,7 +144,7 @@ module _ (n low high u : ℕ) (s c : ℤ) (order : low ≤ high) (n-above : n * 
       (le-trans (dist-trans (pos high *ℤ (pos (2 ^ 64) *ℤ s)) (pos high *ℤ (pos n *ℤ c)) (pos (2 ^ 64 * low) *ℤ c))
       (total (le-trans (le-of-eq (dist-scale high (pos (2 ^ 64) *ℤ s) (pos n *ℤ c))) (mul-le-mul-left high short))
       (le-trans (le-of-eq (ap (λ (z : ℤ). dist z (pos (2 ^ 64 * low) *ℤ c)) (join high n c) ∙ ap₂ dist (*ℤ-comm (pos (n * high)) c) (*ℤ-comm (pos (2 ^ 64 * low)) c) ∙ dist-factor c (pos (n * high)) (pos (2 ^ 64 * low))))
-      (mul-le-mul c-size (apart (n * high) (2 ^ 64 * low) (1025 * high) n-above n-below))))))
+      (mul-le-mul c-size (near-naturals (n * high) (2 ^ 64 * low) (1025 * high) n-above n-below))))))
       (pow-pos 64)
     where
       merge : (l : ℕ) (c : ℤ) → pos (2 ^ 64) *ℤ (pos l *ℤ c) ≡ pos (2 ^ 64 * l) *ℤ c
@@ -152,9 +152,6 @@ module _ (n low high u : ℕ) (s c : ℤ) (order : low ≤ high) (n-above : n * 
 
       join : (h n : ℕ) (c : ℤ) → pos h *ℤ (pos n *ℤ c) ≡ pos (n * h) *ℤ c
       join h n c = sym (*ℤ-assoc (pos h) (pos n) c) ∙ ap (λ (k : ℕ). pos k *ℤ c) (mul-comm h n)
-
-      apart : (a b e : ℕ) → a ≤ b + e → b ≤ a + e → dist (pos a) (pos b) ≤ e
-      apart = near-naturals
 
       total : {p q : ℕ} → p ≤ high * (770 * 2 ^ 64 * u) → q ≤ 13 * 2 ^ 58 * u * (1025 * high) → p + q ≤ 2 ^ 64 * (1000 * u * high)
       total h k = omega arith

@@ -2,7 +2,7 @@
 use mathlib.Core.Path.{_≡_, refl, sym, ap, ap₂, _∙_, subst}
 use mathlib.Core.Logic.{_⊎_, inl, inr, ⊎-elim}
 use mathlib.Core.Bool.{Bool, true, false, cond, _&&_}
-use Prim.Native.Nat.{ℕ, _+_, _*_, _^_, _≤_, _<_}
+use Prim.Native.Nat.{ℕ, _+_, _*_, _≤_, _<_}
 use native.Mathlib.Nat.{le-trans, le-of-eq, one-mul, mul-le-mul-right, add-zero, zero-add, add-comm}
 use native.Mathlib.Omega.{arith}
 use lib.Dec.{T, leb, leb→le, le→leb, lit<, lit≤}
@@ -20,8 +20,8 @@ use Rattle.binary64.proofs.Magnitude.{most-weaken, add-most, sub-most, mul-most
 use Rattle.elementary.specs.Root.{root}
 use Rattle.elementary.proofs.root.Squares.{root-most}
 use Rattle.elementary.specs.Arctangent.{+0, 1ᶠ, atan2, cofunction, inUnit, acos, asin}
-use Rattle.elementary.specs.ArctangentPromise.{Domain, Within, Angle, Atan2Promise, InversePromise, AcosPromise, AsinPromise}
-use Rattle.elementary.proofs.arctangent.Edges.{1-finite, 1-mag, 1-sign}
+use Rattle.elementary.specs.ArctangentPromise.{Domain, UpToPi, Angle, InversePromise, AcosPromise, AsinPromise}
+use Rattle.elementary.proofs.arctangent.Slope.{1-finite, 1-mag, 1-sign}
 use Rattle.elementary.proofs.arctangent.Promise.{atan2-promise, +0-within}
 
 -- ---- from -1 to 1
@@ -183,10 +183,10 @@ module _ (f y x : Float → Float) (recipe : (c : Float) → f c ≡ cond (inUni
       go true t = absurd (none (in-unit c h t))
       go false t = refl
 
-  always : (c : Float) → T (fits binary64 c) → Within (f c)
-  always c h = subst Within (sym (recipe c)) (go (inUnit c) refl)
+  always : (c : Float) → T (fits binary64 c) → UpToPi (f c)
+  always c h = subst UpToPi (sym (recipe c)) (go (inUnit c) refl)
     where
-      go : (b : Bool) → inUnit c ≡ b → Within (cond b (atan2 (y c) (x c)) +0)
+      go : (b : Bool) → inUnit c ≡ b → UpToPi (cond b (atan2 (y c) (x c)) +0)
       go true t = atan2-promise .angle (y c) (x c) (place c (in-unit c h t)) .within
       go false t = +0-within
 

@@ -1,33 +1,33 @@
 -- atan2's promise: the recipe's angle as a float, against the 40-term sums at that float. Rests on Aimed, Exit and Fractions.
 use mathlib.Core.Path.{_≡_, refl, sym, ap, ap₂, _∙_, subst, subst₂}
 use mathlib.Core.Bool.{Bool, true, false, not, cond}
-use Prim.Native.Nat.{ℕ, zero, suc, _+_, _-_, _*_, _^_, _≤_, _<_, zero-le}
-use native.Mathlib.Nat.{le-refl, le-trans, le-of-eq, add-le-add, mul-le-mul-left, mul-le-mul-right, mul-comm, mul-assoc, le-of-mul-le-mul-right, zero-mul}
+use Prim.Native.Nat.{ℕ, _+_, _-_, _*_, _^_, _≤_, _<_, zero-le}
+use native.Mathlib.Nat.{le-trans, le-of-eq, mul-le-mul-left, mul-le-mul-right, mul-comm, mul-assoc, le-of-mul-le-mul-right}
 use native.Mathlib.Omega.{arith}
 use lib.Dec.{T, leb→le}
 use lib.ListN.{length}
-use lib.IntN.{ℤ, pos, negℤ, _+ℤ_, _-ℤ_, _*ℤ_, natAbs, *ℤ-comm}
+use lib.IntN.{ℤ, pos, _*ℤ_, natAbs, *ℤ-comm}
 use lib.Ieee.{Float, binary64, fits, ofBits, neg, mul, lt, ofInt, round}
-use Rattle.series.specs.Fraction.{Fraction, exact, signed}
+use Rattle.series.specs.Fraction.{exact, signed}
 use Rattle.series.specs.Kernel.{horner}
 use Rattle.series.specs.Taylor.{factorial}
-use Rattle.series.proofs.Integers.{dist, dist-trans, dist-comm, dist-scale, abs-mul, abs-negℤ, neg-*ℤ, *ℤ-assoc, *ℤ-left-comm}
-use Rattle.series.proofs.Polynomial.{hval, finer, finer-value}
+use Rattle.series.proofs.Integers.{dist, dist-trans, dist-scale, abs-mul, *ℤ-left-comm}
+use Rattle.series.proofs.Polynomial.{hval, finer-value}
 use Rattle.series.proofs.Quarter.{dist-signed}
 use Rattle.series.proofs.Sums.{scale, sinFrom, cosFrom, sin79, cos79}
 use Rattle.binary64.specs.Units.{one, Finite, mag, negative}
 use Rattle.binary64.specs.Units.{signedZero}
 use Rattle.binary64.specs.Constants.{pi}
-use Rattle.binary64.proofs.Units.{pow2-split, pow2-add, one-pos, neg-mag, neg-sign, neg-finite}
+use Rattle.binary64.proofs.Units.{pow2-split, one-pos, neg-mag, neg-sign, neg-finite}
 use Rattle.cells.specs.Arc.{arc, quarterTurn, halfTurn}
 use Rattle.cells.proofs.Plain.{val, value-units}
 use Rattle.cells.proofs.Tests.{sine80, cosine80, unit80, tick}
-use Rattle.cells.proofs.Cell.{near-naturals}
-use Rattle.cells.proofs.Turns.{sine-follows, cosine-follows}
+use Rattle.cells.proofs.Turns.{length-sine, length-cosine, sine-follows, cosine-follows}
 use Rattle.elementary.specs.Arctangent.{atan2, isNegative, magnitude, inDomain, tangent, firstQuarter, upperHalf, +0}
-use Rattle.elementary.specs.ArctangentPromise.{Domain, Within, Angle, halfPi, withSign, Atan2Promise}
+use Rattle.elementary.specs.ArctangentPromise.{Domain, UpToPi, Angle, halfPi, withSign, Atan2Promise}
 use Rattle.elementary.specs.ArctangentSteps.{InQuarter}
-use Rattle.elementary.proofs.arctangent.Edges.{+0-finite, +0-mag, isNegative-sign, magnitude-size, point, domain, inside, below-diagonal, above-diagonal, tangent-zero}
+use Rattle.elementary.proofs.arctangent.Domain.{+0-finite, +0-mag, isNegative-sign, magnitude-size, point, domain, inside}
+use Rattle.elementary.proofs.arctangent.Slope.{below-diagonal, above-diagonal, tangent-zero}
 use Rattle.elementary.proofs.arctangent.Exit.{grain, angleOf, angle-finite, angle-sign, angle-above, angle-below, angle-most, pi-mag}
 use Rattle.elementary.proofs.arctangent.Good.{Good, scaled, moved, loosened}
 use Rattle.elementary.proofs.arctangent.Aimed.{Aimed, place-small, below-axis, upper-aimed}
@@ -46,7 +46,7 @@ unit-pos = leb→le 1 unit80 tt
 -- 2^600 × 2^-62 is a tick × 1
 ticks : 2 ^ 600 * grain ≡ tick * one
 unfolding tick
-ticks = ap (λ (k : ℕ). 2 ^ 538 * 2 ^ 62 * k) refl ∙ mul-assoc (2 ^ 538) (2 ^ 62) grain ∙ ap (λ (k : ℕ). 2 ^ 538 * k) (sym (pow2-split 62 1012))
+ticks = mul-assoc (2 ^ 538) (2 ^ 62) grain ∙ ap (λ (k : ℕ). 2 ^ 538 * k) (sym (pow2-split 62 1012))
 
 pi-small : mag pi ≤ 4 * one
 pi-small = le-trans (le-of-eq pi-mag) (le-trans (below grain) (le-of-eq (ap (λ (k : ℕ). 4 * k) (sym (pow2-split 62 1012)))))
@@ -61,14 +61,6 @@ length-sin79 = refl
 length-cos79 : length cos79 ≡ 80
 unfolding cos79 cosFrom
 length-cos79 = refl
-
-length-sine : length sine80 ≡ 80
-unfolding sine80 sin79 sinFrom finer
-length-sine = refl
-
-length-cosine : length cosine80 ≡ 80
-unfolding cosine80 cos79 cosFrom finer
-length-cosine = refl
 
 -- ---- the sums at the float
 
@@ -232,13 +224,10 @@ module _ {y x : Float} (g : Domain y x) where
       most : mag t ≤ mag pi
       most = le-trans (le-of-eq (there-is .size)) (angle-most A (upper .1))
 
-      near : (s : Bool) (p q e : ℕ) → p ≤ q + e → q ≤ p + e → dist (signed s p) (signed s q) ≤ e
-      near = dist-signed
-
       close : dist (units t) (signed (negative y) A *ℤ pos grain) ≤ 2048 * grain
       close =
           subst₂ (λ (p q : ℤ). dist p q ≤ 2048 * grain) (sym (ap₂ (λ (s : Bool) (k : ℕ). signed s k) (there-is .sign) (there-is .size))) (sym (signed-times (negative y) A grain))
-          (near (negative y) (mag (angleOf A)) (A * grain) (2048 * grain) (angle-above A (upper .1)) (angle-below A (upper .1)))
+          (dist-signed (negative y) (mag (angleOf A)) (A * grain) (2048 * grain) (angle-above A (upper .1)) (angle-below A (upper .1)))
 
       sums : Good (units x) (units y) (pos ((2 ^ 600) ^ 80) *ℤ hval sin79 (exact t .num) (exact t .den)) (pos ((2 ^ 600) ^ 80) *ℤ hval cos79 (exact t .num) (exact t .den)) (exact t .den ^ 80 * (2 ^ 21 * unit80)) (exact t .den ^ 80 * (2 ^ 56 * unit80))
       sums = sums-good aimed (le-trans (le-of-eq (signed-size (negative y) A)) (upper .1)) (there-is .finite) most close
@@ -253,17 +242,17 @@ atan2-outside {y} {x} g f none = go (inDomain (magnitude x) (magnitude y)) refl
     go true t = absurd (none (domain g f t))
     go false t = refl
 
-pub +0-within : Within +0
+pub +0-within : UpToPi +0
 +0-within = record { finite = +0-finite; most = le-trans (le-of-eq +0-mag) zero-le }
 
-pub atan2-within : (y x : Float) → T (fits binary64 y) → T (fits binary64 x) → Within (atan2 y x)
+pub atan2-within : (y x : Float) → T (fits binary64 y) → T (fits binary64 x) → UpToPi (atan2 y x)
 unfolding atan2
 atan2-within y x g f = go (inDomain (magnitude x) (magnitude y)) refl
   where
-    go : (b : Bool) → inDomain (magnitude x) (magnitude y) ≡ b → Within (cond b (signedAngle (isNegative y) (upperHalf x (magnitude x) (magnitude y))) +0)
+    go : (b : Bool) → inDomain (magnitude x) (magnitude y) ≡ b → UpToPi (cond b (signedAngle (isNegative y) (upperHalf x (magnitude x) (magnitude y))) +0)
     go true t =
         let d = domain {y = y} {x = x} g f t in
-        subst (λ (s : Bool). Within (signedAngle s (upperHalf x (magnitude x) (magnitude y)))) (sym (isNegative-sign (d .y-size .finite))) (angle-promise d .within)
+        subst (λ (s : Bool). UpToPi (signedAngle s (upperHalf x (magnitude x) (magnitude y)))) (sym (isNegative-sign (d .y-size .finite))) (angle-promise d .within)
     go false t = +0-within
 
 -- ---- zeros

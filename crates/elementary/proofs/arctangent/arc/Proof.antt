@@ -7,10 +7,6 @@ use Rattle.cells.specs.Arc as cells
 use borrow.Author.Needs.{needs}
 use Rattle.elementary.proofs.arctangent.arc.Statement.{statement}
 use Rattle.elementary.proofs.arctangent.arc.Tie as tie
-use Rattle.elementary.proofs.arctangent.arc.Reads as reads
-use Rattle.elementary.proofs.arctangent.arc.Lts as lts
-use Rattle.elementary.proofs.arctangent.horner.Reads as horner-reads
-use Rattle.elementary.proofs.fixed.mulhi.Reads as mulhi-reads
 
 mulhi-requires : tie.Need-mulhi-requires
 mulhi-requires c κs = search needs

@@ -4,11 +4,6 @@ use Rattle.elementary.specs.Arctangent as recipe
 use borrow.Author.Needs.{needs}
 use Rattle.elementary.proofs.arctangent.asin.Statement.{statement}
 use Rattle.elementary.proofs.arctangent.asin.Tie as tie
-use Rattle.elementary.proofs.arctangent.asin.Reads as reads
-use Rattle.elementary.proofs.arctangent.asin.Lts as lts
-use Rattle.elementary.proofs.arctangent.atan2.Reads as atan2-reads
-use Rattle.elementary.proofs.arctangent.cofunction.Reads as cofunction-reads
-use Rattle.elementary.proofs.arctangent.in_unit.Reads as in-unit-reads
 
 in-unit-requires : tie.Need-in-unit-requires
 in-unit-requires c κs = search needs

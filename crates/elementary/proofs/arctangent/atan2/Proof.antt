@@ -4,20 +4,13 @@ use lib.Dec.{T}
 use lib.Ieee.{Float, binary64, fits}
 use Rattle.elementary.specs.Arctangent.{magnitude, inDomain}
 use Rattle.elementary.specs.ArctangentSteps.{InQuarter}
-use Rattle.elementary.proofs.arctangent.Edges.{domain, point}
+use Rattle.elementary.proofs.arctangent.Domain.{domain, point}
 use mathlib.Core.Path.{refl}
 -- `atan2` meets its contract.
 use Rattle.elementary.specs.Arctangent as recipe
 use borrow.Author.Needs.{needs}
 use Rattle.elementary.proofs.arctangent.atan2.Statement.{statement}
 use Rattle.elementary.proofs.arctangent.atan2.Tie as tie
-use Rattle.elementary.proofs.arctangent.atan2.Reads as reads
-use Rattle.elementary.proofs.arctangent.atan2.Lts as lts
-use Rattle.elementary.proofs.arctangent.in_domain.Reads as in-domain-reads
-use Rattle.elementary.proofs.arctangent.is_negative.Reads as is-negative-reads
-use Rattle.elementary.proofs.arctangent.magnitude.Reads as magnitude-reads
-use Rattle.elementary.proofs.arctangent.upper_half.Reads as upper-half-reads
-use Rattle.std.proofs.num.nearest_u64_to_f64.Reads as nearest-u64-to-f64-reads
 
 magnitude-requires : tie.Need-magnitude-requires
 magnitude-requires c κs = search needs

@@ -3,9 +3,6 @@ use Rattle.elementary.specs.Arctangent as recipe
 use borrow.Author.Needs.{needs}
 use Rattle.elementary.proofs.arctangent.cofunction.Statement.{statement}
 use Rattle.elementary.proofs.arctangent.cofunction.Tie as tie
-use Rattle.elementary.proofs.arctangent.cofunction.Reads as reads
-use Rattle.elementary.proofs.arctangent.cofunction.Lts as lts
-use Rattle.elementary.proofs.root.root.Reads as root-reads
 
 root-requires : tie.Need-root-requires
 root-requires c κs = search needs

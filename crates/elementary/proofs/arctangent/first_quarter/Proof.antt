@@ -1,15 +1,11 @@
 use mathlib.Core.Path.{refl}
-use Rattle.elementary.proofs.arctangent.Edges.{below-diagonal, above-diagonal}
+use Rattle.elementary.proofs.arctangent.Slope.{below-diagonal, above-diagonal}
 -- `first_quarter` meets its contract.
 use native.Mathlib.Omega.{arith}
 use Rattle.elementary.specs.Arctangent as recipe
 use borrow.Author.Needs.{needs}
 use Rattle.elementary.proofs.arctangent.first_quarter.Statement.{statement}
 use Rattle.elementary.proofs.arctangent.first_quarter.Tie as tie
-use Rattle.elementary.proofs.arctangent.first_quarter.Reads as reads
-use Rattle.elementary.proofs.arctangent.first_quarter.Lts as lts
-use Rattle.elementary.proofs.arctangent.arc.Reads as arc-reads
-use Rattle.elementary.proofs.arctangent.tangent.Reads as tangent-reads
 
 tangent-requires : tie.Need-tangent-requires
 tangent-requires c κs = below-diagonal (c .before .pre) (c .if1 .taken)

@@ -3,10 +3,6 @@ use Rattle.series.specs.Kernel as kernel
 use borrow.Author.Needs.{needs}
 use Rattle.elementary.proofs.arctangent.horner.Statement.{statement}
 use Rattle.elementary.proofs.arctangent.horner.Tie as tie
-use Rattle.elementary.proofs.arctangent.horner.Reads as reads
-use Rattle.elementary.proofs.arctangent.horner.Lts as lts
-use Rattle.elementary.proofs.arctangent.later_half.Reads as later-half-reads
-use Rattle.elementary.proofs.fixed.step.Reads as step-reads
 
 later-half-requires : tie.Need-later-half-requires
 later-half-requires c κs = search needs

@@ -1,11 +1,8 @@
 -- `in_domain` meets its contract: the tests are those of the definition.
 use mathlib.Core.Path.{refl}
 use Rattle.elementary.specs.Arctangent.{inDomain}
-use borrow.Author.Needs.{needs}
 use Rattle.elementary.proofs.arctangent.in_domain.Statement.{statement}
 use Rattle.elementary.proofs.arctangent.in_domain.Tie as tie
-use Rattle.elementary.proofs.arctangent.in_domain.Reads as reads
-use Rattle.elementary.proofs.arctangent.in_domain.Lts as lts
 
 returns : tie.Need-returns
 unfolding inDomain

@@ -1,10 +1,7 @@
 -- `in_unit` meets its contract: the tests are those of the definition.
 use mathlib.Core.Path.{refl}
-use borrow.Author.Needs.{needs}
 use Rattle.elementary.proofs.arctangent.in_unit.Statement.{statement}
 use Rattle.elementary.proofs.arctangent.in_unit.Tie as tie
-use Rattle.elementary.proofs.arctangent.in_unit.Reads as reads
-use Rattle.elementary.proofs.arctangent.in_unit.Lts as lts
 
 returns : tie.Need-returns
 returns c = rw (c .if1 .taken) refl

@@ -1,11 +1,9 @@
 -- `later_half` meets its contract: each step is one of the definition's, and its result is no more than its coefficient.
+use mathlib.Core.Path.{refl}
 use Rattle.series.specs.Kernel as kernel
 use borrow.Author.Needs.{needs}
 use Rattle.elementary.proofs.arctangent.later_half.Statement.{statement}
 use Rattle.elementary.proofs.arctangent.later_half.Tie as tie
-use Rattle.elementary.proofs.arctangent.later_half.Reads as reads
-use Rattle.elementary.proofs.arctangent.later_half.Lts as lts
-use Rattle.elementary.proofs.fixed.step.Reads as step-reads
 
 step-requires : tie.Need-step-requires
 step-requires c κs = search needs
@@ -39,7 +37,21 @@ step-requires-10 c κs = search needs
 
 returns : tie.Need-returns
 unfolding kernel.horner
-returns c = (cc, c .step10 .ensures .1)
+returns c = (
+  rw (
+    c .step10 .ensures .0,
+    c .before .step9 .ensures .0,
+    c .before .before .step8 .ensures .0,
+    c .before .before .before .step7 .ensures .0,
+    c .before .before .before .before .step6 .ensures .0,
+    c .before .before .before .before .before .step5 .ensures .0,
+    c .before .before .before .before .before .before .step4 .ensures .0,
+    c .before .before .before .before .before .before .before .step3 .ensures .0,
+    c .before .before .before .before .before .before .before .before .step2 .ensures .0,
+    c .before .before .before .before .before .before .before .before .before .step .ensures .0,
+  ) refl,
+  c .step10 .ensures .1,
+)
 
 pub later-half-spec : {M : Type 1} → statement M
 later-half-spec =

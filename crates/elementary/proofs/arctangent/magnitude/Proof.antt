@@ -2,9 +2,6 @@
 use borrow.Author.Needs.{needs}
 use Rattle.elementary.proofs.arctangent.magnitude.Statement.{statement}
 use Rattle.elementary.proofs.arctangent.magnitude.Tie as tie
-use Rattle.elementary.proofs.arctangent.magnitude.Reads as reads
-use Rattle.elementary.proofs.arctangent.magnitude.Lts as lts
-use Rattle.elementary.proofs.arctangent.is_negative.Reads as is-negative-reads
 
 is-negative-requires : tie.Need-is-negative-requires
 is-negative-requires c κs = search needs

@@ -1,13 +1,9 @@
 use mathlib.Core.Path.{refl}
-use Rattle.elementary.proofs.arctangent.Edges.{above-minus-one, below-top}
+use Rattle.elementary.proofs.arctangent.Slope.{above-minus-one, below-top}
 -- `tangent` meets its contract.
 use Rattle.elementary.specs.Arctangent as recipe
-use borrow.Author.Needs.{needs}
 use Rattle.elementary.proofs.arctangent.tangent.Statement.{statement}
 use Rattle.elementary.proofs.arctangent.tangent.Tie as tie
-use Rattle.elementary.proofs.arctangent.tangent.Reads as reads
-use Rattle.elementary.proofs.arctangent.tangent.Lts as lts
-use Rattle.std.proofs.num.truncating_f64_to_u64.Reads as truncating-f64-to-u64-reads
 
 truncating-f64-to-u64-requires : tie.Need-truncating-f64-to-u64-requires
 truncating-f64-to-u64-requires c κs = (above-minus-one (c .before .pre), below-top (c .before .pre) (c .if1 .taken))

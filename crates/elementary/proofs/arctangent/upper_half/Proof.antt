@@ -5,10 +5,6 @@ use Rattle.elementary.specs.Arctangent as recipe
 use borrow.Author.Needs.{needs}
 use Rattle.elementary.proofs.arctangent.upper_half.Statement.{statement}
 use Rattle.elementary.proofs.arctangent.upper_half.Tie as tie
-use Rattle.elementary.proofs.arctangent.upper_half.Reads as reads
-use Rattle.elementary.proofs.arctangent.upper_half.Lts as lts
-use Rattle.elementary.proofs.arctangent.first_quarter.Reads as first-quarter-reads
-use Rattle.elementary.proofs.arctangent.is_negative.Reads as is-negative-reads
 
 first-quarter-requires : tie.Need-first-quarter-requires
 first-quarter-requires c κs = search needs
