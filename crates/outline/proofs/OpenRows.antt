@@ -8,7 +8,9 @@ use native.Mathlib.Nat.{lt-of-lt-of-le, le-trans}
 use native.Mathlib.Omega.{arith}
 use borrow.Author.Tests.{eqb-true}
 use lib.Count.{ones}
-use lib.Dec.{eqb, leb→le, lit≤}
+use lib.Dec.{T, eqb, leb→le, lit≤}
+use lib.Ieee.Fits.{and-i}
+use lib.Signed.{leZ}
 use lib.Ieee.{Float, binary64, ofInt}
 use lib.IntN.{ℤ, pos, negsuc, natAbs, negℤ}
 use Rattle.binary64.specs.Magnitude.{Most}
@@ -31,6 +33,8 @@ use Rattle.regions.proofs.Demand.{list-ends-afresh}
 use Rattle.plan.specs.Book.{Entry}
 use Rattle.plan.specs.Checks.{planAnswer}
 use Rattle.plan.specs.Exactly.{Within, HeadMet}
+use Rattle.heads.specs.Limits.{inLimits, positionInLimits, radiusInLimits}
+use Rattle.exact.proofs.Theorem.{no-points-unless-met}
 use Rattle.plan.specs.declared.Answer.the-variants.{Taken}
 use Rattle.plan.specs.declared.Ground.{Ground}
 use Rattle.plan.specs.declared.Needed.{Needed}
@@ -235,11 +239,29 @@ open-row h n S hn hS = by (isSingle S) refl
         ∙ rw (circles-length h n) (heads-size n S ∙ sym (ones-size n S hS) ∙ eqb-true (ones S) 1 e))
         (circles-are h n S)
 
--- The list theorem for open rows. It asks that heads which do not meet by whole numbers have no meeting points.
-pub open-list-ends-afresh : (box : Ground → Float) (sets : Plan → ℕ → Bool) → Faithful (openMethod box sets)
+-- a head within the limits as `plan` says it is one within the limits as `heads` says it
+within-test : (low high z : ℤ) → Within low high z → T (leZ low z && leZ z high)
+within-test low high z w = and-i (leZ low z) (leZ z high) (w .0 .le) (w .1 .le)
+
+within-limits : (h : Head) → HeadMet h → T (inLimits h)
+within-limits h m =
+    and-i (positionInLimits (h .x)) (positionInLimits (h .y) && radiusInLimits (h .radius))
+    (within-test (negℤ (pos 20000)) (pos 20000) (h .x) (m .0))
+    (and-i (positionInLimits (h .y)) (radiusInLimits (h .radius))
+    (within-test (negℤ (pos 20000)) (pos 20000) (h .y) (m .1))
+    (within-test (pos 1) (pos 20000) (h .radius) (m .2)))
+
+-- The geometry of open rows is faithful: heads that do not meet by whole numbers have no meeting points.
+pub open-faithful : (box : Ground → Float) (sets : Plan → ℕ → Bool) → Faithful (openMethod box sets)
+unfolding circleOf
+open-faithful box sets =
+    record { apart = λ g a b ha hb e. no-points-unless-met a b (within-limits a ha) (within-limits b hb) e }
+
+-- The list theorem for open rows, with nothing asked.
+pub open-list-ends-afresh : (box : Ground → Float) (sets : Plan → ℕ → Bool)
     → (needed : Needed) (p : Plan) → length (p .heads) ≡ 10 → planAnswer p ≡ Taken
     → (rows : ℕ → TableRow) → AfreshRows (openMethod box sets) p rows → (es : List Entry) → Ends (openMethod box sets) needed p rows es
-open-list-ends-afresh box sets faithful = list-ends-afresh (openMethod box sets) faithful
+open-list-ends-afresh box sets = list-ends-afresh (openMethod box sets) (open-faithful box sets)
 
 -- ---- finiteness
 
