@@ -3,3 +3,4 @@ pub mod Breaks
 pub mod Parts
 pub mod Area
 pub mod Gradient
+pub mod Worked
