@@ -1,5 +1,6 @@
 pub mod Arrays
 pub mod Sorting
+pub mod Ordering
 pub mod Gathering
 pub mod Counting
 pub mod Owning
@@ -7,3 +8,7 @@ pub mod Gaps
 pub mod Summing
 pub mod Walking
 pub mod Listing
+pub mod Adopting
+pub mod Collecting
+pub mod OpenRows
+pub mod Finiteness

@@ -1,5 +1,10 @@
+pub mod Every
 pub mod Sort
 pub mod Outline
 pub mod Area
 pub mod Set
 pub mod Lists
+pub mod Points
+pub mod Counts
+pub mod Rows
+pub mod Finite

@@ -4,6 +4,7 @@ pub mod angles;
 pub mod arcs;
 pub mod area;
 pub mod candidates;
+pub mod collect;
 pub mod gradient;
 pub mod members;
 pub mod outline;

@@ -3,3 +3,4 @@ pub mod Masks
 pub mod Kept
 pub mod Rows
 pub mod Simulation
+pub mod Demand

@@ -7,7 +7,7 @@ use lib.Bits.{bitAnd}
 use lib.Dec.{eqb, ltb}
 use borrow.Author.Tests.{eqb-true, eq-eqb, ltb-true, ltb-false}
 use Rattle.masks.specs.Mask.{inSet, gather, every, subset}
-use Rattle.masks.specs.Operations.{in-and, in-power, in-of-zero, bit-of-zero, in-beyond}
+use Rattle.masks.specs.Operations.{in-and, in-power, in-of-zero, bit-of-zero, in-beyond, in-ext}
 use Rattle.masks.specs.Gather.{in-gather}
 use Rattle.regions.specs.Edit.{overlaps}
 
@@ -48,3 +48,19 @@ head-below S n l h i = at (ltb l n) refl
     at : (b : Bool) → ltb l n ≡ b → l < n
     at true e = ltb-true l n e
     at false e = absurd (true≢false (sym i ∙ in-beyond n S l h (ltb-false l n e)))
+
+-- a head in both: they overlap
+pub overlap-at : (S U l : ℕ) → inSet S l ≡ true → inSet U l ≡ true → overlaps S U ≡ true
+overlap-at S U l i j = at (overlaps S U) refl
+  where
+    at : (b : Bool) → overlaps S U ≡ b → b ≡ true
+    at true e = refl
+    at false e = absurd (true≢false (sym j ∙ no-overlap S U l e i))
+
+-- no head in both: they do not overlap
+pub overlap-none : (S U : ℕ) → ((l : ℕ) → inSet S l ≡ true → inSet U l ≡ false) → overlaps S U ≡ false
+overlap-none S U h = ap not (eq-eqb (bitAnd S U) 0 (in-ext (bitAnd S U) 0 (λ l. in-and S U l ∙ at l (inSet S l) refl ∙ sym (in-of-zero 0 l (bit-of-zero l)))))
+  where
+    at : (l : ℕ) (b : Bool) → inSet S l ≡ b → (b && inSet U l) ≡ false
+    at l true i = h l i
+    at l false i = refl

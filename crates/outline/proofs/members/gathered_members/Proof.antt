@@ -1,4 +1,4 @@
--- `members::members_of` meets its contract. The invariant: the two arrays hold the heads of the set below j.
+-- `members::gathered_members` meets its contract. The invariant: the two arrays hold the heads of the set below j.
 use borrow.Author.Needs.{needs}
 use mathlib.Core.Path.{_≡_, sym, _∙_}
 use mathlib.Core.Logic.{⊎-elim}
@@ -10,8 +10,8 @@ use lib.Seq.{getD-take}
 use Rattle.masks.specs.Operations.{in-by-shift}
 use Rattle.outline.specs.Area.{noCircle}
 use Rattle.outline.proofs.Gathering.{Gathered, gathered-none, gathered-with, gathered-without, gathered-count}
-use Rattle.outline.proofs.members.members_of.Statement.{statement}
-use Rattle.outline.proofs.members.members_of.Tie as tie
+use Rattle.outline.proofs.members.gathered_members.Statement.{statement}
+use Rattle.outline.proofs.members.gathered_members.Tie as tie
 
 abbrev Inv-loop : tie.InvT-loop
 Inv-loop mask n-sets circles heads₀ chosen₀ count₀ j₀ heads chosen count j = (length heads ≡ 10) × (length chosen ≡ 10) × (length circles ≡ 10) × (j ≤ 10) × (j ≤ n-sets) × Gathered (take n-sets circles) mask j heads chosen count
@@ -98,8 +98,8 @@ returns-2 c = let d = c .before in
     let g = d .loop .inv .5 in
     rw e (gathered-count (take (d .before .args .n-sets) (d .before .args .t2)) (d .before .args .mask) (d .loop .heads) (d .loop .chosen) (d .loop .j) (d .loop .count) (omega (arith, g .few)) g, (g .numbers, g .theirs))
 
-pub members-of-spec : {M : Type 1} → statement M
-members-of-spec =
+pub gathered-members-spec : {M : Type 1} → statement M
+gathered-members-spec =
     tie.close
     (tie.spec
     Inv-loop

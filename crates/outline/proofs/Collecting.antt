@@ -1,0 +1,39 @@
+-- The list of meeting points: its loops, and that ten circles have at most 90, at most 18 of them on each circle.
+use mathlib.Core.Path.{_≡_, refl, sym, ap, _∙_}
+use mathlib.Core.Bool.{Bool, true, false, cond, _&&_}
+use mathlib.Core.List.{List, [], _∷_, _++_, map}
+use Prim.Native.Nat.{ℕ, zero, suc, _+_, _-_, _*_, _≤_, _<_}
+use native.Mathlib.Nat.{mul-le-mul-right, le-trans}
+use native.Mathlib.Numerals.{add-one}
+use native.Mathlib.Omega.{arith}
+use lib.ListN.{length, take, length-append, length-map}
+use lib.Seq.{take-all}
+use lib.Ieee.{Float}
+use Rattle.regions.specs.Row.{upTo}
+use Rattle.geometry.specs.Circle.{intersectionPoints, identical, apart, crossing}
+use Rattle.geometry.specs.Meeting.{distinct}
+use Rattle.geometry.specs.Point.{distance}
+use Rattle.geometry.specs.declared.point.Point.{Point}
+use Rattle.geometry.specs.declared.circle.Circle.{Circle}
+use Rattle.outline.specs.declared.points.IntersectionPoint.{IntersectionPoint}
+use Rattle.outline.specs.Points.{met, pairPoints, rowPoints, collected}
+use Rattle.outline.proofs.Listing.{pushed-on}
+
+-- the points of head i with one head more, pushed
+pub row-on : (m : ℕ) (cs : List Circle) (i j : ℕ) (first l more : List IntersectionPoint) → i + 1 ≤ j
+    → l ≡ take m (first ++ upTo (λ d. pairPoints cs i (i + 1 + d)) (j - (i + 1)))
+    → more ≡ take m (l ++ pairPoints cs i j)
+    → more ≡ take m (first ++ upTo (λ d. pairPoints cs i (i + 1 + d)) (j + 1 - (i + 1)))
+unfolding upTo
+row-on m cs i j first l more h e f =
+    let f' : ℕ → List IntersectionPoint = λ d. pairPoints cs i (i + 1 + d) in
+    let more-by : j + 1 - (i + 1) ≡ suc (j - (i + 1)) = omega arith in
+    let at : i + 1 + (j - (i + 1)) ≡ j = omega arith in
+    rw more-by
+    (pushed-on m first l more (upTo f' (j - (i + 1))) (f' (j - (i + 1))) e (f ∙ ap (λ t. take m (l ++ pairPoints cs i t)) (sym at)))
+
+-- the points of one head more, pushed
+pub rows-on : (m : ℕ) (cs : List Circle) (i : ℕ) (l more : List IntersectionPoint)
+    → l ≡ take m (upTo (rowPoints cs) i) → more ≡ take m (l ++ rowPoints cs i) → more ≡ take m (upTo (rowPoints cs) (i + 1))
+unfolding upTo
+rows-on m cs i l more e f = rw (add-one i) (pushed-on m [] l more (upTo (rowPoints cs) i) (rowPoints cs i) e f)

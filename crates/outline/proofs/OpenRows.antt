@@ -1,0 +1,281 @@
+-- The open area that the code works out for a set of a plan's heads is base 4's row over the geometry of open rows.
+use mathlib.Core.Path.{_≡_, refl, sym, ap, ap₂, _∙_}
+use mathlib.Core.Bool.{Bool, true, false, _&&_, _||_, cond}
+use mathlib.Core.List.{List, [], _∷_, _++_, map, map-append}
+use mathlib.Core.Logic.{⊎-elim}
+use Prim.Native.Nat.{ℕ, zero, suc, _+_, _-_, _^_, _≤_, _<_, suc-le-suc}
+use native.Mathlib.Nat.{lt-of-lt-of-le, le-trans}
+use native.Mathlib.Omega.{arith}
+use borrow.Author.Tests.{eqb-true}
+use lib.Count.{ones}
+use lib.Dec.{eqb, leb→le, lit≤}
+use lib.Ieee.{Float, binary64, ofInt}
+use lib.IntN.{ℤ, pos, negsuc, natAbs, negℤ}
+use Rattle.binary64.specs.Magnitude.{Most}
+use Rattle.binary64.proofs.Whole.{ofInt-most}
+use lib.ListN.{length, getD, length-append, length-map, List·getD-append}
+use lib.Pow.{pow-mono}
+use lib.Seq.{getD-at}
+use Rattle.heads.specs.declared.Head.{Head}
+use Rattle.masks.specs.Mask.{bit, inSet, gather, size}
+use Rattle.masks.specs.Operations.{lt-or-eq, one-of-in, zero-of-in}
+use Rattle.masks.specs.Gather.{gather-lt, in-gather, gather-unique}
+use Rattle.masks.specs.Subset.{and-test}
+use Rattle.masks.specs.Size.{ones-size}
+use Rattle.regions.specs.Row as Row
+use Rattle.regions.specs.Row.{upTo, keep, intersections, isSingle, rowArea}
+use Rattle.regions.specs.Edit.{Row as TableRow}
+use Rattle.regions.specs.Demand.{Faithful, AfreshRows, Ends}
+use Rattle.regions.proofs.Demand.{list-ends-afresh}
+use Rattle.plan.specs.Book.{Entry}
+use Rattle.plan.specs.Checks.{planAnswer}
+use Rattle.plan.specs.Exactly.{Within, HeadMet}
+use Rattle.plan.specs.declared.Answer.the-variants.{Taken}
+use Rattle.plan.specs.declared.Ground.{Ground}
+use Rattle.plan.specs.declared.Needed.{Needed}
+use Rattle.plan.specs.declared.Plan.{Plan}
+use Rattle.regions.proofs.Lists.{upTo-cong, upTo-through}
+use Rattle.geometry.specs.Circle.{intersectionPoints}
+use Rattle.geometry.specs.declared.point.Point.{Point}
+use Rattle.geometry.specs.declared.circle.Circle.{Circle}
+use Rattle.outline.specs.declared.points.IntersectionPoint.{IntersectionPoint}
+use Rattle.outline.specs.Outline.{Member, circlesOf, outline}
+use Rattle.outline.specs.Area.{noCircle, areaOf, openArea}
+use Rattle.outline.specs.Set.{headsOf, countedFor, pointsFor, circleAt, memberAt, membersOf}
+use Rattle.outline.specs.Points.{adopts, met, pairPoints, rowPoints, collected}
+use Rattle.outline.specs.Counts.{points-whole, heads-below, outline-few}
+use Rattle.outline.specs.Every.{Every, every-map}
+use Rattle.outline.specs.Finite.{Promised, InDomain}
+use Rattle.outline.proofs.Finiteness.{area-finite}
+use Rattle.outline.specs.Rows.{circleOf, circlesOfHeads, memberOf, openGeometry, openMethod}
+use Rattle.outline.proofs.Walking.{circles-of-members, outline-one}
+use Rattle.outline.proofs.Walking.{members-many as heads-many}
+
+-- ---- lists
+
+map-alike : {A B C : Type 0} (f : A → C) (g : B → C) (f' : A → B) → ((a : A) → f a ≡ g (f' a)) → (l : List A) → map f l ≡ map g (map f' l)
+map-alike f g f' e [] = refl
+map-alike f g f' e (a ∷ l) = ap₂ _∷_ (e a) (map-alike f g f' e l)
+
+-- those of a mapped list that pass
+keep-mapped : {A B C : Type 0} (s : A → B) (p : B → Bool) (q : A → Bool) (f : B → C) (g : A → C)
+    → ((a : A) → p (s a) ≡ q a) → ((a : A) → f (s a) ≡ g a) → (l : List A) → map f (keep p (map s l)) ≡ map g (keep q l)
+unfolding keep
+keep-mapped s p q f g e d [] = refl
+keep-mapped s p q f g e d (a ∷ l) = rw (e a) (by (q a) (keep-mapped s p q f g e d l))
+  where
+    by : (b : Bool) → map f (keep p (map s l)) ≡ map g (keep q l)
+        → map f (cond b (s a ∷ keep p (map s l)) (keep p (map s l))) ≡ map g (cond b (a ∷ keep q l) (keep q l))
+    by true r = ap₂ _∷_ (d a) r
+    by false r = r
+
+gather-cong : (n : ℕ) (p q : ℕ → Bool) → ((i : ℕ) → i < n → p i ≡ q i) → gather n p ≡ gather n q
+gather-cong n p q e = gather-unique n (gather n p) q (gather-lt n p) (λ i h. in-gather n p i h ∙ e i h)
+
+-- the heads of a set are as many as its bits
+heads-size : (n S : ℕ) → length (headsOf n S) ≡ size n S
+unfolding headsOf upTo size
+heads-size zero S = refl
+heads-size (suc n) S =
+    length-append (upTo (λ j. cond (inSet S j) (j ∷ []) []) n) (cond (inSet S n) (n ∷ []) []) ∙ ap₂ _+_ (heads-size n S) (by (inSet S n) refl)
+  where
+    by : (b : Bool) → inSet S n ≡ b → length (cond b (n ∷ []) []) ≡ bit S n
+    by true e = sym (one-of-in S n e)
+    by false e = sym (zero-of-in S n e)
+
+-- ---- circles of heads
+
+module _ (h : ℕ → Head) where
+  circles-length : (n : ℕ) → length (circlesOfHeads h n) ≡ n
+  unfolding circlesOfHeads
+  circles-length zero = refl
+  circles-length (suc n) = omega (arith, length-append (upTo (λ i. circleOf (h i) ∷ []) n) (circleOf (h n) ∷ []), circles-length n)
+
+  circle-at : (n j : ℕ) → j < n → circleAt (circlesOfHeads h n) j ≡ circleOf (h j)
+  unfolding circlesOfHeads
+  circle-at zero j g = absurd (omega arith)
+  circle-at (suc n) j g =
+      ⊎-elim
+      (λ k. List·getD-append (circlesOfHeads h n) (circleOf (h n) ∷ []) noCircle j (rw (circles-length n) k) ∙ circle-at n j k)
+      (λ k. rw k (getD-at (circlesOfHeads h n) (circleOf (h n)) [] noCircle n (circles-length n)))
+      (lt-or-eq j n g)
+
+-- ---- meeting points
+
+-- base 4's meeting point as the code's struct
+abbrev structOf : Row.IntersectionPoint Point → IntersectionPoint
+structOf q = record { point = q .point; first = q .first; second = q .second; adopters = q .adopters }
+
+module _ (h : ℕ → Head) (n : ℕ) where
+  abbrev cs : List Circle
+  cs = circlesOfHeads h n
+
+  adopts-is : (i k : ℕ) → i < n → k < n → (p : Point) (l : ℕ) → l < n → adopts cs i k p l ≡ Row.adopts? openGeometry h i k p l
+  unfolding adopts Row.adopts?
+  adopts-is i k hi hk p l hl = rw (circle-at h n i hi, circle-at h n k hk, circle-at h n l hl)
+
+  met-is : (i k : ℕ) → i < n → k < n → (p : Point) → met cs i k p ≡ structOf (Row.intersectionPoint openGeometry h n i k p)
+  unfolding met
+  met-is i k hi hk p =
+      ap (λ m. record { point = p; first = i; second = k; adopters = m })
+      (rw (circles-length h n)
+      (gather-cong n (adopts (circlesOfHeads h n) i k p) (Row.adopts? openGeometry h i k p) (adopts-is i k hi hk p)))
+
+  pair-is : (i k : ℕ) → i < n → k < n → pairPoints cs i k ≡ map structOf (Row.pairPoints openGeometry h n i k)
+  unfolding pairPoints Row.pairPoints
+  pair-is i k hi hk =
+      rw (circle-at h n i hi, circle-at h n k hk)
+      (map-alike (met (circlesOfHeads h n) i k) structOf (Row.intersectionPoint openGeometry h n i k) (met-is i k hi hk) (intersectionPoints (circleOf (h i)) (circleOf (h k))))
+
+  mapped : (f : ℕ → List (Row.IntersectionPoint Point)) (m : ℕ) → map structOf (upTo f m) ≡ upTo (λ i. map structOf (f i)) m
+  mapped f m = upTo-through (map structOf) refl (map-append structOf) f m
+
+  -- base 4's points of head i with the heads after it
+  row : ℕ → List (Row.IntersectionPoint Point)
+  row i = upTo (λ d. Row.pairPoints openGeometry h n i (i + 1 + d)) (n - (i + 1))
+
+  row-is : (i : ℕ) → i < n → rowPoints cs i ≡ map structOf (row i)
+  unfolding rowPoints row
+  row-is i hi =
+      rw (circles-length h n)
+      (upTo-cong (λ d. pairPoints (circlesOfHeads h n) i (i + 1 + d)) (λ d. map structOf (Row.pairPoints openGeometry h n i (i + 1 + d))) (n - (i + 1))
+      (λ d hd. pair-is i (i + 1 + d) hi (omega arith))
+      ∙ sym (mapped (λ d. Row.pairPoints openGeometry h n i (i + 1 + d)) (n - (i + 1))))
+
+  collected-is : collected cs ≡ map structOf (intersections openGeometry h n)
+  unfolding collected intersections row
+  collected-is =
+      rw (circles-length h n) (upTo-cong (rowPoints (circlesOfHeads h n)) (λ i. map structOf (row i)) n row-is ∙ sym (mapped row n))
+
+  -- ---- members
+
+  counted-same : (S j : ℕ) → S < 2 ^ n → n ≤ 10 → (q : Row.IntersectionPoint Point) → countedFor S j (structOf q) ≡ Row.countedFor n S j q
+  unfolding countedFor Row.countedFor
+  counted-same S j hS hn q =
+      ap (λ b. (eqb (q .first) j || eqb (q .second) j) && b)
+      (sym (and-test 64 S (q .adopters) (lt-of-lt-of-le hS (pow-mono {i = n} {j = 64} (omega arith)))) ∙ and-test n S (q .adopters) hS)
+
+  counted-is : (S j : ℕ) → S < 2 ^ n → n ≤ 10 → j < n → pointsFor (collected cs) S j ≡ Row.counted openGeometry h n S j
+  unfolding Row.counted
+  counted-is S j hS hn hj =
+      points-whole cs S j (rw (circles-length h n) hn) (rw (circles-length h n) hj)
+      ∙ rw collected-is
+      (keep-mapped structOf (countedFor S j) (Row.countedFor n S j) (λ q. q .point) (λ q. q .point) (counted-same S j hS hn) (λ q. refl) (intersections openGeometry h n))
+
+  -- a member of a set of two heads or more
+  member-is : (S j : ℕ) → S < 2 ^ n → n ≤ 10 → j < n → isSingle S ≡ false
+      → memberAt cs (collected cs) S j ≡ memberOf (Row.member openGeometry h n S j)
+  unfolding memberAt
+  member-is S j hS hn hj hs = rw (circle-at h n j hj, counted-is S j hS hn hj, hs)
+
+  -- a loop over the heads of a set, mapped
+  heads-mapped : {A : Type 0} (f : ℕ → A) (S : ℕ) → map f (headsOf n S) ≡ upTo (λ j. cond (inSet S j) (f j ∷ []) []) n
+  unfolding headsOf
+  heads-mapped f S =
+      upTo-through (map f) refl (map-append f) (λ j. cond (inSet S j) (j ∷ []) []) n
+      ∙ upTo-cong (λ j. map f (cond (inSet S j) (j ∷ []) [])) (λ j. cond (inSet S j) (f j ∷ []) []) n (λ j hj. by j (inSet S j))
+    where
+      by : (j : ℕ) (b : Bool) → map f (cond b (j ∷ []) []) ≡ cond b (f j ∷ []) []
+      by j true = refl
+      by j false = refl
+
+  row-members : {A : Type 0} (f : Row.Member Point → A) (S : ℕ)
+      → map f (Row.members openGeometry h n S) ≡ upTo (λ j. cond (inSet S j) (f (Row.member openGeometry h n S j) ∷ []) []) n
+  unfolding Row.members
+  row-members f S =
+      upTo-through (map f) refl (map-append f) (λ j. cond (inSet S j) (Row.member openGeometry h n S j ∷ []) []) n
+      ∙ upTo-cong (λ j. map f (cond (inSet S j) (Row.member openGeometry h n S j ∷ []) []))
+      (λ j. cond (inSet S j) (f (Row.member openGeometry h n S j) ∷ []) []) n (λ j hj. by j (inSet S j))
+    where
+      by : (j : ℕ) (b : Bool)
+          → map f (cond b (Row.member openGeometry h n S j ∷ []) []) ≡ cond b (f (Row.member openGeometry h n S j) ∷ []) []
+      by j true = refl
+      by j false = refl
+
+  members-many : (S : ℕ) → S < 2 ^ n → n ≤ 10 → isSingle S ≡ false
+      → membersOf cs (collected cs) S ≡ map memberOf (Row.members openGeometry h n S)
+  unfolding membersOf
+  members-many S hS hn hs =
+      rw (circles-length h n)
+      (heads-mapped (memberAt cs (collected cs) S) S
+      ∙ upTo-cong (λ j. cond (inSet S j) (memberAt cs (collected cs) S j ∷ []) []) (λ j. cond (inSet S j) (memberOf (Row.member openGeometry h n S j) ∷ []) []) n
+      (λ j hj. ap (λ m. cond (inSet S j) (m ∷ []) []) (member-is S j hS hn hj hs))
+      ∙ sym (row-members memberOf S))
+
+  -- the circles of the members, of a single too
+  circles-are : (S : ℕ) → circlesOf (membersOf cs (collected cs) S) ≡ circlesOf (map memberOf (Row.members openGeometry h n S))
+  circles-are S =
+      circles-of-members cs (collected cs) S
+      ∙ rw (circles-length h n)
+      (heads-mapped (circleAt cs) S
+      ∙ upTo-cong (λ j. cond (inSet S j) (circleAt cs j ∷ []) []) (λ j. cond (inSet S j) (circleOf (h j) ∷ []) []) n
+      (λ j hj. ap (λ c. cond (inSet S j) (c ∷ []) []) (circle-at h n j hj))
+      ∙ sym (row-members (λ m. circleOf (m .head)) S)
+      ∙ map-alike (λ m. circleOf (m .head)) (λ m. m .circle) memberOf (λ m. refl) (Row.members openGeometry h n S))
+
+-- a single's area comes from its circle alone
+area-of-one : (ms ms' : List Member) → length ms ≡ 1 → circlesOf ms ≡ circlesOf ms' → openArea ms ≡ openArea ms'
+unfolding openArea
+area-of-one ms ms' one e =
+    rw (outline-one ms one, outline-one ms' (sym (length-map ms' (λ m. m .circle)) ∙ sym (ap length e) ∙ length-map ms (λ m. m .circle) ∙ one), e)
+
+-- The open area of a set of a plan's heads, as the code works it out, is the row of base 4.
+pub open-row : (h : ℕ → Head) (n S : ℕ) → n ≤ 10 → S < 2 ^ n
+    → openArea (membersOf (circlesOfHeads h n) (collected (circlesOfHeads h n)) S) ≡ rowArea openGeometry h n S
+unfolding rowArea
+open-row h n S hn hS = by (isSingle S) refl
+  where
+    by : (b : Bool) → isSingle S ≡ b
+        → openArea (membersOf (circlesOfHeads h n) (collected (circlesOfHeads h n)) S) ≡ openArea (map memberOf (Row.members openGeometry h n S))
+    by false e = ap openArea (members-many h n S hS hn e)
+    by true e =
+        area-of-one (membersOf (circlesOfHeads h n) (collected (circlesOfHeads h n)) S) (map memberOf (Row.members openGeometry h n S))
+        (heads-many (circlesOfHeads h n) (collected (circlesOfHeads h n)) S
+        ∙ rw (circles-length h n) (heads-size n S ∙ sym (ones-size n S hS) ∙ eqb-true (ones S) 1 e))
+        (circles-are h n S)
+
+-- The list theorem for open rows. It asks that heads which do not meet by whole numbers have no meeting points.
+pub open-list-ends-afresh : (box : Ground → Float) (sets : Plan → ℕ → Bool) → Faithful (openMethod box sets)
+    → (needed : Needed) (p : Plan) → length (p .heads) ≡ 10 → planAnswer p ≡ Taken
+    → (rows : ℕ → TableRow) → AfreshRows (openMethod box sets) p rows → (es : List Entry) → Ends (openMethod box sets) needed p rows es
+open-list-ends-afresh box sets faithful = list-ends-afresh (openMethod box sets) faithful
+
+-- ---- finiteness
+
+float-most : (z : ℤ) → natAbs z ≤ 20000 → Most 20000 1074 (ofInt binary64 z)
+float-most z h = ofInt-most z (le-trans h (lit≤ tt)) h
+
+position-size : (z : ℤ) → Within (negℤ (pos 20000)) (pos 20000) z → natAbs z ≤ 20000
+position-size (pos n) w = leb→le n 20000 (w .1 .le)
+position-size (negsuc n) w = suc-le-suc (leb→le n 19999 (w .0 .le))
+
+radius-size : (z : ℤ) → Within (pos 1) (pos 20000) z → natAbs z ≤ 20000
+radius-size (pos n) w = leb→le n 20000 (w .1 .le)
+radius-size (negsuc n) w = absurd (w .0 .le)
+
+-- the circle of a head within the limits is a circle of the domain
+circle-domain : (h : Head) → HeadMet h → InDomain (circleOf h)
+unfolding circleOf
+circle-domain h m =
+    record {
+      x = float-most (h .x) (position-size (h .x) (m .0));
+      y = float-most (h .y) (position-size (h .y) (m .1));
+      r = float-most (h .radius) (radius-size (h .radius) (m .2));
+    }
+
+every-mapped : {A B : Type 0} (P : B → Type 0) (f : A → B) (l : List A) → Every (λ a. P (f a)) l → Every P (map f l)
+every-mapped P f [] e = tt
+every-mapped P f (a ∷ l) e = (e .0, every-mapped P f l (e .1))
+
+-- The open row of any set of heads within the limits is finite, and at most 1,440,000,000,000.
+pub open-row-finite : Promised → (h : ℕ → Head) (n S : ℕ) → n ≤ 10 → S < 2 ^ n → ((i : ℕ) → i < n → HeadMet (h i))
+    → Most 1440000000000 1074 (rowArea openGeometry h n S)
+open-row-finite promised h n S hn hS met =
+    let cs = circlesOfHeads h n in
+    let few : length cs ≤ 10 = rw (circles-length h n) hn in
+    rw (sym (open-row h n S hn hS))
+    (area-finite promised (membersOf cs (collected cs) S)
+    (rw (circles-of-members cs (collected cs) S, circles-length h n)
+    (every-mapped InDomain (circleAt cs) (headsOf n S)
+    (every-map (headsOf n S) (λ j hj. rw (circle-at h n j hj) (circle-domain (h j) (met j hj))) (heads-below n S))))
+    (outline-few cs S few))

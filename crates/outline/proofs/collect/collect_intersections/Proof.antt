@@ -1,0 +1,71 @@
+-- `collect::collect_intersections` meets its contract. The invariant: the points of the heads below i are pushed.
+use borrow.Author.Needs.{needs}
+use mathlib.Core.Path.{_≡_, refl, sym, _∙_, ap}
+use Prim.Native.Nat.{_+_, _-_, _≤_, _<_}
+use native.Mathlib.Omega.{arith}
+use lib.ListN.{length, take, length-take}
+use lib.Seq.{take-all}
+use Rattle.regions.specs.Row.{upTo}
+use Rattle.outline.specs.Points.{rowPoints, collected}
+use Rattle.outline.specs.Lists.{pointList}
+use Rattle.outline.specs.Counts.{collected-few}
+use Rattle.outline.proofs.Collecting.{rows-on}
+use Rattle.outline.proofs.collect.collect_intersections.Statement.{statement}
+use Rattle.outline.proofs.collect.collect_intersections.Tie as tie
+
+abbrev Inv-loop : tie.InvT-loop
+Inv-loop circles n-sets list₀ i₀ list i = (length circles ≡ 10) × (i ≤ 10) × (i ≤ n-sets) × (pointList list ≡ take 90 (upTo (rowPoints (take n-sets circles)) i))
+
+abbrev μ-loop : tie.MeasureT-loop
+μ-loop circles n-sets list₀ i₀ list i = 10 - i
+
+-- there are ten circles
+ten : (c : tie.Start Inv-loop μ-loop) → length (c .args .circles) ≡ 10
+ten c = search needs
+
+new-requires : tie.Need-new-requires Inv-loop μ-loop
+new-requires c κs = search needs
+
+loop-holds : tie.Need-loop-holds Inv-loop μ-loop
+unfolding upTo
+loop-holds c = (ten (c .before), omega arith, omega arith, refl)
+
+returns : tie.Need-returns Inv-loop μ-loop
+unfolding collected
+returns c = let l = c .before .before .loop in let a = c .before .before .before .before .args in
+    let e : l .i ≡ length (take (a .n-sets) (a .circles)) = omega (arith, length-take (a .n-sets) (a .circles)) in
+    (rw e at (l .inv .3)) ∙ take-all 90 (collected (take (a .n-sets) (a .circles))) (collected-few (take (a .n-sets) (a .circles)) (omega (arith, length-take (a .n-sets) (a .circles))))
+
+push-row-requires : tie.Need-push-row-requires Inv-loop μ-loop
+push-row-requires c κs = let a = c .before .before .before .before .args in omega (arith, length-take (a .n-sets) (a .circles))
+
+add-i : tie.Need-add-i Inv-loop μ-loop
+add-i c = omega arith
+
+loop-less : tie.Need-loop-less Inv-loop μ-loop
+loop-less c = omega arith
+
+loop-again : tie.Need-loop-again Inv-loop μ-loop
+loop-again c = let l = c .before .before .before .loop in let a = c .before .before .before .before .before .args in
+    (l .inv .0, omega arith, omega arith, rows-on 90 (take (a .n-sets) (a .circles)) (l .i) (pointList (l .list)) (pointList (c .push-row .result)) (l .inv .3) (c .push-row .ensures))
+
+returns-2 : tie.Need-returns-2 Inv-loop μ-loop
+unfolding collected
+returns-2 c = let l = c .before .loop in let a = c .before .before .before .args in
+    let e : l .i ≡ length (take (a .n-sets) (a .circles)) = omega (arith, length-take (a .n-sets) (a .circles)) in
+    (rw e at (l .inv .3)) ∙ take-all 90 (collected (take (a .n-sets) (a .circles))) (collected-few (take (a .n-sets) (a .circles)) (omega (arith, length-take (a .n-sets) (a .circles))))
+
+pub collect-intersections-spec : {M : Type 1} → statement M
+collect-intersections-spec =
+    tie.close
+    (tie.spec
+    Inv-loop
+    μ-loop
+    new-requires
+    loop-holds
+    returns
+    push-row-requires
+    add-i
+    loop-less
+    loop-again
+    returns-2)

@@ -1,0 +1,111 @@
+-- `collect::push_pair` meets its contract: case by case of the meeting.
+use mathlib.Core.Path.{_≡_, refl, sym, _∙_, ap}
+use mathlib.Core.List.{[], _∷_, map}
+use Prim.Native.Nat.{ℕ, _<_}
+use native.Mathlib.Omega.{arith}
+use lib.ListN.{length, take, length-take}
+use lib.Seq.{getD-take}
+use Rattle.geometry.specs.Meeting.{points}
+use Rattle.outline.specs.Area.{noCircle}
+use Rattle.outline.specs.Points.{met, pairPoints}
+use Rattle.outline.specs.Lists.{pointList}
+use Rattle.outline.proofs.Arrays.{length-of-values}
+use Rattle.outline.proofs.Listing.{pushed-none, pushed-on}
+use borrow.Author.Needs.{needs}
+use Rattle.outline.proofs.collect.push_pair.Statement.{statement}
+use Rattle.outline.proofs.collect.push_pair.Tie as tie
+
+-- the two heads are among the ten circles, and below n
+within : (c : tie.Start) {i : ℕ} → i < length (take (c .args .n) (c .args .t2)) → (i < 10) × (i < c .args .n)
+within c h = let long : length (c .args .t2) ≡ 10 = search needs in let e = length-take (c .args .n) (c .args .t2) in (omega arith, omega arith)
+
+-- the points of the pair are those of the meeting that was found
+found : (c : tie.After-intersection-points) → let a = c .before .before .before .args in
+    pairPoints (take (a .n) (a .t2)) (a .i) (a .j) ≡ map (met (take (a .n) (a .t2)) (a .i) (a .j)) (points (c .intersection-points .result))
+unfolding pairPoints
+found c = let s = c .before .before .before in let a = s .args in
+    rw (getD-take (a .n) (a .t2) (a .i) noCircle (within s (s .pre .0) .1), getD-take (a .n) (a .t2) (a .j) noCircle (within s (s .pre .1) .1)) (ap (map (met (take (a .n) (a .t2)) (a .i) (a .j))) (sym (c .intersection-points .ensures)))
+
+-- the array of points has 90 places
+long : (c : tie.Start) → length (c .args .list .all) ≡ 90
+long c = search length-of-values
+
+mul-first : tie.Need-mul-first
+mul-first c = omega (arith, within c (c .pre .0))
+
+array-copy-out-first : tie.Need-array-copy-out-first
+array-copy-out-first c = within c (c .pre .0) .0
+
+mul-intersection-points : tie.Need-mul-intersection-points
+mul-intersection-points c = let s = c .before in omega (arith, within s (s .pre .1))
+
+array-copy-out-intersection-points : tie.Need-array-copy-out-intersection-points
+array-copy-out-intersection-points c = let s = c .before in within s (s .pre .1) .0
+
+intersection-points-requires : tie.Need-intersection-points-requires
+intersection-points-requires c κs = search needs
+
+enum-told : tie.Need-enum-told
+enum-told c = search needs
+
+enum-known-meeting : tie.Need-enum-known-meeting
+enum-known-meeting c = search needs
+
+new-requires : tie.Need-new-requires
+new-requires c κs = search needs
+
+push-met-requires : tie.Need-push-met-requires
+push-met-requires c κs = search needs
+
+enum-known-meeting-2 : tie.Need-enum-known-meeting-2
+enum-known-meeting-2 c = search needs
+
+new-requires-2 : tie.Need-new-requires-2
+new-requires-2 c κs = search needs
+
+push-met-requires-2 : tie.Need-push-met-requires-2
+push-met-requires-2 c κs = search needs
+
+new-requires-3 : tie.Need-new-requires-3
+new-requires-3 c κs = search needs
+
+push-met-requires-3 : tie.Need-push-met-requires-3
+push-met-requires-3 c κs = search needs
+
+returns : tie.Need-returns
+returns c = let d = c .before .before in let s = d .before .before .before in
+    rw (found d, c .enum-told .given .1) (pushed-none (s .args .list .all) 90 (s .args .list .n) (long s))
+
+returns-2 : tie.Need-returns-2
+returns-2 c = let d = c .before .before .before .before .before in
+    rw (found d, c .before .before .before .meeting .given .1, ← (c .before .new .ensures)) (c .push-met .ensures)
+
+returns-3 : tie.Need-returns-3
+returns-3 c = let d = c .before .before .before .before .before .before .before in let a = d .before .before .before .args in
+    let one = c .before .before .before in
+    rw (found d, one .before .before .meeting2 .given .1, ← (one .new2 .ensures), ← (c .before .new3 .ensures))
+    (pushed-on 90 (pointList (a .list)) (pointList (c .before .before .push-met2 .result)) (pointList (c .push-met3 .result))
+    (met (take (a .n) (a .t2)) (a .i) (a .j) (one .new2 .result) ∷ []) (met (take (a .n) (a .t2)) (a .i) (a .j) (c .before .new3 .result) ∷ [])
+    (c .before .before .push-met2 .ensures) (c .push-met3 .ensures))
+
+pub push-pair-spec : {M : Type 1} → statement M
+push-pair-spec =
+    tie.close
+    (tie.spec
+    mul-first
+    array-copy-out-first
+    mul-intersection-points
+    array-copy-out-intersection-points
+    intersection-points-requires
+    enum-told
+    enum-known-meeting
+    new-requires
+    push-met-requires
+    enum-known-meeting-2
+    new-requires-2
+    push-met-requires-2
+    new-requires-3
+    push-met-requires-3
+    returns
+    returns-2
+    returns-3)

@@ -1,0 +1,49 @@
+-- The book (document 01, "Edits in a list"): a plan and nothing more. Where the checks refuse an edit the book stays;
+-- otherwise head k takes the three values and all else stays.
+use Prim.Native.Nat.{ℕ, _≤_, _<_}
+use mathlib.Core.Path.{_≡_, refl, ap, _∙_}
+use mathlib.Core.List.{List, [], _∷_}
+use lib.ListN.{length, set}
+use Rattle.heads.specs.declared.Head.{Head}
+use Rattle.plan.specs.declared.Answer.{Answer}
+use Rattle.plan.specs.declared.Answer.the-variants.{Taken, Refused}
+use Rattle.plan.specs.declared.Edit.{Edit}
+use Rattle.plan.specs.declared.Lent.{Lent}
+use Rattle.plan.specs.declared.Needed.{Needed}
+use Rattle.plan.specs.declared.Plan.{Plan}
+use Rattle.plan.specs.Checks.{editAnswer}
+
+-- the head that an edit asks for
+abbrev pub headOf : Edit → Head
+headOf e = record { x = e .x; y = e .y; radius = e .radius }
+
+-- the plan with another head k
+abbrev pub withHead : Plan → ℕ → Head → Plan
+withHead p k h = record { ground = p .ground; n = p .n; heads = set (p .heads) k h }
+
+-- a taken edit: head k takes the three values and all else stays
+abbrev pub applied : Plan → Edit → Plan
+applied p e = withHead p (e .head) (headOf e)
+
+-- what an answer leaves: taken, the new plan; refused, the plan as it was
+abbrev pub leaves : Answer → Plan → Plan → Plan
+leaves Taken p q = q
+leaves (Refused r at) p q = p
+
+-- one edit against the book
+abbrev pub entered : Plan → Edit → Needed → Lent → Plan
+entered p e needed lent = leaves (editAnswer p e needed lent) p (applied p e)
+
+-- an edit in a list, with the lengths lent for it
+pub record Entry : Type 0 where
+  pub edit : Edit
+  pub lent : Lent
+
+-- the plan that a list of edits leaves, and the answer to each
+unfoldable pub book : Needed → Plan → List Entry → Plan
+book needed p [] = p
+book needed p (e ∷ es) = book needed (entered p (e .edit) needed (e .lent)) es
+
+unfoldable pub answers : Needed → Plan → List Entry → List Answer
+answers needed p [] = []
+answers needed p (e ∷ es) = editAnswer p (e .edit) needed (e .lent) ∷ answers needed (entered p (e .edit) needed (e .lent)) es

@@ -1,0 +1,4 @@
+pub mod Table
+pub mod Checks
+pub mod Exactly
+pub mod Book
