@@ -3,3 +3,4 @@ pub mod Breaking
 pub mod Pairing
 pub mod Walking
 pub mod Rows
+pub mod ClippedRows

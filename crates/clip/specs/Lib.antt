@@ -3,4 +3,5 @@ pub mod Breaks
 pub mod Parts
 pub mod Area
 pub mod Gradient
+pub mod Rows
 pub mod Worked
