@@ -4,3 +4,4 @@ pub mod Pairing
 pub mod Walking
 pub mod Rows
 pub mod ClippedRows
+pub mod Finiteness

@@ -4,4 +4,5 @@ pub mod Parts
 pub mod Area
 pub mod Gradient
 pub mod Rows
+pub mod Finite
 pub mod Worked

@@ -1,5 +1,5 @@
 -- Document 01's worked examples P7 and P8, of the definitions; both sides are computed.
-use mathlib.Core.List.{List, [], _∷_}
+use mathlib.Core.List.{[], _∷_}
 use mathlib.Core.Path.{_≡_, refl}
 use Prim.Native.Nat.{ℕ}
 use lib.IntN.{pos, negℤ}
