@@ -3,3 +3,5 @@ pub mod Breaking
 pub mod Pairing
 pub mod Walking
 pub mod Rows
+pub mod ClippedRows
+pub mod Finiteness

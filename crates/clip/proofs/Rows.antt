@@ -1,7 +1,7 @@
 -- The area of a set inside the box, with and without its gradient, from the sum over its arcs.
-use mathlib.Core.Path.{_≡_, refl, sym, ap, _∙_}
+use mathlib.Core.Path.{_≡_, sym, _∙_}
 use mathlib.Core.Bool.{true, false}
-use mathlib.Core.List.{List, foldl}
+use mathlib.Core.List.{List}
 use Prim.Native.Nat.{ℕ, _*_}
 use lib.ListN.{length, length-map}
 use lib.Ieee.{Float}

@@ -1,15 +1,13 @@
 -- A fold over the arcs of a set, for the loops that go through a list of arcs, the gaps of a member or the members of a set.
 -- One law for the sums of areas and of gradients.
-use mathlib.Core.Path.{_≡_, refl, sym, ap, _∙_}
-use mathlib.Core.Bool.{Bool, true, false, cond}
-use mathlib.Core.List.{List, [], _∷_, _++_, map, foldl, foldl-append}
-use Prim.Native.Nat.{ℕ, zero, suc, _+_, _≤_, _<_}
+use mathlib.Core.Path.{_≡_, sym}
+use mathlib.Core.List.{List, [], _∷_, map, foldl, foldl-append}
+use Prim.Native.Nat.{ℕ, _+_, _≤_, _<_}
 use native.Mathlib.Numerals.{add-one}
 use native.Mathlib.Omega.{arith}
-use lib.ListN.{length, getD, take, drop, length-append}
+use lib.ListN.{length, getD, take, drop}
 use lib.Seq.{take-suc, getD-take}
 use lib.Ieee.{Float}
-use Rattle.masks.specs.Mask.{inSet}
 use Rattle.regions.specs.Row.{upTo}
 use Rattle.geometry.specs.declared.circle.Circle.{Circle}
 use Rattle.outline.specs.declared.points.IntersectionPoint.{IntersectionPoint}
@@ -19,17 +17,6 @@ use Rattle.outline.specs.Sort.{sorted}
 use Rattle.outline.specs.Area.{noCircle}
 use Rattle.outline.specs.Set.{headsOf, pointsFor, circleAt, membersOf, membersWith}
 use Rattle.outline.proofs.Walking.{outline-step, outline-end, outline-one, outline-other, members-are, circles-of-members}
-
--- a set has no more heads than there are
-pub heads-few : (n M : ℕ) → length (headsOf n M) ≤ n
-unfolding headsOf upTo
-heads-few zero M = omega arith
-heads-few (suc n) M =
-    rw (length-append (headsOf n M) (cond (inSet M n) (n ∷ []) [])) (by (inSet M n) (heads-few n M))
-  where
-    by : (b : Bool) → length (headsOf n M) ≤ n → length (headsOf n M) + length (cond b (n ∷ []) []) ≤ suc n
-    by true h = omega arith
-    by false h = omega arith
 
 module _ {S : Type 0} (f : S → BoundaryArc → S) (s : S) where
   -- one arc more

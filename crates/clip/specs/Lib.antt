@@ -3,3 +3,6 @@ pub mod Breaks
 pub mod Parts
 pub mod Area
 pub mod Gradient
+pub mod Rows
+pub mod Finite
+pub mod Worked

@@ -1,8 +1,7 @@
 -- `area::clipped_region_area` meets its contract: one member's whole circle, or the sum over all members.
 use borrow.Author.Needs.{needs}
-use mathlib.Core.Path.{_≡_, refl, sym, _∙_, ap}
-use native.Mathlib.Omega.{arith}
-use lib.ListN.{length, take}
+use mathlib.Core.Path.{refl, sym, _∙_}
+use lib.ListN.{take}
 use Rattle.binary64.specs.Constants.{zero64}
 use Rattle.outline.specs.Set.{membersOf}
 use Rattle.outline.specs.Lists.{pointList, circleList}

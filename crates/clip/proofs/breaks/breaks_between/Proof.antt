@@ -1,7 +1,7 @@
 -- `breaks::breaks_between` meets its contract.
 use borrow.Author.Needs.{needs}
-use mathlib.Core.Path.{_≡_, refl, sym, _∙_, ap}
-use Prim.Native.Nat.{_+_, _-_, _≤_, _<_}
+use mathlib.Core.Path.{sym, _∙_}
+use Prim.Native.Nat.{_-_, _≤_}
 use native.Mathlib.Omega.{arith}
 use Rattle.outline.specs.Lists.{angleList}
 use Rattle.clip.specs.Breaks.{breaksBetween, crossings}

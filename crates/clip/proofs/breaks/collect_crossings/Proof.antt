@@ -1,8 +1,6 @@
 -- `breaks::collect_crossings` meets its contract.
 use borrow.Author.Needs.{needs}
-use mathlib.Core.Path.{_≡_, refl, sym, _∙_, ap}
 use native.Mathlib.Omega.{arith}
-use Rattle.outline.specs.Lists.{angleList}
 use Rattle.clip.specs.Breaks.{crossings}
 use Rattle.clip.proofs.Breaking.{sorted-then}
 use Rattle.clip.proofs.breaks.collect_crossings.Statement.{statement}

@@ -1,6 +1,5 @@
 -- `breaks::collect_periodic_in_range` meets its contract.
 use borrow.Author.Needs.{needs}
-use mathlib.Core.Path.{_≡_, sym, _∙_}
 use native.Mathlib.Omega.{arith}
 use Rattle.outline.specs.Lists.{angleList}
 use Rattle.clip.specs.Breaks.{strictlyInside, periodicInRange}

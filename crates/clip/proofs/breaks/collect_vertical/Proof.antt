@@ -1,6 +1,5 @@
 -- `breaks::collect_vertical` meets its contract.
 use borrow.Author.Needs.{needs}
-use mathlib.Core.Path.{_≡_, refl, sym, _∙_, ap}
 use native.Mathlib.Omega.{arith}
 use Rattle.outline.specs.Lists.{angleList}
 use Rattle.outline.specs.Sort.{sortOnto}

@@ -1,6 +1,6 @@
 -- `breaks::put_inside` meets its contract.
 use borrow.Author.Needs.{needs}
-use mathlib.Core.Path.{_≡_, sym, _∙_}
+use mathlib.Core.Path.{sym, _∙_}
 use native.Mathlib.Omega.{arith}
 use Rattle.outline.specs.Lists.{angleList}
 use Rattle.outline.specs.Sort.{sortOnto}

@@ -1,5 +1,4 @@
 -- `breaks::strictly_inside` meets its contract.
-use borrow.Author.Needs.{needs}
 use Rattle.clip.specs.Breaks.{strictlyInside}
 use Rattle.clip.proofs.breaks.strictly_inside.Statement.{statement}
 use Rattle.clip.proofs.breaks.strictly_inside.Tie as tie

@@ -1,13 +1,11 @@
 -- `gradient::arcs_sum_with_gradient` meets its contract. The invariant: the sum over the first i arcs.
-use borrow.Author.Needs.{needs}
-use mathlib.Core.Path.{_≡_, refl, sym, _∙_, ap}
-use Prim.Native.Nat.{_+_, _-_, _≤_, _<_}
+use mathlib.Core.Path.{_≡_, refl, sym, _∙_}
+use Prim.Native.Nat.{_-_, _≤_}
 use native.Mathlib.Omega.{arith}
 use lib.ListN.{length, take}
 use lib.Seq.{take-all}
 use Rattle.binary64.specs.Constants.{zero64}
 use Rattle.outline.specs.Set.{noArc}
-use Rattle.outline.specs.Lists.{arcList}
 use Rattle.outline.proofs.Arrays.{length-of-values}
 use Rattle.clip.specs.Gradient.{with-gradient, addClippedArcWithGradient, addClippedArcsWithGradient}
 use Rattle.clip.proofs.Walking.{fold-suc}

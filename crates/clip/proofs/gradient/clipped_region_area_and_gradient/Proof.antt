@@ -1,15 +1,16 @@
 -- `gradient::clipped_region_area_and_gradient` meets its contract: one member's whole circle, or the sum over all members.
 use borrow.Author.Needs.{needs}
-use mathlib.Core.Path.{_≡_, refl, sym, _∙_, ap}
+use mathlib.Core.Path.{_≡_, refl, sym, _∙_}
 use Prim.Native.Nat.{_≤_}
 use native.Mathlib.Omega.{arith}
 use lib.ListN.{length, take, length-take}
 use Rattle.binary64.specs.Constants.{zero64}
-use Rattle.outline.specs.Set.{headsOf, membersOf}
+use Rattle.outline.specs.Counts.{heads-few}
+use Rattle.outline.specs.Set.{membersOf}
 use Rattle.outline.specs.Lists.{pointList, circleList}
 use Rattle.outline.proofs.Walking.{circles-of-members, members-many}
 use Rattle.clip.specs.Gradient.{with-gradient, addClippedArcWithGradient}
-use Rattle.clip.proofs.Walking.{heads-few, fold-one, fold-other}
+use Rattle.clip.proofs.Walking.{fold-one, fold-other}
 use Rattle.clip.proofs.Rows.{gradient-of-members, gradient-of-members-nothing}
 use Rattle.clip.proofs.gradient.clipped_region_area_and_gradient.Statement.{statement}
 use Rattle.clip.proofs.gradient.clipped_region_area_and_gradient.Tie as tie

@@ -1,7 +1,7 @@
 -- `parts::add_part` meets its contract.
 use borrow.Author.Needs.{needs}
 use Rattle.clip.specs.Parts.{addPart}
-use mathlib.Core.Path.{_≡_, sym, _∙_}
+use mathlib.Core.Path.{sym, _∙_}
 use Rattle.clip.proofs.parts.add_part.Statement.{statement}
 use Rattle.clip.proofs.parts.add_part.Tie as tie
 

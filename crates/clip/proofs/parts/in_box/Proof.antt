@@ -1,7 +1,7 @@
 -- `parts::in_box` meets its contract.
 use borrow.Author.Needs.{needs}
 use Rattle.clip.specs.Parts.{inBox}
-use mathlib.Core.Path.{_≡_, sym, _∙_}
+use mathlib.Core.Path.{sym, _∙_}
 use Rattle.clip.proofs.parts.in_box.Statement.{statement}
 use Rattle.clip.proofs.parts.in_box.Tie as tie
 

@@ -1,5 +1,4 @@
 -- `parts::near_side` meets its contract.
-use borrow.Author.Needs.{needs}
 use Rattle.clip.specs.Parts.{nearSide}
 use Rattle.clip.proofs.parts.near_side.Statement.{statement}
 use Rattle.clip.proofs.parts.near_side.Tie as tie

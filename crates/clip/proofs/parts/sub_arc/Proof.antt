@@ -1,5 +1,4 @@
 -- `parts::sub_arc` meets its contract.
-use borrow.Author.Needs.{needs}
 use Rattle.clip.specs.Parts.{subArc}
 use Rattle.clip.proofs.parts.sub_arc.Statement.{statement}
 use Rattle.clip.proofs.parts.sub_arc.Tie as tie

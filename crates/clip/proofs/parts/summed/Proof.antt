@@ -1,6 +1,6 @@
 -- `parts::summed` meets its contract.
 use borrow.Author.Needs.{needs}
-use mathlib.Core.Path.{_≡_, _∙_, ap}
+use mathlib.Core.Path.{_∙_, ap}
 use Rattle.clip.specs.Parts.{inBox, summed}
 use Rattle.clip.proofs.parts.summed.Statement.{statement}
 use Rattle.clip.proofs.parts.summed.Tie as tie

@@ -1,9 +1,9 @@
 -- `slopes::clipped_arc_integral_with_gradient` meets its contract. The invariant: the parts from break i on, added, give the whole.
 use borrow.Author.Needs.{needs}
-use mathlib.Core.Path.{_≡_, refl, sym, _∙_, ap}
+use mathlib.Core.Path.{_≡_, refl, sym, _∙_}
 use Prim.Native.Nat.{_+_, _*_, _-_, _≤_, _<_}
 use native.Mathlib.Omega.{arith}
-use lib.ListN.{length, getD, drop, length-take}
+use lib.ListN.{length, drop, length-take}
 use lib.Seq.{getD-take}
 use lib.Ieee.{nan}
 use Rattle.binary64.specs.Constants.{zero64}

@@ -1,5 +1,4 @@
 -- `slopes::sub_arc_by_differences` meets its contract.
-use borrow.Author.Needs.{needs}
 use Rattle.clip.specs.Gradient.{subArcByDifferences}
 use Rattle.clip.proofs.slopes.sub_arc_by_differences.Statement.{statement}
 use Rattle.clip.proofs.slopes.sub_arc_by_differences.Tie as tie

@@ -1,13 +1,10 @@
 -- `span::edge_inside_interval` meets its contract. The invariant: the circles from i on, with the ends so far, give the span.
 use borrow.Author.Needs.{needs}
 use mathlib.Core.Path.{_≡_, refl, sym, _∙_, ap}
-use Prim.Native.Nat.{_+_, _-_, _≤_, _<_}
+use Prim.Native.Nat.{_-_, _≤_, _<_}
 use native.Mathlib.Omega.{arith}
-use mathlib.Core.Bool.{true, false}
 use mathlib.Core.List.{map}
-use lib.ListN.{length, getD, take, drop, length-take, length-map}
-use lib.Seq.{getD-take}
-use Rattle.outline.specs.Area.{noCircle}
+use lib.ListN.{length, drop, length-take, length-map}
 use Rattle.outline.specs.Lists.{circleList}
 use Rattle.outline.proofs.Arrays.{length-of-values}
 use Rattle.clip.specs.Span.{misses, horizontalSpan, seen}

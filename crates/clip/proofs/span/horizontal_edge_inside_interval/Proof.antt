@@ -1,6 +1,6 @@
 -- `span::horizontal_edge_inside_interval` meets its contract.
 use borrow.Author.Needs.{needs}
-use mathlib.Core.Path.{_≡_, _∙_, ap}
+use mathlib.Core.Path.{_∙_, ap}
 use Rattle.outline.specs.Lists.{circleList}
 use Rattle.clip.specs.Span.{horizontalSpan}
 use Rattle.clip.proofs.Spanning.{seen-level}

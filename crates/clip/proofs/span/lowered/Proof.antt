@@ -1,5 +1,4 @@
 -- `span::lowered` meets its contract.
-use borrow.Author.Needs.{needs}
 use Rattle.clip.specs.Span.{lowered}
 use Rattle.clip.proofs.span.lowered.Statement.{statement}
 use Rattle.clip.proofs.span.lowered.Tie as tie

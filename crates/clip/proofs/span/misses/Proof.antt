@@ -1,5 +1,4 @@
 -- `span::misses` meets its contract.
-use borrow.Author.Needs.{needs}
 use Rattle.clip.specs.Span.{misses}
 use Rattle.clip.proofs.span.misses.Statement.{statement}
 use Rattle.clip.proofs.span.misses.Tie as tie

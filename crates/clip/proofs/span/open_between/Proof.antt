@@ -1,5 +1,4 @@
 -- `span::open_between` meets its contract.
-use borrow.Author.Needs.{needs}
 use Rattle.clip.specs.Span.{open-between}
 use Rattle.clip.proofs.span.open_between.Statement.{statement}
 use Rattle.clip.proofs.span.open_between.Tie as tie

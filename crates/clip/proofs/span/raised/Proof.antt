@@ -1,5 +1,4 @@
 -- `span::raised` meets its contract.
-use borrow.Author.Needs.{needs}
 use Rattle.clip.specs.Span.{raised}
 use Rattle.clip.proofs.span.raised.Statement.{statement}
 use Rattle.clip.proofs.span.raised.Tie as tie

@@ -1,5 +1,4 @@
 -- `span::seen` meets its contract.
-use borrow.Author.Needs.{needs}
 use Rattle.clip.specs.Span.{seen, swapped}
 use Rattle.clip.proofs.span.seen.Statement.{statement}
 use Rattle.clip.proofs.span.seen.Tie as tie

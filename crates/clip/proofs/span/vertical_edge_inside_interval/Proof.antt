@@ -1,6 +1,6 @@
 -- `span::vertical_edge_inside_interval` meets its contract.
 use borrow.Author.Needs.{needs}
-use mathlib.Core.Path.{_≡_, _∙_}
+use mathlib.Core.Path.{_∙_}
 use Rattle.outline.specs.Lists.{circleList}
 use Rattle.clip.proofs.Spanning.{seen-upright}
 use Rattle.clip.proofs.span.vertical_edge_inside_interval.Statement.{statement}
