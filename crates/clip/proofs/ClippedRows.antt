@@ -12,11 +12,15 @@ use Rattle.plan.specs.Checks.{planAnswer}
 use Rattle.plan.specs.declared.Answer.the-variants.{Taken}
 use Rattle.plan.specs.declared.Needed.{Needed}
 use Rattle.plan.specs.declared.Plan.{Plan}
+use Rattle.outline.proofs.OpenRows.{open-faithful}
 use Rattle.clip.specs.Rows.{clippedMethod}
 
--- After any list of edits the rows in the box are the book's afresh rows. It asks that heads which do not meet by whole
--- numbers have no meeting points.
-pub clipped-list-ends-afresh : (sets : Plan → ℕ → Bool) → Faithful (clippedMethod sets)
+-- The geometry of rows in the box has the meeting points of open rows, so it is faithful too.
+pub clipped-faithful : (sets : Plan → ℕ → Bool) → Faithful (clippedMethod sets)
+clipped-faithful sets = record { apart = open-faithful (λ g. clippedMethod sets .boxArea g) sets .apart }
+
+-- After any list of edits the rows in the box are the book's afresh rows, with nothing asked.
+pub clipped-list-ends-afresh : (sets : Plan → ℕ → Bool)
     → (needed : Needed) (p : Plan) → length (p .heads) ≡ 10 → planAnswer p ≡ Taken
     → (rows : ℕ → Row) → AfreshRows (clippedMethod sets) p rows → (es : List Entry) → Ends (clippedMethod sets) needed p rows es
-clipped-list-ends-afresh sets faithful = list-ends-afresh (clippedMethod sets) faithful
+clipped-list-ends-afresh sets = list-ends-afresh (clippedMethod sets) (clipped-faithful sets)
