@@ -1,10 +1,26 @@
 // The float decisions about two circles against the whole-number ones, where they are hardest: at squared distances D = s², s² ± 1, t² and t² ± 1,
-// for every pair of radii of a grid in both orders, s being the sum and t the difference of the radii. The formulas are those of the Rust's circle.rs, with the
-// machine's square root, which the root of `elementary` equals bit for bit (tests/root). Where D is a sum of two squares the centres are placed so, at
-// both ends of the coordinates' range; where it is not, the tests and the steps up to the root of what is left across are compared.
+// for every pair of radii of a grid in both orders, s being the sum and t the difference of the radii. Where D is a sum of two squares the centres are placed
+// so, at both ends of the coordinates' range, and our own functions are called, through the static library of crate `probe`. Where it is not, no heads have that
+// D: the formulas of the tests, and the steps up to the root of what is left across, are compared at the root of D, by the machine's square root, which ours
+// equals bit for bit (tests/root).
 use std::process::exit;
 
 const REACH: i64 = 20000;
+
+#[repr(C)]
+struct Points {
+    number: usize,
+    x1: f64,
+    y1: f64,
+    x2: f64,
+    y2: f64,
+}
+
+extern "C" {
+    fn probe_contains(x1: f64, y1: f64, r1: f64, x2: f64, y2: f64, r2: f64) -> bool;
+    fn probe_intersects(x1: f64, y1: f64, r1: f64, x2: f64, y2: f64, r2: f64) -> bool;
+    fn probe_intersection_points(x1: f64, y1: f64, r1: f64, x2: f64, y2: f64, r2: f64) -> Points;
+}
 
 #[derive(Clone, Copy)]
 struct Head {
@@ -24,12 +40,7 @@ fn circle(h: Head) -> Circle {
     Circle { x: h.x as f64, y: h.y as f64, radius: h.radius as f64 }
 }
 
-// ---- the float decisions
-
-fn distance(a: Circle, b: Circle) -> f64 {
-    let (x, y) = (a.x - b.x, a.y - b.y);
-    (x * x + y * y).sqrt()
-}
+// ---- the formulas of the float decisions, for a distance that no two heads have
 
 fn contains(d: f64, a: f64, b: f64) -> bool {
     d + b <= a
@@ -55,23 +66,6 @@ fn apart(d: f64, a: f64, b: f64) -> bool {
 fn foot(d: f64, a: f64, b: f64) -> (f64, f64) {
     let along = (a * a - b * b + d * d) / (2.0 * d);
     (along, (a * a - along * along).sqrt())
-}
-
-fn points(a: Circle, b: Circle) -> Vec<(f64, f64)> {
-    if a.x == b.x && a.y == b.y && a.radius == b.radius {
-        return vec![];
-    }
-    let d = distance(a, b);
-    if apart(d, a.radius, b.radius) {
-        return vec![];
-    }
-    let (along, h) = foot(d, a.radius, b.radius);
-    let x = a.x + along * (b.x - a.x) / d;
-    let y = a.y + along * (b.y - a.y) / d;
-    let rx = -(b.y - a.y) * (h / d);
-    let ry = (b.x - a.x) * (h / d);
-    let (p, q) = ((x + rx, y + ry), (x - rx, y - ry));
-    if p == q { vec![p] } else { vec![p, q] }
 }
 
 // ---- the whole-number decisions
@@ -136,12 +130,18 @@ impl Tally {
         let (dx, dy) = (a.x - b.x, a.y - b.y);
         let d = dx * dx + dy * dy;
         for (p, q) in [(a, b), (b, a)] {
-            let (cp, cq) = (circle(p), circle(q));
-            self.compare_tests(distance(cp, cq), d, p.radius, q.radius);
-            let found = points(cp, cq);
-            let placed = found.iter().all(|c| c.0.abs() <= 80000.0 && c.1.abs() <= 80000.0);
-            if found.len() != exact(d, p.radius, q.radius).points || !placed {
+            let (c, e) = (circle(p), circle(q));
+            let want = exact(d, p.radius, q.radius);
+            let found = unsafe { probe_intersection_points(c.x, c.y, c.radius, e.x, e.y, e.radius) };
+            let placed = [found.x1, found.y1, found.x2, found.y2].iter().all(|v| v.abs() <= 80000.0);
+            if found.number != want.points || !placed {
                 self.differ("the number of points", d, p.radius, q.radius);
+            }
+            if unsafe { probe_contains(c.x, c.y, c.radius, e.x, e.y, e.radius) } != want.contains {
+                self.differ("contains", d, p.radius, q.radius);
+            }
+            if unsafe { probe_intersects(c.x, c.y, c.radius, e.x, e.y, e.radius) } != want.intersects {
+                self.differ("intersects", d, p.radius, q.radius);
             }
             self.placed += 1;
         }
