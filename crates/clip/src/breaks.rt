@@ -90,7 +90,7 @@ fn collect_crossings(list: Angles, bounds: Bounds, c: Circle, phi_a: f64, phi_b:
 }
 
 // The breaks of the arc from phi_a to phi_b.
-pub fn breaks_between(bounds: Bounds, c: Circle, phi_a: f64, phi_b: f64) -> Angles
+pub(crate) fn breaks_between(bounds: Bounds, c: Circle, phi_a: f64, phi_b: f64) -> Angles
     ensures { λ r. ⌜ (r .n ≤ 26) × (angleList r ≡ breaksBetween bounds c «phi_a» «phi_b») ⌝ }
 {
     let start = insert(no_angles(), phi_a);

@@ -29,7 +29,7 @@ fn in_box(bounds: Bounds, p: Point) -> bool
 }
 
 // Whether the part from a to b is summed: it is longer than the tolerance, and its midpoint is in the box.
-pub fn summed(bounds: Bounds, c: Circle, a: f64, b: f64) -> bool
+pub(crate) fn summed(bounds: Bounds, c: Circle, a: f64, b: f64) -> bool
     ensures { λ r. ⌜ r ≡ summed bounds c a b ⌝ }
 {
     if b - a <= Circle::CLIP_ANGLE_TOL {
@@ -39,7 +39,7 @@ pub fn summed(bounds: Bounds, c: Circle, a: f64, b: f64) -> bool
 }
 
 // The integral of x dy - y dx along a part of a circle, from the sine and cosine of its ends and its length.
-pub fn sub_arc(c: Circle, sin_a: f64, cos_a: f64, sin_b: f64, cos_b: f64, delta: f64) -> f64
+fn sub_arc(c: Circle, sin_a: f64, cos_a: f64, sin_b: f64, cos_b: f64, delta: f64) -> f64
     ensures { λ r. ⌜ r ≡ subArc c «sin_a» «cos_a» «sin_b» «cos_b» delta ⌝ }
 {
     let r = c.radius;
@@ -57,7 +57,7 @@ fn add_part(sum: f64, bounds: Bounds, c: Circle, a: f64, b: f64) -> f64
 }
 
 // The integral along the parts of an arc in the box.
-pub fn clipped_arc_integral(arc: BoundaryArc, c: Circle, bounds: Bounds) -> f64
+pub(crate) fn clipped_arc_integral(arc: BoundaryArc, c: Circle, bounds: Bounds) -> f64
     ensures { λ r. ⌜ r ≡ clippedArcIntegral bounds c arc ⌝ }
 {
     let phi_a = arc.phi_start;

@@ -96,7 +96,7 @@ fn clipped_arc_integral_with_gradient(
 }
 
 // An arc's integral in the box added to a sum, its gradient to grad; one of no circle adds nothing.
-pub fn add_clipped_arc_with_gradient(
+pub(crate) fn add_clipped_arc_with_gradient(
     total: f64,
     grad: &mut [f64],
     bounds: Bounds,
