@@ -9,6 +9,9 @@ extern "C" {
     fn watered_hypot(a: f64, b: f64) -> f64;
     fn watered_sin(v: f64) -> f64;
     fn watered_cos(v: f64) -> f64;
+    fn watered_atan2(y: f64, x: f64) -> f64;
+    fn watered_acos(c: f64) -> f64;
+    fn watered_asin(c: f64) -> f64;
 }
 
 extern "C" fn machine_root(x: f64) -> f64 {
@@ -25,6 +28,30 @@ extern "C" fn machine_sin(v: f64) -> f64 {
 
 extern "C" fn machine_cos(v: f64) -> f64 {
     v.cos()
+}
+
+extern "C" fn machine_atan2(y: f64, x: f64) -> f64 {
+    y.atan2(x)
+}
+
+extern "C" fn machine_acos(c: f64) -> f64 {
+    c.acos()
+}
+
+extern "C" fn machine_asin(c: f64) -> f64 {
+    c.asin()
+}
+
+extern "C" fn ours_atan2(y: f64, x: f64) -> f64 {
+    unsafe { watered_atan2(y, x) }
+}
+
+extern "C" fn ours_acos(c: f64) -> f64 {
+    unsafe { watered_acos(c) }
+}
+
+extern "C" fn ours_asin(c: f64) -> f64 {
+    unsafe { watered_asin(c) }
 }
 
 extern "C" fn ours_sin(v: f64) -> f64 {
@@ -107,4 +134,8 @@ fn main() {
     show("hypot", two(ours_hypot, &differences, calls), two(machine_hypot, &differences, calls));
     show("sin", one(ours_sin, &angles, calls), one(machine_sin, &angles, calls));
     show("cos", one(ours_cos, &angles, calls), one(machine_cos, &angles, calls));
+    let ratios = spread(-1.0, 1.0);
+    show("atan2", two(ours_atan2, &differences, calls), two(machine_atan2, &differences, calls));
+    show("acos", one(ours_acos, &ratios, calls), one(machine_acos, &ratios, calls));
+    show("asin", one(ours_asin, &ratios, calls), one(machine_asin, &ratios, calls));
 }

@@ -19,6 +19,16 @@ double watered_hypot(double a, double b);
 double watered_sin(double v);
 double watered_cos(double v);
 
+/* The angle t of the point (x, y), for magnitudes up to 2^20 that are not both zero: |t| is at most the double nearest to pi,
+ * |x*S - y*C| <= 2^-40 * (|x| + |y|) and x*C + y*S > 0, where S and C are the 40-term sums of sine and cosine at t; signs of zero
+ * as in IEEE 754. Any other pair gives +0. */
+double watered_atan2(double y, double x);
+
+/* watered_atan2(watered_root((1 - c) * (1 + c)), c) and watered_atan2(c, watered_root((1 - c) * (1 + c))), each step rounded, for c from
+ * -1 to 1. Any other c gives +0. */
+double watered_acos(double c);
+double watered_asin(double c);
+
 #ifdef __cplusplus
 }
 #endif

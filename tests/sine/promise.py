@@ -2,34 +2,12 @@
 
 For |v| <= 16 the answer lies within 2^-40 of the first 40 terms of the Taylor series at v (terms to degree 79 and 78) and in -1 to 1;
 for any other v it is +0. Prints how many angles of which kind were compared, and exits 1 where one fails."""
-import math
 import random
-import struct
 import subprocess
 import sys
 from fractions import Fraction
 
-TERMS = 40
-
-
-def bits_of(v: float) -> int:
-    return struct.unpack(">Q", struct.pack(">d", v))[0]
-
-
-def float_of(bits: int) -> float:
-    return struct.unpack(">d", struct.pack(">Q", bits))[0]
-
-
-def total(v: Fraction, first: int) -> tuple[int, int]:
-    """The sum of 40 terms ±v^i/i! for i = first, first + 2, .., as a numerator and a denominator, by whole numbers alone."""
-    x, q = v.numerator, v.denominator
-    last = first + 2 * (TERMS - 1)
-    numerator = 0
-    for k in range(TERMS):
-        i = first + 2 * k
-        numerator += (-1) ** k * x**i * q ** (last - i) * (math.factorial(last) // math.factorial(i))
-    return numerator, math.factorial(last) * q**last
-
+from sums import bits_of, float_of, total
 
 def kept(answer: float, v: float, first: int) -> bool:
     if not abs(v) <= 16:
