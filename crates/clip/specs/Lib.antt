@@ -5,4 +5,3 @@ pub mod Area
 pub mod Gradient
 pub mod Rows
 pub mod Finite
-pub mod Worked

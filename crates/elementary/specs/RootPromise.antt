@@ -1,11 +1,11 @@
--- What is promised of the root (proofs/root/Promise.antt proves it), and document 01's case P11.
-use mathlib.Core.Path.{_≡_, refl}
+-- What is promised of the root (proofs/root/Promise.antt proves it).
+use mathlib.Core.Path.{_≡_}
 use mathlib.Core.Bool.{Bool, true, false}
 use Prim.Native.Nat.{_+_, _*_, _<_}
 use lib.Dec.{T}
 use lib.IntN.{pos}
-use lib.Ieee.{Float, nan, inf, fin, binary64, fits, lt, ofBits, round}
-use Rattle.binary64.specs.Units.{pow2, one, mag, negative, Finite}
+use lib.Ieee.{Float, nan, inf, fin, binary64, fits, lt}
+use Rattle.binary64.specs.Units.{one, mag, negative, Finite}
 use Rattle.elementary.specs.Root.{root, +0}
 
 -- r is the float nearest to the root of x, and no other float is as near. Let x, r and another float u be so many units: the exact root is that
@@ -32,8 +32,3 @@ pub record RootPromise : Type 0 where
   -- of whatever a program holds the root is finite and not below zero
   pub finite : (x : Float) → T (fits binary64 x) → Finite (root x)
   pub not-below : (x : Float) → T (fits binary64 x) → lt (root x) +0 ≡ false
-
--- P11: the root of 2 has bits 0x3FF6A09E667F3BCD.
-pub P11 : root (ofBits binary64 0x4000_0000_0000_0000) ≡ ofBits binary64 0x3FF6_A09E_667F_3BCD
-unfolding root ofBits round pow2
-P11 = refl

@@ -239,10 +239,3 @@ contains-facts D a b = (there, λ h. simp (le-leb b a (h .0), le-leb D ((a - b) 
     there e =
         let both = and-yes (leb b a) (leb D ((a - b) * (a - b))) (subst T (sym e) tt) in
         (leb→le b a (both .0), leb→le D ((a - b) * (a - b)) (both .1))
-
--- ---- document 01's pairs P1 to P6, by their distances and radii
-
-pub worked-pairs : (relation 64 5 5 ≡ Crossing) × (relation 100 5 5 ≡ TouchingOutside) × (relation 121 5 5 ≡ Apart)
-    × (relation 4 5 3 ≡ TouchingInside) × (relation 0 5 3 ≡ Holding) × (relation 0 5 5 ≡ Identical)
-unfolding relation gap
-worked-pairs = (refl, refl, refl, refl, refl, refl)

@@ -1,4 +1,4 @@
--- Document 01's worked examples P1 to P6 and P11, of the definitions: one list, `examples`, and one theorem, `worked`. Both sides of each
+-- Document 01's worked examples P1 to P8 and P11, of the definitions: one list, `examples`, and one theorem, `worked`. Both sides of each
 -- equation are computed. This crate alone unfolds the root.
 use Prim.{Unit, tt}
 use Prim.Native.Nat.{ℕ}
@@ -6,12 +6,13 @@ use mathlib.Core.Bool.{true}
 use mathlib.Core.List.{List, [], _∷_}
 use mathlib.Core.Path.{_≡_, refl}
 use lib.IntN.{pos, negℤ}
-use lib.Ieee.{Float, binary64, add, sub, neg, mul, div, lt, le, eq, round, ofInt, ofBits, toBits}
+use lib.Ieee.{Float, binary64, isNan, add, sub, neg, mul, div, lt, le, eq, round, ofInt, ofBits, toBits}
 use Rattle.binary64.specs.Units.{mag, pow2}
 use Rattle.elementary.specs.Root.{root, hypot}
 use Rattle.geometry.specs.Circle.{around, contains, intersectionPoints}
 use Rattle.geometry.specs.Point.{at}
 use Rattle.geometry.specs.declared.circle.Circle.{Circle}
+use Rattle.clip.specs.Span.{between, horizontalSpan}
 
 -- The whole number n, and -n, as f64.
 abbrev pub whole : ℕ → Float
@@ -45,11 +46,15 @@ examples =
     ∷ (intersectionPoints (head 0 0 5) (head 0 0 3) ≡ [])
     -- P6: none
     ∷ (intersectionPoints (head 0 0 5) (head 0 0 5) ≡ [])
+    -- P7: on y = 3, x from -10 to 10, the span of (0, 0, 5) is -4 to 4
+    ∷ (horizontalSpan (whole 3) (minus 10) (whole 10) (head 0 0 5 ∷ []) ≡ between (minus 4) (whole 4) ∷ [])
+    -- P8: on y = 5 no span
+    ∷ (horizontalSpan (whole 5) (minus 10) (whole 10) (head 0 0 5 ∷ []) ≡ [])
     -- P11: the bits of the root of 2
     ∷ (toBits binary64 (root (whole 2)) ≡ 0x3ff6_a09e_667f_3bcd)
     ∷ []
 
 -- Every example holds.
 pub worked : All examples
-unfolding add sub neg mul div lt le eq round ofInt ofBits toBits pow2 mag root hypot
-worked = (refl, (refl, (refl, (refl, (refl, (refl, (refl, (refl, tt))))))))
+unfolding isNan add sub neg mul div lt le eq round ofInt ofBits toBits pow2 mag root hypot horizontalSpan
+worked = (refl, (refl, (refl, (refl, (refl, (refl, (refl, (refl, (refl, (refl, tt))))))))))
