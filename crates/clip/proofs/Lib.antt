@@ -3,5 +3,3 @@ pub mod Breaking
 pub mod Pairing
 pub mod Walking
 pub mod Rows
-pub mod ClippedRows
-pub mod Finiteness

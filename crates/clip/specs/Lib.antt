@@ -3,5 +3,3 @@ pub mod Breaks
 pub mod Parts
 pub mod Area
 pub mod Gradient
-pub mod Rows
-pub mod Finite

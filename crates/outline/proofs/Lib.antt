@@ -10,5 +10,3 @@ pub mod Walking
 pub mod Listing
 pub mod Adopting
 pub mod Collecting
-pub mod OpenRows
-pub mod Finiteness

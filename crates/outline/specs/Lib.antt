@@ -6,5 +6,3 @@ pub mod Set
 pub mod Lists
 pub mod Points
 pub mod Counts
-pub mod Rows
-pub mod Finite

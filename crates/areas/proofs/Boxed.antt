@@ -12,8 +12,8 @@ use Rattle.plan.specs.Checks.{planAnswer}
 use Rattle.plan.specs.declared.Answer.the-variants.{Taken}
 use Rattle.plan.specs.declared.Needed.{Needed}
 use Rattle.plan.specs.declared.Plan.{Plan}
-use Rattle.outline.proofs.OpenRows.{open-faithful}
-use Rattle.clip.specs.Rows.{clippedMethod}
+use Rattle.areas.proofs.Open.{open-faithful}
+use Rattle.areas.specs.Boxed.{clippedMethod}
 
 -- The geometry of rows in the box has the meeting points of open rows, so it is faithful too.
 pub clipped-faithful : (sets : Plan → ℕ → Bool) → Faithful (clippedMethod sets)

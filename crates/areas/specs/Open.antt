@@ -3,24 +3,20 @@
 use Prim.Native.Nat.{ℕ}
 use mathlib.Core.Bool.{Bool}
 use mathlib.Core.List.{List, [], _∷_, map}
-use lib.Ieee.{Float, binary64, ofInt}
+use lib.Ieee.{Float}
 use Rattle.heads.specs.declared.Head.{Head}
 use Rattle.plan.specs.declared.Ground.{Ground}
 use Rattle.plan.specs.declared.Plan.{Plan}
 use Rattle.regions.specs.Row as Row
 use Rattle.regions.specs.Row.{Geometry, upTo}
 use Rattle.regions.specs.Table.{Method}
-use Rattle.geometry.specs.Circle.{around, intersectionPoints}
-use Rattle.geometry.specs.Point.{at}
+use Rattle.geometry.specs.Circle.{intersectionPoints}
+use Rattle.exact.specs.Circle.{circleOf}
 use Rattle.geometry.specs.declared.point.Point.{Point}
 use Rattle.geometry.specs.declared.circle.Circle.{Circle}
 use Rattle.outline.specs.Outline.{Member}
 use Rattle.outline.specs.Area.{openArea}
 use Rattle.outline.specs.Points.{adoptsPoint}
-
--- the circle of a head: its whole numbers as floats
-unfoldable pub circleOf : Head → Circle
-circleOf h = around (at (ofInt binary64 (h .x)) (ofInt binary64 (h .y))) (ofInt binary64 (h .radius))
 
 -- the circles of n heads
 unfoldable pub circlesOfHeads : (ℕ → Head) → ℕ → List Circle

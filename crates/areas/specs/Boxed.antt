@@ -12,8 +12,8 @@ use Rattle.geometry.specs.Point.{at}
 use Rattle.geometry.specs.Rectangle.{around, area, bounds}
 use Rattle.geometry.specs.declared.bounds.Bounds.{Bounds}
 use Rattle.geometry.specs.declared.rectangle.Rectangle.{Rectangle}
-use Rattle.outline.specs.Rows.{memberOf, openGeometry}
+use Rattle.areas.specs.Open.{memberOf, openGeometry}
 use Rattle.clip.specs.Area.{clippedArea}
 
 -- the box of a plan: its whole numbers as floats
 unfoldable pub boxOf : Ground → Rectangle

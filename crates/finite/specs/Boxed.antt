@@ -11,9 +11,9 @@ use Rattle.geometry.specs.declared.bounds.Bounds.{Bounds}
 use Rattle.geometry.specs.declared.circle.Circle.{Circle}
 use Rattle.outline.specs.declared.arcs.BoundaryArc.{BoundaryArc}
 use Rattle.outline.specs.Every.{Every}
-use Rattle.outline.specs.Finite.{Promised, InDomain}
+use Rattle.finite.specs.Open.{Promised, InDomain}
 use Rattle.clip.specs.Parts.{clippedArcIntegral}
 use Rattle.clip.specs.Area.{addClippedArcs}
 
 -- What document 01 promises of the lower crate, and all that is asked of it here: besides sine and cosine, |acos|, |asin| ≤ PI < 4.
 pub record PromisedInBox : Type 0 where

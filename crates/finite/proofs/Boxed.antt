@@ -20,15 +20,15 @@ use Rattle.geometry.specs.declared.bounds.Bounds.{Bounds}
 use Rattle.geometry.specs.declared.circle.Circle.{Circle}
 use Rattle.outline.specs.declared.arcs.BoundaryArc.{BoundaryArc}
 use Rattle.outline.specs.Every.{Every, every-append}
-use Rattle.outline.specs.Finite.{InDomain}
+use Rattle.finite.specs.Open.{InDomain}
 use Rattle.outline.specs.Counts.{sorted-length}
 use Rattle.outline.specs.Area.{noCircle}
 use Rattle.outline.specs.Sort.{insert, sortOnto, sorted}
 use Rattle.outline.proofs.Ordering.{insert-every}
 use Rattle.clip.specs.Breaks.{strictlyInside, copies, periodicInRange, verticalCrossings, horizontalCrossings, crossings, breaksBetween, breaks}
 use Rattle.clip.specs.Parts.{overPairs, summed, subArc, addPart, clippedArcIntegral}
 use Rattle.clip.specs.Area.{addClippedArc, addClippedArcs}
-use Rattle.clip.specs.Finite.{PromisedInBox, ShortArc, ArcFinite, ArcsFinite}
+use Rattle.finite.specs.Boxed.{PromisedInBox, ShortArc, ArcFinite, ArcsFinite}
 
 -- ---- constants
 

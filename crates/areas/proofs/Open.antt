@@ -3,25 +3,23 @@ use mathlib.Core.Path.{_≡_, refl, sym, ap, ap₂, _∙_}
 use mathlib.Core.Bool.{Bool, true, false, _&&_, _||_, cond}
 use mathlib.Core.List.{List, [], _∷_, _++_, map, map-append}
 use mathlib.Core.Logic.{⊎-elim}
-use Prim.Native.Nat.{ℕ, zero, suc, _+_, _-_, _^_, _≤_, _<_, suc-le-suc}
-use native.Mathlib.Nat.{lt-of-lt-of-le, le-trans}
+use Prim.Native.Nat.{ℕ, zero, suc, _+_, _-_, _^_, _≤_, _<_}
+use native.Mathlib.Nat.{lt-of-lt-of-le}
 use native.Mathlib.Omega.{arith}
 use borrow.Author.Tests.{eqb-true}
 use lib.Count.{ones}
-use lib.Dec.{T, eqb, leb→le, lit≤}
+use lib.Dec.{T, eqb}
 use lib.Ieee.Fits.{and-i}
 use lib.Signed.{leZ}
-use lib.Ieee.{Float, binary64, ofInt}
-use lib.IntN.{ℤ, pos, negsuc, natAbs, negℤ}
-use Rattle.binary64.specs.Magnitude.{Most}
-use Rattle.binary64.proofs.Whole.{ofInt-most}
+use lib.Ieee.{Float}
+use lib.IntN.{ℤ, pos, negℤ}
 use lib.ListN.{length, getD, length-append, length-map, List·getD-append}
 use lib.Pow.{pow-mono}
 use lib.Seq.{getD-at}
 use Rattle.heads.specs.declared.Head.{Head}
 use Rattle.masks.specs.Mask.{bit, inSet, gather, size}
 use Rattle.masks.specs.Operations.{one-of-in, zero-of-in}
 use Rattle.outline.proofs.Gathering.{lt-or-eq}
 use Rattle.masks.specs.Gather.{gather-lt, in-gather, gather-unique}
 use Rattle.masks.specs.Subset.{and-test}
 use Rattle.masks.specs.Size.{ones-size}
@@ -43,18 +41,16 @@ use Rattle.regions.proofs.Lists.{upTo-cong, upTo-through}
 use Rattle.geometry.specs.Circle.{intersectionPoints}
 use Rattle.geometry.specs.declared.point.Point.{Point}
 use Rattle.geometry.specs.declared.circle.Circle.{Circle}
 use Rattle.outline.specs.declared.points.IntersectionPoint.{IntersectionPoint}
 use Rattle.outline.specs.Outline.{Member, circlesOf, outline}
 use Rattle.outline.specs.Area.{noCircle, areaOf, openArea}
 use Rattle.outline.specs.Set.{headsOf, countedFor, pointsFor, circleAt, memberAt, membersOf}
 use Rattle.outline.specs.Points.{adopts, met, pairPoints, rowPoints, collected}
-use Rattle.outline.specs.Counts.{points-whole, heads-below, outline-few}
-use Rattle.outline.specs.Every.{Every, every-map}
-use Rattle.outline.specs.Finite.{Promised, InDomain}
-use Rattle.outline.proofs.Finiteness.{area-finite}
-use Rattle.outline.specs.Rows.{circleOf, circlesOfHeads, memberOf, openGeometry, openMethod}
+use Rattle.outline.specs.Counts.{points-whole}
+use Rattle.exact.specs.Circle.{circleOf}
+use Rattle.areas.specs.Open.{circlesOfHeads, memberOf, openGeometry, openMethod}
 use Rattle.outline.proofs.Walking.{circles-of-members, outline-one}
 use Rattle.outline.proofs.Walking.{members-many as heads-many}
 
 -- ---- lists
 
@@ -78,7 +74,7 @@ gather-cong : (n : ℕ) (p q : ℕ → Bool) → ((i : ℕ) → i < n → p i �
 gather-cong n p q e = gather-unique n (gather n p) q (gather-lt n p) (λ i h. in-gather n p i h ∙ e i h)
 
 -- the heads of a set are as many as its bits
-heads-size : (n S : ℕ) → length (headsOf n S) ≡ size n S
+pub heads-size : (n S : ℕ) → length (headsOf n S) ≡ size n S
 unfolding headsOf upTo size
 heads-size zero S = refl
 heads-size (suc n) S =
@@ -91,12 +87,12 @@ heads-size (suc n) S =
 -- ---- circles of heads
 
 module _ (h : ℕ → Head) where
-  circles-length : (n : ℕ) → length (circlesOfHeads h n) ≡ n
+  pub circles-length : (n : ℕ) → length (circlesOfHeads h n) ≡ n
   unfolding circlesOfHeads
   circles-length zero = refl
   circles-length (suc n) = omega (arith, length-append (upTo (λ i. circleOf (h i) ∷ []) n) (circleOf (h n) ∷ []), circles-length n)
 
-  circle-at : (n j : ℕ) → j < n → circleAt (circlesOfHeads h n) j ≡ circleOf (h j)
+  pub circle-at : (n j : ℕ) → j < n → circleAt (circlesOfHeads h n) j ≡ circleOf (h j)
   unfolding circlesOfHeads
   circle-at zero j g = absurd (omega arith)
   circle-at (suc n) j g =
@@ -147,7 +143,7 @@ module _ (h : ℕ → Head) (n : ℕ) where
       (λ d hd. pair-is i (i + 1 + d) hi (omega arith))
       ∙ sym (mapped (λ d. Row.pairPoints openGeometry h n i (i + 1 + d)) (n - (i + 1))))
 
-  collected-is : collected cs ≡ map structOf (intersections openGeometry h n)
+  pub collected-is : collected cs ≡ map structOf (intersections openGeometry h n)
   unfolding collected intersections row
   collected-is =
       rw (circles-length h n) (upTo-cong (rowPoints (circlesOfHeads h n)) (λ i. map structOf (row i)) n row-is ∙ sym (mapped row n))
@@ -197,7 +193,7 @@ module _ (h : ℕ → Head) (n : ℕ) where
       by j true = refl
       by j false = refl
 
-  members-many : (S : ℕ) → S < 2 ^ n → n ≤ 10 → isSingle S ≡ false
+  pub members-many : (S : ℕ) → S < 2 ^ n → n ≤ 10 → isSingle S ≡ false
       → membersOf cs (collected cs) S ≡ map memberOf (Row.members openGeometry h n S)
   unfolding membersOf
   members-many S hS hn hs =
@@ -208,7 +204,7 @@ module _ (h : ℕ → Head) (n : ℕ) where
       ∙ sym (row-members memberOf S))
 
   -- the circles of the members, of a single too
-  circles-are : (S : ℕ) → circlesOf (membersOf cs (collected cs) S) ≡ circlesOf (map memberOf (Row.members openGeometry h n S))
+  pub circles-are : (S : ℕ) → circlesOf (membersOf cs (collected cs) S) ≡ circlesOf (map memberOf (Row.members openGeometry h n S))
   circles-are S =
       circles-of-members cs (collected cs) S
       ∙ rw (circles-length h n)
@@ -243,7 +239,7 @@ open-row h n S hn hS = by (isSingle S) refl
 within-test : (low high z : ℤ) → Within low high z → T (leZ low z && leZ z high)
 within-test low high z w = and-i (leZ low z) (leZ z high) (w .0 .le) (w .1 .le)
 
-within-limits : (h : Head) → HeadMet h → T (inLimits h)
+pub within-limits : (h : Head) → HeadMet h → T (inLimits h)
 within-limits h m =
     and-i (positionInLimits (h .x)) (positionInLimits (h .y) && radiusInLimits (h .radius))
     (within-test (negℤ (pos 20000)) (pos 20000) (h .x) (m .0))
@@ -253,7 +249,6 @@ within-limits h m =
 
 -- The geometry of open rows is faithful: heads that do not meet by whole numbers have no meeting points.
 pub open-faithful : (box : Ground → Float) (sets : Plan → ℕ → Bool) → Faithful (openMethod box sets)
-unfolding circleOf
 open-faithful box sets =
     record { apart = λ g a b ha hb e. no-points-unless-met a b (within-limits a ha) (within-limits b hb) e }
 
@@ -262,43 +257,3 @@ pub open-list-ends-afresh : (box : Ground → Float) (sets : Plan → ℕ → Bo
     → (needed : Needed) (p : Plan) → length (p .heads) ≡ 10 → planAnswer p ≡ Taken
     → (rows : ℕ → TableRow) → AfreshRows (openMethod box sets) p rows → (es : List Entry) → Ends (openMethod box sets) needed p rows es
 open-list-ends-afresh box sets = list-ends-afresh (openMethod box sets) (open-faithful box sets)
-
--- ---- finiteness
-
-float-most : (z : ℤ) → natAbs z ≤ 20000 → Most 20000 1074 (ofInt binary64 z)
-float-most z h = ofInt-most z (le-trans h (lit≤ tt)) h
-
-position-size : (z : ℤ) → Within (negℤ (pos 20000)) (pos 20000) z → natAbs z ≤ 20000
-position-size (pos n) w = leb→le n 20000 (w .1 .le)
-position-size (negsuc n) w = suc-le-suc (leb→le n 19999 (w .0 .le))
-
-radius-size : (z : ℤ) → Within (pos 1) (pos 20000) z → natAbs z ≤ 20000
-radius-size (pos n) w = leb→le n 20000 (w .1 .le)
-radius-size (negsuc n) w = absurd (w .0 .le)
-
--- the circle of a head within the limits is a circle of the domain
-circle-domain : (h : Head) → HeadMet h → InDomain (circleOf h)
-unfolding circleOf
-circle-domain h m =
-    record {
-      x = float-most (h .x) (position-size (h .x) (m .0));
-      y = float-most (h .y) (position-size (h .y) (m .1));
-      r = float-most (h .radius) (radius-size (h .radius) (m .2));
-    }
-
-every-mapped : {A B : Type 0} (P : B → Type 0) (f : A → B) (l : List A) → Every (λ a. P (f a)) l → Every P (map f l)
-every-mapped P f [] e = tt
-every-mapped P f (a ∷ l) e = (e .0, every-mapped P f l (e .1))
-
--- The open row of any set of heads within the limits is finite, and at most 1,440,000,000,000.
-pub open-row-finite : Promised → (h : ℕ → Head) (n S : ℕ) → n ≤ 10 → S < 2 ^ n → ((i : ℕ) → i < n → HeadMet (h i))
-    → Most 1440000000000 1074 (rowArea openGeometry h n S)
-open-row-finite promised h n S hn hS met =
-    let cs = circlesOfHeads h n in
-    let few : length cs ≤ 10 = rw (circles-length h n) hn in
-    rw (sym (open-row h n S hn hS))
-    (area-finite promised (membersOf cs (collected cs) S)
-    (rw (circles-of-members cs (collected cs) S, circles-length h n)
-    (every-mapped InDomain (circleAt cs) (headsOf n S)
-    (every-map (headsOf n S) (λ j hj. rw (circle-at h n j hj) (circle-domain (h j) (met j hj))) (heads-below n S))))
-    (outline-few cs S few))

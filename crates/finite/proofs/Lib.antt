@@ -1,0 +1,3 @@
+pub mod Open
+pub mod Boxed
+pub mod Rows
