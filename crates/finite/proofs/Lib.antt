@@ -1,3 +1,4 @@
+pub mod Promises
 pub mod Open
 pub mod Boxed
 pub mod Rows
