@@ -19,7 +19,7 @@ use lib.Seq.{getD-at}
 use Rattle.heads.specs.declared.Head.{Head}
 use Rattle.masks.specs.Mask.{bit, inSet, gather, size}
 use Rattle.masks.specs.Operations.{one-of-in, zero-of-in}
-use Rattle.outline.proofs.Gathering.{lt-or-eq}
+use Rattle.boundary.proofs.Gathering.{lt-or-eq}
 use Rattle.masks.specs.Gather.{gather-lt, in-gather, gather-unique}
 use Rattle.masks.specs.Subset.{and-test}
 use Rattle.masks.specs.Size.{ones-size}
@@ -41,10 +41,11 @@ use Rattle.regions.proofs.Lists.{upTo-cong, upTo-through}
 use Rattle.geometry.specs.Circle.{intersectionPoints}
 use Rattle.geometry.specs.declared.point.Point.{Point}
 use Rattle.geometry.specs.declared.circle.Circle.{Circle}
-use Rattle.outline.specs.declared.points.IntersectionPoint.{IntersectionPoint}
-use Rattle.outline.specs.Outline.{Member, circlesOf, outline}
-use Rattle.outline.specs.Area.{noCircle, areaOf, openArea}
-use Rattle.outline.specs.Set.{headsOf, countedFor, pointsFor, circleAt, memberAt, membersOf}
+use Rattle.boundary.specs.declared.points.IntersectionPoint.{IntersectionPoint}
+use Rattle.boundary.specs.Outline.{Member, circlesOf, outline}
+use Rattle.boundary.specs.Outline.{noCircle}
+use Rattle.outline.specs.Area.{areaOf, openArea}
+use Rattle.boundary.specs.Set.{headsOf, countedFor, pointsFor, circleAt, memberAt, membersOf}
 use Rattle.outline.specs.Points.{adopts, met, pairPoints, rowPoints, collected}
 use Rattle.outline.specs.Counts.{points-whole}
 use Rattle.exact.specs.Circle.{circleOf}

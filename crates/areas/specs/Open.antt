@@ -14,7 +14,7 @@ use Rattle.geometry.specs.Circle.{intersectionPoints}
 use Rattle.exact.specs.Circle.{circleOf}
 use Rattle.geometry.specs.declared.point.Point.{Point}
 use Rattle.geometry.specs.declared.circle.Circle.{Circle}
-use Rattle.outline.specs.Outline.{Member}
+use Rattle.boundary.specs.Outline.{Member}
 use Rattle.outline.specs.Area.{openArea}
 use Rattle.outline.specs.Points.{adoptsPoint}
 

@@ -10,12 +10,12 @@ use lib.Seq.{take-suc, getD-take}
 use lib.Ieee.{Float}
 use Rattle.regions.specs.Row.{upTo}
 use Rattle.geometry.specs.declared.circle.Circle.{Circle}
-use Rattle.outline.specs.declared.points.IntersectionPoint.{IntersectionPoint}
-use Rattle.outline.specs.declared.arcs.BoundaryArc.{BoundaryArc}
-use Rattle.outline.specs.Outline.{Member, circlesOf, angleAbout, fullCircle, arcsAt, outlineFrom, outline}
-use Rattle.outline.specs.Sort.{sorted}
-use Rattle.outline.specs.Area.{noCircle}
-use Rattle.outline.specs.Set.{headsOf, pointsFor, circleAt, membersOf, membersWith}
+use Rattle.boundary.specs.declared.points.IntersectionPoint.{IntersectionPoint}
+use Rattle.boundary.specs.declared.arcs.BoundaryArc.{BoundaryArc}
+use Rattle.boundary.specs.Outline.{Member, circlesOf, angleAbout, fullCircle, arcsAt, outlineFrom, outline}
+use Rattle.boundary.specs.Sort.{sorted}
+use Rattle.boundary.specs.Outline.{noCircle}
+use Rattle.boundary.specs.Set.{headsOf, pointsFor, circleAt, membersOf, membersWith}
 use Rattle.outline.proofs.Walking.{outline-step, outline-end, outline-one, outline-other, members-are, circles-of-members}
 
 module _ {S : Type 0} (f : S → BoundaryArc → S) (s : S) where

@@ -11,13 +11,14 @@ use Rattle.geometry.specs.declared.bounds.Bounds.{Bounds}
 use Rattle.geometry.specs.declared.circle.Circle.{Circle}
 use Rattle.binary64.specs.Constants.{zero64, half64}
 use Rattle.geometry.specs.Floats.{_+ᶠ_, _-ᶠ_, _*ᶠ_, _/ᶠ_}
-use Rattle.outline.specs.Outline.{Member, circlesOf, outline}
-use Rattle.outline.specs.Area.{noCircle, addAt, subAt}
-use Rattle.outline.specs.declared.arcs.BoundaryArc.{BoundaryArc}
+use Rattle.boundary.specs.Outline.{Member, circlesOf, outline}
+use Rattle.boundary.specs.Outline.{noCircle}
+use Rattle.outline.specs.Area.{addAt, subAt}
+use Rattle.boundary.specs.declared.arcs.BoundaryArc.{BoundaryArc}
 use Rattle.clip.specs.declared.edges.Edge.{Edge}
-use Rattle.clip.specs.Span.{Interval, horizontalSpan, verticalSpan}
-use Rattle.clip.specs.Breaks.{breaks}
-use Rattle.clip.specs.Parts.{overPairs, summed}
+use Rattle.inside.specs.Span.{Interval, horizontalSpan, verticalSpan}
+use Rattle.inside.specs.Breaks.{breaks}
+use Rattle.inside.specs.Parts.{overPairs, summed}
 use Rattle.clip.specs.Area.{emptyBox}
 
 -- a sum and the gradient so far

@@ -1,31 +1,31 @@
 // The area of a set inside the box: of a list of arcs, and of a set straight from its members, with no list in memory.
 // Rests on specs/Area.antt.
-use crate::parts::clipped_arc_integral;
-use crate::span::Span;
-use crate::span::horizontal_edge_inside_interval;
-use crate::span::vertical_edge_inside_interval;
+use inside::parts::clipped_arc_integral;
+use inside::span::Span;
+use inside::span::horizontal_edge_inside_interval;
+use inside::span::vertical_edge_inside_interval;
 use geometry::bounds::Bounds;
 use geometry::circle::Circle;
-use outline::arcs::Arcs;
-use outline::arcs::BoundaryArc;
-use outline::arcs::Candidate;
-use outline::arcs::full_circle;
-use outline::candidates::arc_from;
-use outline::candidates::whole_circle;
-use outline::members::Members;
-use outline::members::angles_for;
-use outline::members::members_of;
-use outline::points::Intersections;
-use outline::sort::Angles;
-use outline::sort::count;
+use boundary::arcs::Arcs;
+use boundary::arcs::BoundaryArc;
+use boundary::arcs::Candidate;
+use boundary::arcs::full_circle;
+use boundary::candidates::arc_from;
+use boundary::candidates::whole_circle;
+use boundary::members::Members;
+use boundary::members::angles_for;
+use boundary::members::members_of;
+use boundary::points::Intersections;
+use boundary::sort::Angles;
+use boundary::sort::count;
 ghost use mathlib.Core.Path.{_≡_};
 ghost use mathlib.Core.List.{map};
 ghost use lib.ListN.{take, length};
 ghost use Rattle.binary64.specs.Constants.{zero64};
-ghost use Rattle.outline.specs.Outline.{arcsAt, outlineFrom};
-ghost use Rattle.outline.specs.Set.{headsOf, circleAt, membersOf, membersWith};
-ghost use Rattle.outline.specs.Lists.{angleList, pointList, headList, circleList, candidateList, arcList};
-ghost use Rattle.clip.specs.Span.{spans};
+ghost use Rattle.boundary.specs.Outline.{arcsAt, outlineFrom};
+ghost use Rattle.boundary.specs.Set.{headsOf, circleAt, membersOf, membersWith};
+ghost use Rattle.boundary.specs.Lists.{angleList, pointList, headList, circleList, candidateList, arcList};
+ghost use Rattle.inside.specs.Span.{spans};
 ghost use Rattle.clip.specs.Area.{emptyBox, addClippedArc, addClippedArcs, addSpan, addEdges, clippedAreaOf, clippedArea};
 
 // Whether the box has no inside.

@@ -1,15 +1,15 @@
 // The spans of the four edges of the box, summed together with their shares of the gradient. Rests on specs/Gradient.antt.
-use crate::span::Span;
-use crate::span::horizontal_edge_inside_interval;
-use crate::span::vertical_edge_inside_interval;
+use inside::span::Span;
+use inside::span::horizontal_edge_inside_interval;
+use inside::span::vertical_edge_inside_interval;
 use geometry::bounds::Bounds;
 use outline::gradient::add_at;
 use outline::gradient::sub_at;
-use outline::members::Members;
+use boundary::members::Members;
 ghost use mathlib.Core.Path.{_≡_};
 ghost use Prim.Native.Nat.{_≤_};
-ghost use Rattle.outline.specs.Lists.{circleList};
-ghost use Rattle.clip.specs.Span.{spans};
+ghost use Rattle.boundary.specs.Lists.{circleList};
+ghost use Rattle.inside.specs.Span.{spans};
 ghost use Rattle.clip.specs.Gradient.{with-gradient, moved, edgeSlopes, addSpanWithGradient, bottomEdge, rightEdge, topEdge, leftEdge, addEdgesWithGradient};
 
 // x added to entry i, or taken from it.

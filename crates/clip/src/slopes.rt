@@ -1,14 +1,14 @@
 // The parts of an arc in the box, summed together with their shares of the gradient. Rests on specs/Gradient.antt.
-use crate::breaks::breaks_between;
-use crate::parts::summed;
+use inside::breaks::breaks_between;
+use inside::parts::summed;
 use elementary::sine::cos;
 use elementary::sine::sin;
 use geometry::bounds::Bounds;
 use geometry::circle::Circle;
-use outline::arcs::BoundaryArc;
+use boundary::arcs::BoundaryArc;
 use outline::gradient::add_at;
 use outline::gradient::sub_at;
-use outline::sort::count;
+use boundary::sort::count;
 ghost use mathlib.Core.Path.{_≡_};
 ghost use Prim.Native.Nat.{_<_, _≤_};
 ghost use lib.ListN.{take};

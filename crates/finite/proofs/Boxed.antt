@@ -18,15 +18,15 @@ use Rattle.regions.specs.Row.{keep}
 use Rattle.geometry.specs.Floats.{_+ᶠ_, _-ᶠ_, _*ᶠ_, _/ᶠ_, _≤ᶠ_}
 use Rattle.geometry.specs.declared.bounds.Bounds.{Bounds}
 use Rattle.geometry.specs.declared.circle.Circle.{Circle}
-use Rattle.outline.specs.declared.arcs.BoundaryArc.{BoundaryArc}
-use Rattle.outline.specs.Every.{Every, every-append}
+use Rattle.boundary.specs.declared.arcs.BoundaryArc.{BoundaryArc}
+use Rattle.boundary.specs.Every.{Every, every-append}
 use Rattle.finite.specs.Open.{InDomain}
 use Rattle.outline.specs.Counts.{sorted-length}
-use Rattle.outline.specs.Area.{noCircle}
-use Rattle.outline.specs.Sort.{insert, sortOnto, sorted}
-use Rattle.outline.proofs.Ordering.{insert-every}
-use Rattle.clip.specs.Breaks.{strictlyInside, copies, periodicInRange, verticalCrossings, horizontalCrossings, crossings, breaksBetween, breaks}
-use Rattle.clip.specs.Parts.{overPairs, summed, subArc, addPart, clippedArcIntegral}
+use Rattle.boundary.specs.Outline.{noCircle}
+use Rattle.boundary.specs.Sort.{insert, sortOnto, sorted}
+use Rattle.boundary.proofs.Ordering.{insert-every}
+use Rattle.inside.specs.Breaks.{strictlyInside, copies, periodicInRange, verticalCrossings, horizontalCrossings, crossings, breaksBetween, breaks}
+use Rattle.inside.specs.Parts.{overPairs, summed, subArc, addPart, clippedArcIntegral}
 use Rattle.clip.specs.Area.{addClippedArc, addClippedArcs}
 use Rattle.finite.specs.Boxed.{PromisedInBox, ShortArc, ArcFinite, ArcsFinite}
 

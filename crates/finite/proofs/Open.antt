@@ -21,12 +21,13 @@ use Rattle.regions.specs.Row.{upTo}
 use Rattle.geometry.specs.Floats.{_+ᶠ_, _-ᶠ_, _*ᶠ_, _≤ᶠ_}
 use Rattle.geometry.specs.declared.point.Point.{Point}
 use Rattle.geometry.specs.declared.circle.Circle.{Circle}
-use Rattle.outline.specs.declared.arcs.BoundaryArc.{BoundaryArc}
-use Rattle.outline.specs.Every.{Every, every-append, every-map, every-upTo}
-use Rattle.outline.specs.Sort.{insert, sortOnto, sorted}
-use Rattle.outline.specs.Outline.{Member, circlesOf, angleAbout, gap, collapsed, owned, pointAt, probe, fullCircle, between, arcFrom, arcsAt, anglesOf, outlineFrom, outline}
-use Rattle.outline.specs.Area.{noCircle, arcTerms, addArc, addArcs, areaOf, openArea, addAt, subAt, arcSlopes, addSlopes, addGradient, openGradient}
-use Rattle.outline.proofs.Ordering.{insert-every}
+use Rattle.boundary.specs.declared.arcs.BoundaryArc.{BoundaryArc}
+use Rattle.boundary.specs.Every.{Every, every-append, every-map, every-upTo}
+use Rattle.boundary.specs.Sort.{insert, sortOnto, sorted}
+use Rattle.boundary.specs.Outline.{Member, circlesOf, angleAbout, gap, collapsed, owned, pointAt, probe, fullCircle, between, arcFrom, arcsAt, anglesOf, outlineFrom, outline}
+use Rattle.boundary.specs.Outline.{noCircle}
+use Rattle.outline.specs.Area.{arcTerms, addArc, addArcs, areaOf, openArea, addAt, subAt, arcSlopes, addSlopes, addGradient, openGradient}
+use Rattle.boundary.proofs.Ordering.{insert-every}
 use Rattle.finite.specs.Open.{Promised, InDomain, AreaFinite, GradientFinite}
 
 -- ---- constants

@@ -13,10 +13,10 @@ use Rattle.heads.specs.declared.Head.{Head}
 use Rattle.plan.specs.Exactly.{Within, HeadMet}
 use Rattle.regions.specs.Row.{rowArea}
 use Rattle.exact.specs.Circle.{circleOf}
-use Rattle.outline.specs.Set.{headsOf, circleAt, membersOf}
+use Rattle.boundary.specs.Set.{headsOf, circleAt, membersOf}
 use Rattle.outline.specs.Points.{collected}
 use Rattle.outline.specs.Counts.{heads-below, outline-few}
-use Rattle.outline.specs.Every.{Every, every-map}
+use Rattle.boundary.specs.Every.{Every, every-map}
 use Rattle.outline.proofs.Walking.{circles-of-members}
 use Rattle.areas.specs.Open.{circlesOfHeads, openGeometry}
 use Rattle.areas.proofs.Open.{circles-length, circle-at, open-row}

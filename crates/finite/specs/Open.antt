@@ -8,8 +8,8 @@ use Rattle.binary64.specs.Magnitude.{Most}
 use Rattle.elementary.specs.Sine.{sine as sin, cosine as cos}
 use Rattle.elementary.specs.Arctangent.{atan2}
 use Rattle.geometry.specs.declared.circle.Circle.{Circle}
-use Rattle.outline.specs.Every.{Every}
-use Rattle.outline.specs.Outline.{Member, circlesOf, outline}
+use Rattle.boundary.specs.Every.{Every}
+use Rattle.boundary.specs.Outline.{Member, circlesOf, outline}
 use Rattle.outline.specs.Area.{openArea, openGradient}
 
 -- What document 01 promises of the lower crate, and all that is asked of it here: |sin|, |cos| ≤ 1 and |atan2| ≤ PI < 4.

@@ -15,7 +15,7 @@ use Rattle.geometry.specs.Meeting.{distinct}
 use Rattle.geometry.specs.Point.{distance}
 use Rattle.geometry.specs.declared.point.Point.{Point}
 use Rattle.geometry.specs.declared.circle.Circle.{Circle}
-use Rattle.outline.specs.declared.points.IntersectionPoint.{IntersectionPoint}
+use Rattle.boundary.specs.declared.points.IntersectionPoint.{IntersectionPoint}
 use Rattle.outline.specs.Points.{met, pairPoints, rowPoints, collected}
 use Rattle.outline.proofs.Listing.{pushed-on}
 

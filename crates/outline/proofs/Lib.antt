@@ -1,10 +1,3 @@
-pub mod Arrays
-pub mod Sorting
-pub mod Ordering
-pub mod Gathering
-pub mod Counting
-pub mod Owning
-pub mod Gaps
 pub mod Summing
 pub mod Walking
 pub mod Listing

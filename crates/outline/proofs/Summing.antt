@@ -8,7 +8,7 @@ use lib.Seq.{take-suc}
 use lib.Ieee.{Float}
 use Rattle.regions.specs.Row.{upTo}
 use Rattle.geometry.specs.declared.circle.Circle.{Circle}
-use Rattle.outline.specs.declared.arcs.BoundaryArc.{BoundaryArc}
+use Rattle.boundary.specs.declared.arcs.BoundaryArc.{BoundaryArc}
 use Rattle.outline.specs.Area.{addArc, addArcs, addSlopes, addGradient}
 
 module _ (cs : List Circle) where

@@ -8,16 +8,17 @@ use lib.ListN.{length, getD, take, drop, length-take, length-map, drop-of-length
 use lib.Seq.{drop-cons}
 use lib.Ieee.{Float}
 use Rattle.geometry.specs.declared.circle.Circle.{Circle}
-use Rattle.outline.specs.declared.points.IntersectionPoint.{IntersectionPoint}
-use Rattle.outline.specs.declared.arcs.BoundaryArc.{BoundaryArc}
-use Rattle.outline.specs.Outline.{Member, circlesOf, fullCircle, anglesOf, angleAbout, arcsAt, outlineFrom, outline}
-use Rattle.outline.specs.Sort.{sorted}
+use Rattle.boundary.specs.declared.points.IntersectionPoint.{IntersectionPoint}
+use Rattle.boundary.specs.declared.arcs.BoundaryArc.{BoundaryArc}
+use Rattle.boundary.specs.Outline.{Member, circlesOf, fullCircle, anglesOf, angleAbout, arcsAt, outlineFrom, outline}
+use Rattle.boundary.specs.Sort.{sorted}
 use Rattle.binary64.specs.Constants.{zero64, half64}
 use Rattle.geometry.specs.Floats.{_*ᶠ_}
-use Rattle.outline.specs.Area.{noCircle, addArc, addArcs, areaOf, openArea}
+use Rattle.boundary.specs.Outline.{noCircle}
+use Rattle.outline.specs.Area.{addArc, addArcs, areaOf, openArea}
 use Rattle.outline.proofs.Summing.{addArcs-append}
 use Rattle.outline.proofs.Listing.{take-compose}
-use Rattle.outline.specs.Set.{headsOf, pointsFor, pointsHeld, circleAt, memberAt, membersOf, membersWith, numbered, arcsHeld, regionArcs}
+use Rattle.boundary.specs.Set.{headsOf, pointsFor, pointsHeld, circleAt, memberAt, membersOf, membersWith, numbered, arcsHeld, regionArcs}
 
 -- no more points than are held
 pub points-few : (points : List IntersectionPoint) (S j : ℕ) → length (pointsFor points S j) ≤ 32

@@ -8,15 +8,11 @@ use lib.ListN.{length, getD, set, replicate}
 use lib.Ieee.{Float, nan}
 use Rattle.elementary.specs.Sine.{sine as sin, cosine as cos}
 use Rattle.geometry.specs.declared.circle.Circle.{Circle}
-use Rattle.outline.specs.declared.arcs.BoundaryArc.{BoundaryArc}
+use Rattle.boundary.specs.declared.arcs.BoundaryArc.{BoundaryArc}
 use Rattle.binary64.specs.Constants.{zero64, half64}
 use Rattle.binary64.specs.Functions.{absolute, signumOf}
 use Rattle.geometry.specs.Floats.{_+ᶠ_, _-ᶠ_, _*ᶠ_}
-use Rattle.outline.specs.Outline.{Member, circlesOf, outline}
-
--- what stands for a circle that the list does not have
-abbrev pub noCircle : Circle
-noCircle = record { center = record { x = nan; y = nan }; radius = nan }
+use Rattle.boundary.specs.Outline.{Member, noCircle, circlesOf, outline}
 
 -- ---- area
 

@@ -18,12 +18,12 @@ use Rattle.geometry.specs.Circle.{intersectionPoints, identical, apart, crossin
 use Rattle.geometry.specs.Point.{distance}
 use Rattle.geometry.specs.declared.point.Point.{Point}
 use Rattle.geometry.specs.declared.circle.Circle.{Circle}
-use Rattle.outline.specs.declared.points.IntersectionPoint.{IntersectionPoint}
-use Rattle.outline.specs.declared.arcs.BoundaryArc.{BoundaryArc}
-use Rattle.outline.specs.Every.{Every, every-map, every-upTo}
-use Rattle.outline.specs.Sort.{insert, sortOnto, sorted}
-use Rattle.outline.specs.Outline.{Member, circlesOf, angleAbout, owned, probe, fullCircle, arcFrom, arcsAt, anglesOf, outlineFrom, outline}
-use Rattle.outline.specs.Set.{headsOf, countedFor, pointsFor, pointsHeld, memberAt, membersOf, numbered, arcsHeld, regionArcs}
+use Rattle.boundary.specs.declared.points.IntersectionPoint.{IntersectionPoint}
+use Rattle.boundary.specs.declared.arcs.BoundaryArc.{BoundaryArc}
+use Rattle.boundary.specs.Every.{Every, every-map, every-upTo}
+use Rattle.boundary.specs.Sort.{insert, sortOnto, sorted}
+use Rattle.boundary.specs.Outline.{Member, circlesOf, angleAbout, owned, probe, fullCircle, arcFrom, arcsAt, anglesOf, outlineFrom, outline}
+use Rattle.boundary.specs.Set.{headsOf, countedFor, pointsFor, pointsHeld, memberAt, membersOf, numbered, arcsHeld, regionArcs}
 use Rattle.outline.specs.Points.{met, pairPoints, rowPoints, collected}
 
 -- ---- meeting points

@@ -1,8 +1,3 @@
-pub mod Every
-pub mod Sort
-pub mod Outline
 pub mod Area
-pub mod Set
-pub mod Lists
 pub mod Points
 pub mod Counts

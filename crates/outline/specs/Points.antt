@@ -9,8 +9,8 @@ use Rattle.regions.specs.Row.{upTo}
 use Rattle.geometry.specs.Circle.{containsPoint, intersectionPoints}
 use Rattle.geometry.specs.declared.point.Point.{Point}
 use Rattle.geometry.specs.declared.circle.Circle.{Circle}
-use Rattle.outline.specs.declared.points.IntersectionPoint.{IntersectionPoint}
-use Rattle.outline.specs.Set.{circleAt}
+use Rattle.boundary.specs.declared.points.IntersectionPoint.{IntersectionPoint}
+use Rattle.boundary.specs.Set.{circleAt}
 
 -- The one predicate of who adopts a point: the circle c adopts p, whose parents are a and b, if p is not outside it.
 unfoldable pub adoptsPoint : Circle → Circle → Circle → Point → Bool

@@ -1,27 +1,27 @@
 // The area that arcs enclose: of a list of arcs, and of a set straight from its members, with no list in memory.
 // Rests on specs/Area.antt.
-use crate::arcs::Arcs;
-use crate::arcs::BoundaryArc;
-use crate::arcs::Candidate;
-use crate::arcs::full_circle;
-use crate::candidates::arc_from;
-use crate::candidates::whole_circle;
-use crate::members::Members;
-use crate::members::angles_for;
-use crate::members::members_of;
-use crate::points::Intersections;
-use crate::sort::Angles;
-use crate::sort::count;
+use boundary::arcs::Arcs;
+use boundary::arcs::BoundaryArc;
+use boundary::arcs::Candidate;
+use boundary::arcs::full_circle;
+use boundary::candidates::arc_from;
+use boundary::candidates::whole_circle;
+use boundary::members::Members;
+use boundary::members::angles_for;
+use boundary::members::members_of;
+use boundary::points::Intersections;
+use boundary::sort::Angles;
+use boundary::sort::count;
 use elementary::sine::cos;
 use elementary::sine::sin;
 use geometry::circle::Circle;
 ghost use mathlib.Core.Path.{_≡_};
 ghost use lib.ListN.{take};
-ghost use Rattle.outline.specs.Outline.{arcsAt, outlineFrom};
+ghost use Rattle.boundary.specs.Outline.{arcsAt, outlineFrom};
 ghost use Rattle.binary64.specs.Constants.{zero64};
 ghost use Rattle.outline.specs.Area.{arcTerms, addArc, addArcs, areaOf, openArea};
-ghost use Rattle.outline.specs.Set.{membersOf, membersWith};
-ghost use Rattle.outline.specs.Lists.{angleList, pointList, headList, circleList, candidateList, arcList};
+ghost use Rattle.boundary.specs.Set.{membersOf, membersWith};
+ghost use Rattle.boundary.specs.Lists.{angleList, pointList, headList, circleList, candidateList, arcList};
 
 // The three terms of an arc of a circle, added to a sum.
 pub fn arc_terms(total: f64, c: Circle, arc: BoundaryArc) -> f64

@@ -1,6 +1,6 @@
 // The meeting points of all pairs of circles (the Rust's collect_intersections). Rests on specs/Points.antt.
-use crate::points::IntersectionPoint;
-use crate::points::Intersections;
+use boundary::points::IntersectionPoint;
+use boundary::points::Intersections;
 use geometry::circle::Circle;
 use geometry::meeting::Meeting;
 use geometry::point::Point;
@@ -10,7 +10,7 @@ ghost use Prim.Native.Nat.{_<_};
 ghost use lib.ListN.{length, take};
 ghost use Rattle.masks.specs.Mask.{gather};
 ghost use Rattle.outline.specs.Points.{adoptsPoint, adopts, met, pairPoints, rowPoints, collected};
-ghost use Rattle.outline.specs.Lists.{pointList};
+ghost use Rattle.boundary.specs.Lists.{pointList};
 
 // Whether the circle c adopts the point p of the circles a and b.
 pub fn adopts_point(a: Circle, b: Circle, c: Circle, p: Point) -> bool

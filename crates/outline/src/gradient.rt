@@ -1,6 +1,6 @@
 // The gradient of the area that arcs enclose: x, y and radius of each circle in turn. Rests on specs/Area.antt.
-use crate::arcs::Arcs;
-use crate::arcs::BoundaryArc;
+use boundary::arcs::Arcs;
+use boundary::arcs::BoundaryArc;
 use binary64::abs;
 use binary64::signum;
 use elementary::sine::cos;
@@ -10,7 +10,7 @@ ghost use mathlib.Core.Path.{_≡_};
 ghost use Prim.Native.Nat.{_<_};
 ghost use lib.ListN.{take};
 ghost use Rattle.outline.specs.Area.{addAt, subAt, arcSlopes, addSlopes, addGradient};
-ghost use Rattle.outline.specs.Lists.{arcList};
+ghost use Rattle.boundary.specs.Lists.{arcList};
 
 // x added to entry i, where there is one.
 pub fn add_at(grad: &mut [f64], i: usize, x: f64)

@@ -1,23 +1,23 @@
 // The outline of a set as a list of arcs, each with its head's number. Rests on `regionArcs` of specs/Set.antt.
-use crate::arcs::Arcs;
-use crate::arcs::BoundaryArc;
-use crate::arcs::Candidate;
-use crate::arcs::full_circle;
-use crate::candidates::arc_from;
-use crate::candidates::whole_circle;
-use crate::members::Members;
-use crate::members::angles_for;
-use crate::members::members_of;
-use crate::points::Intersections;
-use crate::sort::Angles;
-use crate::sort::count;
+use boundary::arcs::Arcs;
+use boundary::arcs::BoundaryArc;
+use boundary::arcs::Candidate;
+use boundary::arcs::full_circle;
+use boundary::candidates::arc_from;
+use boundary::candidates::whole_circle;
+use boundary::members::Members;
+use boundary::members::angles_for;
+use boundary::members::members_of;
+use boundary::points::Intersections;
+use boundary::sort::Angles;
+use boundary::sort::count;
 use geometry::circle::Circle;
 ghost use mathlib.Core.Path.{_≡_};
 ghost use mathlib.Core.List.{[], _∷_, _++_, map};
 ghost use lib.ListN.{take};
-ghost use Rattle.outline.specs.Outline.{arcsAt, outlineFrom};
-ghost use Rattle.outline.specs.Set.{membersWith, numbered, arcsHeld, regionArcs};
-ghost use Rattle.outline.specs.Lists.{angleList, pointList, headList, circleList, candidateList, arcList};
+ghost use Rattle.boundary.specs.Outline.{arcsAt, outlineFrom};
+ghost use Rattle.boundary.specs.Set.{membersWith, numbered, arcsHeld, regionArcs};
+ghost use Rattle.boundary.specs.Lists.{angleList, pointList, headList, circleList, candidateList, arcList};
 
 // No arcs; the places are filled with some arc.
 pub fn no_arcs(filler: BoundaryArc) -> Arcs

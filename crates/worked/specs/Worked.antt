@@ -12,7 +12,7 @@ use Rattle.elementary.specs.Root.{root, hypot}
 use Rattle.geometry.specs.Circle.{around, contains, intersectionPoints}
 use Rattle.geometry.specs.Point.{at}
 use Rattle.geometry.specs.declared.circle.Circle.{Circle}
-use Rattle.clip.specs.Span.{between, horizontalSpan}
+use Rattle.inside.specs.Span.{between, horizontalSpan}
 
 -- The whole number n, and -n, as f64.
 abbrev pub whole : ℕ → Float

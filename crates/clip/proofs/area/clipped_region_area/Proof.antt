@@ -3,8 +3,8 @@ use borrow.Author.Needs.{needs}
 use mathlib.Core.Path.{refl, sym, _∙_}
 use lib.ListN.{take}
 use Rattle.binary64.specs.Constants.{zero64}
-use Rattle.outline.specs.Set.{membersOf}
-use Rattle.outline.specs.Lists.{pointList, circleList}
+use Rattle.boundary.specs.Set.{membersOf}
+use Rattle.boundary.specs.Lists.{pointList, circleList}
 use Rattle.outline.proofs.Walking.{circles-of-members, members-many}
 use Rattle.clip.specs.Area.{addClippedArc}
 use Rattle.clip.proofs.Walking.{fold-one, fold-other}

@@ -6,11 +6,11 @@ use native.Mathlib.Omega.{arith}
 use lib.ListN.{length, drop, length-take}
 use lib.Seq.{getD-take}
 use Rattle.binary64.specs.Constants.{zero64}
-use Rattle.outline.specs.Outline.{outlineFrom}
-use Rattle.outline.specs.Area.{noCircle}
-use Rattle.outline.specs.Set.{membersWith}
-use Rattle.outline.specs.Lists.{pointList, headList, circleList}
-use Rattle.outline.proofs.Arrays.{length-of-values}
+use Rattle.boundary.specs.Outline.{outlineFrom}
+use Rattle.boundary.specs.Outline.{noCircle}
+use Rattle.boundary.specs.Set.{membersWith}
+use Rattle.boundary.specs.Lists.{pointList, headList, circleList}
+use Rattle.boundary.proofs.Arrays.{length-of-values}
 use Rattle.clip.specs.Area.{addClippedArc, addClippedArcs}
 use Rattle.clip.proofs.Walking.{fold-step, fold-end}
 use Rattle.clip.proofs.area.outline_sum.Statement.{statement}

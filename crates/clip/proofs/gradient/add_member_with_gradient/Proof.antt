@@ -6,9 +6,9 @@ use native.Mathlib.Omega.{arith}
 use borrow.Author.Tests.{lt-ltb}
 use lib.ListN.{length}
 use Rattle.regions.specs.Row.{upTo}
-use Rattle.outline.specs.Outline.{arcFrom}
-use Rattle.outline.specs.Lists.{angleList, circleList}
-use Rattle.outline.proofs.Gaps.{none-of-length, arcs-of-gaps}
+use Rattle.boundary.specs.Outline.{arcFrom}
+use Rattle.boundary.specs.Lists.{angleList, circleList}
+use Rattle.boundary.proofs.Gaps.{none-of-length, arcs-of-gaps}
 use Rattle.clip.specs.Gradient.{with-gradient, addClippedArcWithGradient, addClippedArcsWithGradient}
 use Rattle.clip.proofs.Walking.{fold-upTo}
 use Rattle.clip.proofs.gradient.add_member_with_gradient.Statement.{statement}

@@ -5,8 +5,8 @@ use native.Mathlib.Omega.{arith}
 use lib.ListN.{length, take}
 use lib.Seq.{take-all}
 use Rattle.binary64.specs.Constants.{zero64}
-use Rattle.outline.specs.Set.{noArc}
-use Rattle.outline.proofs.Arrays.{length-of-values}
+use Rattle.boundary.specs.Set.{noArc}
+use Rattle.boundary.proofs.Arrays.{length-of-values}
 use Rattle.clip.specs.Gradient.{with-gradient, addClippedArcWithGradient, addClippedArcsWithGradient}
 use Rattle.clip.proofs.Walking.{fold-suc}
 use Rattle.clip.proofs.gradient.arcs_sum_with_gradient.Statement.{statement}

@@ -6,8 +6,8 @@ use native.Mathlib.Omega.{arith}
 use lib.ListN.{length, take, length-take}
 use Rattle.binary64.specs.Constants.{zero64}
 use Rattle.outline.specs.Counts.{heads-few}
-use Rattle.outline.specs.Set.{membersOf}
-use Rattle.outline.specs.Lists.{pointList, circleList}
+use Rattle.boundary.specs.Set.{membersOf}
+use Rattle.boundary.specs.Lists.{pointList, circleList}
 use Rattle.outline.proofs.Walking.{circles-of-members, members-many}
 use Rattle.clip.specs.Gradient.{with-gradient, addClippedArcWithGradient}
 use Rattle.clip.proofs.Walking.{fold-one, fold-other}

@@ -5,7 +5,7 @@ use native.Mathlib.Omega.{arith}
 use borrow.Author.Tests.{le-ltb, lt-ltb}
 use lib.ListN.{length, take, length-take}
 use lib.Seq.{getD-take}
-use Rattle.outline.specs.Area.{noCircle}
+use Rattle.boundary.specs.Outline.{noCircle}
 use Rattle.clip.specs.Gradient.{onto, addClippedArcWithGradient}
 use Rattle.clip.proofs.slopes.add_clipped_arc_with_gradient.Statement.{statement}
 use Rattle.clip.proofs.slopes.add_clipped_arc_with_gradient.Tie as tie

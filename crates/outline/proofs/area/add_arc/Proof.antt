@@ -4,7 +4,8 @@ use native.Mathlib.Omega.{arith}
 use borrow.Author.Tests.{le-ltb, lt-ltb}
 use lib.ListN.{length, take, length-take}
 use lib.Seq.{getD-take}
-use Rattle.outline.specs.Area.{addArc, noCircle}
+use Rattle.boundary.specs.Outline.{noCircle}
+use Rattle.outline.specs.Area.{addArc}
 use borrow.Author.Needs.{needs}
 use Rattle.outline.proofs.area.add_arc.Statement.{statement}
 use Rattle.outline.proofs.area.add_arc.Tie as tie

@@ -6,10 +6,10 @@ use native.Mathlib.Omega.{arith}
 use borrow.Author.Tests.{lt-ltb}
 use lib.ListN.{length}
 use Rattle.regions.specs.Row.{upTo}
-use Rattle.outline.specs.Outline.{arcFrom, arcsAt}
+use Rattle.boundary.specs.Outline.{arcFrom, arcsAt}
 use Rattle.outline.specs.Area.{addArcs}
-use Rattle.outline.specs.Lists.{angleList, circleList}
-use Rattle.outline.proofs.Gaps.{none-of-length, arcs-of-gaps}
+use Rattle.boundary.specs.Lists.{angleList, circleList}
+use Rattle.boundary.proofs.Gaps.{none-of-length, arcs-of-gaps}
 use Rattle.outline.proofs.Summing.{addArcs-upTo}
 use Rattle.outline.proofs.area.add_member.Statement.{statement}
 use Rattle.outline.proofs.area.add_member.Tie as tie

@@ -6,9 +6,9 @@ use lib.ListN.{length, take}
 use lib.Seq.{take-all}
 use Rattle.binary64.specs.Constants.{zero64}
 use Rattle.outline.specs.Area.{addArcs, areaOf}
-use Rattle.outline.specs.Set.{noArc}
-use Rattle.outline.specs.Lists.{arcList}
-use Rattle.outline.proofs.Arrays.{length-of-values}
+use Rattle.boundary.specs.Set.{noArc}
+use Rattle.boundary.specs.Lists.{arcList}
+use Rattle.boundary.proofs.Arrays.{length-of-values}
 use Rattle.outline.proofs.Summing.{addArcs-suc}
 use Rattle.outline.proofs.area.area_from_boundary_arcs.Statement.{statement}
 use Rattle.outline.proofs.area.area_from_boundary_arcs.Tie as tie

@@ -6,11 +6,12 @@ use native.Mathlib.Omega.{arith}
 use lib.ListN.{length, getD, take, drop, length-take}
 use lib.Seq.{getD-take}
 use Rattle.binary64.specs.Constants.{zero64}
-use Rattle.outline.specs.Outline.{outlineFrom}
-use Rattle.outline.specs.Area.{noCircle, addArcs}
-use Rattle.outline.specs.Set.{membersWith}
-use Rattle.outline.specs.Lists.{pointList, headList, circleList}
-use Rattle.outline.proofs.Arrays.{length-of-values}
+use Rattle.boundary.specs.Outline.{outlineFrom}
+use Rattle.boundary.specs.Outline.{noCircle}
+use Rattle.outline.specs.Area.{addArcs}
+use Rattle.boundary.specs.Set.{membersWith}
+use Rattle.boundary.specs.Lists.{pointList, headList, circleList}
+use Rattle.boundary.proofs.Arrays.{length-of-values}
 use Rattle.outline.proofs.Walking.{sum-step, sum-end}
 use Rattle.outline.proofs.area.outline_sum.Statement.{statement}
 use Rattle.outline.proofs.area.outline_sum.Tie as tie

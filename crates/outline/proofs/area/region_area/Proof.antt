@@ -3,9 +3,9 @@ use mathlib.Core.Path.{_≡_, refl, sym, _∙_, ap}
 use native.Mathlib.Omega.{arith}
 use lib.ListN.{length, take, getD}
 use lib.Seq.{getD-take}
-use Rattle.outline.specs.Area.{noCircle}
-use Rattle.outline.specs.Set.{membersOf}
-use Rattle.outline.specs.Lists.{pointList}
+use Rattle.boundary.specs.Outline.{noCircle}
+use Rattle.boundary.specs.Set.{membersOf}
+use Rattle.boundary.specs.Lists.{pointList}
 use Rattle.outline.proofs.Walking.{circles-of-members, members-many, members-are, area-one, area-other}
 use borrow.Author.Needs.{needs}
 use Rattle.outline.proofs.area.region_area.Statement.{statement}

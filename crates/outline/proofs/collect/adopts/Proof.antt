@@ -5,7 +5,7 @@ use native.Mathlib.Omega.{arith}
 use borrow.Author.Tests.{eq-eqb, ne-eqb}
 use lib.ListN.{length, take, length-take}
 use lib.Seq.{getD-take}
-use Rattle.outline.specs.Area.{noCircle}
+use Rattle.boundary.specs.Outline.{noCircle}
 use Rattle.outline.specs.Points.{adopts}
 use borrow.Author.Needs.{needs}
 use Rattle.outline.proofs.collect.adopts.Statement.{statement}

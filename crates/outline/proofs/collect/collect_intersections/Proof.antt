@@ -7,7 +7,7 @@ use lib.ListN.{length, take, length-take}
 use lib.Seq.{take-all}
 use Rattle.regions.specs.Row.{upTo}
 use Rattle.outline.specs.Points.{rowPoints, collected}
-use Rattle.outline.specs.Lists.{pointList}
+use Rattle.boundary.specs.Lists.{pointList}
 use Rattle.outline.specs.Counts.{collected-few}
 use Rattle.outline.proofs.Collecting.{rows-on}
 use Rattle.outline.proofs.collect.collect_intersections.Statement.{statement}

@@ -6,10 +6,10 @@ use native.Mathlib.Omega.{arith}
 use lib.ListN.{length, take, length-take}
 use lib.Seq.{getD-take}
 use Rattle.geometry.specs.Meeting.{points}
-use Rattle.outline.specs.Area.{noCircle}
+use Rattle.boundary.specs.Outline.{noCircle}
 use Rattle.outline.specs.Points.{met, pairPoints}
-use Rattle.outline.specs.Lists.{pointList}
-use Rattle.outline.proofs.Arrays.{length-of-values}
+use Rattle.boundary.specs.Lists.{pointList}
+use Rattle.boundary.proofs.Arrays.{length-of-values}
 use Rattle.outline.proofs.Listing.{pushed-none, pushed-on}
 use borrow.Author.Needs.{needs}
 use Rattle.outline.proofs.collect.push_pair.Statement.{statement}

@@ -7,8 +7,8 @@ use native.Mathlib.Omega.{arith}
 use lib.ListN.{length, take, length-take}
 use Rattle.regions.specs.Row.{upTo}
 use Rattle.outline.specs.Points.{pairPoints, rowPoints}
-use Rattle.outline.specs.Lists.{pointList}
-use Rattle.outline.proofs.Arrays.{length-of-values}
+use Rattle.boundary.specs.Lists.{pointList}
+use Rattle.boundary.proofs.Arrays.{length-of-values}
 use Rattle.outline.proofs.Listing.{pushed-none}
 use Rattle.outline.proofs.Collecting.{row-on}
 use Rattle.outline.proofs.collect.push_row.Statement.{statement}

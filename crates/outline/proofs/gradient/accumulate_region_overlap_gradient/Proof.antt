@@ -5,9 +5,9 @@ use native.Mathlib.Omega.{arith}
 use lib.ListN.{length, take}
 use lib.Seq.{take-all}
 use Rattle.outline.specs.Area.{addGradient}
-use Rattle.outline.specs.Set.{noArc}
-use Rattle.outline.specs.Lists.{arcList}
-use Rattle.outline.proofs.Arrays.{length-of-values}
+use Rattle.boundary.specs.Set.{noArc}
+use Rattle.boundary.specs.Lists.{arcList}
+use Rattle.boundary.proofs.Arrays.{length-of-values}
 use Rattle.outline.proofs.Summing.{addGradient-suc}
 use Rattle.outline.proofs.gradient.accumulate_region_overlap_gradient.Statement.{statement}
 use Rattle.outline.proofs.gradient.accumulate_region_overlap_gradient.Tie as tie

@@ -4,7 +4,8 @@ use native.Mathlib.Omega.{arith}
 use borrow.Author.Tests.{le-ltb, lt-ltb}
 use lib.ListN.{length, take, length-take}
 use lib.Seq.{getD-take}
-use Rattle.outline.specs.Area.{addSlopes, noCircle}
+use Rattle.boundary.specs.Outline.{noCircle}
+use Rattle.outline.specs.Area.{addSlopes}
 use borrow.Author.Needs.{needs}
 use Rattle.outline.proofs.gradient.add_slopes.Statement.{statement}
 use Rattle.outline.proofs.gradient.add_slopes.Tie as tie

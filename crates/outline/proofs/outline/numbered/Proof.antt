@@ -3,7 +3,7 @@ use mathlib.Core.Path.{_≡_, refl, sym, ap}
 use native.Mathlib.Omega.{arith}
 use lib.ListN.{length, getD, take, length-take, List·getD-eq-default}
 use lib.Seq.{getD-take}
-use Rattle.outline.specs.Set.{numbered}
+use Rattle.boundary.specs.Set.{numbered}
 use borrow.Author.Needs.{needs}
 use Rattle.outline.proofs.outline.numbered.Statement.{statement}
 use Rattle.outline.proofs.outline.numbered.Tie as tie

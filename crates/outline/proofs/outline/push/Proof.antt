@@ -1,7 +1,7 @@
 -- `outline::push` meets its contract.
 use mathlib.Core.Path.{_≡_}
 use lib.ListN.{length}
-use Rattle.outline.proofs.Arrays.{length-of-values}
+use Rattle.boundary.proofs.Arrays.{length-of-values}
 use Rattle.outline.proofs.Listing.{pushed-one, pushed-full}
 use borrow.Author.Needs.{needs}
 use Rattle.outline.proofs.outline.push.Statement.{statement}

@@ -1,7 +1,7 @@
 -- `outline::push_candidate` meets its contract.
 use mathlib.Core.Path.{_≡_, refl, sym, ap}
 use lib.ListN.{length}
-use Rattle.outline.proofs.Arrays.{length-of-values}
+use Rattle.boundary.proofs.Arrays.{length-of-values}
 use Rattle.outline.proofs.Listing.{pushed-none}
 use borrow.Author.Needs.{needs}
 use Rattle.outline.proofs.outline.push_candidate.Statement.{statement}

@@ -8,11 +8,11 @@ use native.Mathlib.Numerals.{add-one}
 use borrow.Author.Tests.{lt-ltb}
 use lib.ListN.{length, take}
 use Rattle.regions.specs.Row.{upTo}
-use Rattle.outline.specs.Outline.{arcFrom, arcsAt}
-use Rattle.outline.specs.Set.{numbered, arcsHeld}
-use Rattle.outline.specs.Lists.{angleList, circleList, headList, arcList}
-use Rattle.outline.proofs.Arrays.{length-of-values}
-use Rattle.outline.proofs.Gaps.{none-of-length, arcs-of-gaps}
+use Rattle.boundary.specs.Outline.{arcFrom, arcsAt}
+use Rattle.boundary.specs.Set.{numbered, arcsHeld}
+use Rattle.boundary.specs.Lists.{angleList, circleList, headList, arcList}
+use Rattle.boundary.proofs.Arrays.{length-of-values}
+use Rattle.boundary.proofs.Gaps.{none-of-length, arcs-of-gaps}
 use Rattle.outline.proofs.Listing.{pushed-none, pushed-map}
 use Rattle.outline.proofs.outline.push_member.Statement.{statement}
 use Rattle.outline.proofs.outline.push_member.Tie as tie

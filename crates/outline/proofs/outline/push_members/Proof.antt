@@ -6,11 +6,11 @@ use Prim.Native.Nat.{_+_, _-_, _≤_, _<_}
 use native.Mathlib.Omega.{arith}
 use lib.ListN.{length, getD, take, drop, length-take}
 use lib.Seq.{getD-take, take-all}
-use Rattle.outline.specs.Outline.{outlineFrom}
-use Rattle.outline.specs.Area.{noCircle}
-use Rattle.outline.specs.Set.{membersWith, numbered, arcsHeld}
-use Rattle.outline.specs.Lists.{pointList, headList, circleList, arcList}
-use Rattle.outline.proofs.Arrays.{length-of-values}
+use Rattle.boundary.specs.Outline.{outlineFrom}
+use Rattle.boundary.specs.Outline.{noCircle}
+use Rattle.boundary.specs.Set.{membersWith, numbered, arcsHeld}
+use Rattle.boundary.specs.Lists.{pointList, headList, circleList, arcList}
+use Rattle.boundary.proofs.Arrays.{length-of-values}
 use Rattle.outline.proofs.Walking.{push-step, push-end}
 use Rattle.outline.proofs.outline.push_members.Statement.{statement}
 use Rattle.outline.proofs.outline.push_members.Tie as tie

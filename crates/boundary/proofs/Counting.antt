@@ -1,0 +1,109 @@
+-- The points counted for a set at a head, one after another, and their angles in order: what the loop of `angles_for` has found.
+use mathlib.Core.Path.{_≡_, refl, sym, ap, ap₂, _∙_}
+use mathlib.Core.Bool.{Bool, true, false, cond}
+use mathlib.Core.List.{List, [], _∷_, _++_, map, map-append, append-nil}
+use Prim.Native.Nat.{ℕ, zero, suc, _+_, _≤_, _<_}
+use native.Mathlib.Numerals.{add-one}
+use native.Mathlib.Omega.{arith}
+use borrow.Author.Tests.{lt-ltb, le-ltb, ltb-true, ltb-false}
+use lib.Dec.{ltb}
+use lib.ListN.{length, take, length-append}
+use lib.Ieee.{Float}
+use Rattle.regions.specs.Row.{keep}
+use Rattle.geometry.specs.declared.point.Point.{Point}
+use Rattle.geometry.specs.declared.circle.Circle.{Circle}
+use Rattle.boundary.specs.declared.points.IntersectionPoint.{IntersectionPoint}
+use Rattle.boundary.specs.declared.sort.Angles.{Angles}
+use Rattle.boundary.specs.Sort.{insert, sortOnto, sorted}
+use Rattle.boundary.specs.Outline.{angleAbout}
+use Rattle.boundary.specs.Set.{countedFor, pointsFor, pointsHeld}
+use Rattle.boundary.specs.Lists.{angleList}
+
+-- one more at the end of a list of which so many are held
+pub take-push : {A : Type 0} (n : ℕ) (l : List A) (x : A) → take n (l ++ (x ∷ [])) ≡ cond (ltb (length (take n l)) n) (take n l ++ (x ∷ [])) (take n l)
+take-push zero l x = refl
+take-push (suc n) [] x = rw (lt-ltb 0 (suc n) (omega arith)) (ap (λ t. x ∷ t) (none n))
+  where
+    none : {A : Type 0} (n : ℕ) → take {A = A} n [] ≡ []
+    none zero = refl
+    none (suc n) = refl
+take-push (suc n) (y ∷ l) x = by (ltb (length (take n l)) n) refl (take-push n l x)
+  where
+    by : (b : Bool) → ltb (length (take n l)) n ≡ b → take n (l ++ (x ∷ [])) ≡ cond (ltb (length (take n l)) n) (take n l ++ (x ∷ [])) (take n l)
+        → y ∷ take n (l ++ (x ∷ [])) ≡ cond (ltb (suc (length (take n l))) (suc n)) (y ∷ (take n l ++ (x ∷ []))) (y ∷ take n l)
+    by true e h = rw (lt-ltb (suc (length (take n l))) (suc n) (omega (arith, ltb-true (length (take n l)) n e)), h, e)
+    by false e h = rw (le-ltb (suc (length (take n l))) (suc n) (omega (arith, ltb-false (length (take n l)) n e)), h, e)
+
+-- sorting with one more at the end puts that one in last
+sortOnto-push : (done l : List Float) (x : Float) → sortOnto done (l ++ (x ∷ [])) ≡ insert x (sortOnto done l)
+unfolding sortOnto
+sortOnto-push done [] x = refl
+sortOnto-push done (y ∷ l) x = sortOnto-push (insert y done) l x
+
+pub sorted-push : (l : List Float) (x : Float) → sorted (l ++ (x ∷ [])) ≡ insert x (sorted l)
+unfolding sorted
+sorted-push l x = sortOnto-push [] l x
+
+keep-push : {A : Type 0} (p : A → Bool) (l : List A) (q : A) → keep p (l ++ (q ∷ [])) ≡ keep p l ++ cond (p q) (q ∷ []) []
+unfolding keep
+keep-push p [] q = refl
+keep-push p (y ∷ l) q = by (p y) (keep-push p l q)
+  where
+    by : (b : Bool) → keep p (l ++ (q ∷ [])) ≡ keep p l ++ cond (p q) (q ∷ []) []
+        → cond b (y ∷ keep p (l ++ (q ∷ []))) (keep p (l ++ (q ∷ []))) ≡ cond b (y ∷ keep p l) (keep p l) ++ cond (p q) (q ∷ []) []
+    by true h = ap (λ t. y ∷ t) h
+    by false h = h
+
+module _ (S j : ℕ) (l : List IntersectionPoint) (q : IntersectionPoint) where
+  -- a counted point more, while there is room
+  pub points-with : countedFor S j q ≡ true
+      → pointsFor (l ++ (q ∷ [])) S j ≡ cond (ltb (length (pointsFor l S j)) pointsHeld) (pointsFor l S j ++ (q .point ∷ [])) (pointsFor l S j)
+  unfolding pointsFor
+  points-with e =
+      rw (keep-push (countedFor S j) l q, e, map-append (λ q. q .point) (keep (countedFor S j) l) (q ∷ []))
+      (take-push pointsHeld (map (λ q. q .point) (keep (countedFor S j) l)) (q .point))
+
+  -- a point that is not counted
+  pub points-without : countedFor S j q ≡ false → pointsFor (l ++ (q ∷ [])) S j ≡ pointsFor l S j
+  unfolding pointsFor
+  points-without e = rw (keep-push (countedFor S j) l q, e, append-nil (keep (countedFor S j) l))
+
+-- the list holds the angles of the points counted among the points of l, in order
+pub record AnglesTo (c : Circle) (S j : ℕ) (l : List IntersectionPoint) (list : Angles) : Type 0 where
+  pub many : list .n ≡ length (pointsFor l S j)
+  pub angles : angleList list ≡ sorted (map (angleAbout c) (pointsFor l S j))
+
+module _ (c : Circle) (S j : ℕ) (l : List IntersectionPoint) (q : IntersectionPoint) (list : Angles) where
+  pub angles-with : (r : Angles) (x : Float) → x ≡ angleAbout c (q .point) → countedFor S j q ≡ true
+      → r .n ≡ cond (ltb (list .n) 32) (list .n + 1) (list .n)
+      → angleList r ≡ cond (ltb (list .n) 32) (insert x (angleList list)) (angleList list)
+      → AnglesTo c S j l list → AnglesTo c S j (l ++ (q ∷ [])) r
+  angles-with r x ex e en ea h = by (ltb (length (pointsFor l S j)) 32) refl
+    where
+      known : ltb (list .n) 32 ≡ ltb (length (pointsFor l S j)) 32
+      known = ap (λ n. ltb n 32) (h .many)
+
+      by : (b : Bool) → ltb (length (pointsFor l S j)) 32 ≡ b → AnglesTo c S j (l ++ (q ∷ [])) r
+      by true b =
+          record {
+            many = en ∙ rw (known, b, points-with S j l q e, b, length-append (pointsFor l S j) (q .point ∷ []), h .many);
+            angles =
+                ea
+                ∙ rw (known, b, points-with S j l q e, b, map-append (angleAbout c) (pointsFor l S j) (q .point ∷ []), sorted-push (map (angleAbout c) (pointsFor l S j)) (angleAbout c (q .point)), ex, h .angles);
+          }
+      by false b =
+          record {
+            many = en ∙ rw (known, b, points-with S j l q e, b) (h .many);
+            angles = ea ∙ rw (known, b, points-with S j l q e, b) (h .angles);
+          }
+
+  pub angles-without : countedFor S j q ≡ false → AnglesTo c S j l list → AnglesTo c S j (l ++ (q ∷ [])) list
+  angles-without e h =
+      record {
+        many = rw (points-without S j l q e) (h .many);
+        angles = rw (points-without S j l q e) (h .angles);
+      }
+
+  pub angles-none : list .n ≡ 0 → AnglesTo c S j [] list
+  unfolding pointsFor keep sorted sortOnto
+  angles-none e = record { many = e; angles = rw e }

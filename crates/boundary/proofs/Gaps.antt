@@ -1,0 +1,48 @@
+-- The arc of one gap, with the angles in an array; and the arcs of a member with angles.
+use mathlib.Core.Path.{_≡_, refl, sym, ap, _∙_}
+use mathlib.Core.Bool.{Bool, true, false, not, _&&_, cond}
+use mathlib.Core.List.{List, [], _∷_, _++_}
+use Prim.Native.Nat.{ℕ, zero, suc, _+_, _%_, _≤_, _<_}
+use native.Mathlib.Nat.{mod-lt}
+use native.Mathlib.Omega.{arith}
+use lib.ListN.{length, getD, take, length-take}
+use lib.Seq.{getD-take}
+use lib.Ieee.{Float, nan}
+use Rattle.regions.specs.Row.{upTo}
+use Rattle.geometry.specs.declared.circle.Circle.{Circle}
+use Rattle.boundary.specs.declared.arcs.BoundaryArc.{BoundaryArc}
+use Rattle.binary64.specs.Constants.{half64}
+use Rattle.geometry.specs.Floats.{_+ᶠ_, _*ᶠ_}
+use Rattle.boundary.specs.Outline.{owned, gap, collapsed, pointAt, between, arcFrom, arcsAt}
+
+-- the next index round a list of n is below n
+pub next-below : (i n : ℕ) → i < n → (i + 1) % n < n
+next-below i n h = mod-lt (i + 1) {m = n} (omega arith)
+
+-- Whether there is an arc after angle i, of the n that are the first m of an array.
+module _ (cs : List Circle) (k : ℕ) (c : Circle) (phi : List Float) (m n i : ℕ) (many : n ≡ length (take m phi)) (below : i < n) where
+  within : n ≤ m
+  within = omega (arith, length-take m phi, many)
+
+  pub gap-arc :
+      arcFrom cs k c (take m phi) i
+      ≡ cond
+      (not (collapsed (gap (getD phi i nan) (getD phi ((i + 1) % n) nan)))
+      && owned k (pointAt c (getD phi i nan +ᶠ gap (getD phi i nan) (getD phi ((i + 1) % n) nan) *ᶠ half64)) cs)
+      (between k c (getD phi i nan) (gap (getD phi i nan) (getD phi ((i + 1) % n) nan)) ∷ [])
+      []
+  unfolding arcFrom
+  gap-arc =
+      rw (sym many, getD-take m phi i nan (omega (arith, within)), getD-take m phi ((i + 1) % n) nan (omega (arith, next-below i n below, within)))
+
+-- a member with angles has the arcs of its gaps
+pub arcs-of-gaps : (cs : List Circle) (k : ℕ) (c : Circle) (phis : List Float) → 0 < length phis
+    → arcsAt cs k c phis ≡ upTo (arcFrom cs k c phis) (length phis)
+unfolding arcsAt
+arcs-of-gaps cs k c [] h = absurd (omega arith)
+arcs-of-gaps cs k c (phi ∷ phis) h = refl
+
+-- no angles
+pub none-of-length : {A : Type 0} (l : List A) → length l ≡ 0 → l ≡ []
+none-of-length [] h = refl
+none-of-length (x ∷ l) h = absurd (omega arith)

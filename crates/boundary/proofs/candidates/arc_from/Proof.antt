@@ -1,0 +1,114 @@
+-- `candidates::arc_from` meets its contract: the law `gap-arc`, and what each call gives.
+use mathlib.Core.Path.{_≡_, refl, sym, _∙_}
+use Prim.Native.Nat.{_≤_, _<_, _+_, _%_}
+use native.Mathlib.Omega.{arith}
+use borrow.Author.Tests.{le-ltb, lt-ltb}
+use lib.ListN.{length, length-take}
+use Rattle.boundary.specs.Lists.{circleList, angleList}
+use Rattle.boundary.proofs.Gaps.{next-below, gap-arc}
+use borrow.Author.Needs.{needs}
+use Rattle.boundary.proofs.candidates.arc_from.Statement.{statement}
+use Rattle.boundary.proofs.candidates.arc_from.Tie as tie
+
+-- the array has 32 places
+long : (c : tie.Start) → length (c .args .t3 .phi) ≡ 32
+long c = search needs
+
+-- the angles are no more than the 32 places of their array
+few : (c : tie.After-count) → c .count .result ≤ 32
+few c = let l = c .before .args .t3 in omega (arith, c .count .ensures, length-take (l .n) (l .phi), long (c .before))
+
+next : (c : tie.Else1) → (c .before .before .args .i + 1) % c .before .count .result < c .before .count .result
+next c = next-below (c .before .before .args .i) (c .before .count .result) (c .if1 .left)
+
+count-requires : tie.Need-count-requires
+count-requires c κs = search needs
+
+returns : tie.Need-returns
+returns c = let a = c .before .before .args in rw (le-ltb (a .i) (length (angleList (a .t3))) (omega (arith, c .before .count .ensures)))
+
+add-next : tie.Need-add-next
+add-next c = search needs
+
+rem-next : tie.Need-rem-next
+rem-next c = search needs
+
+mul-phi-a : tie.Need-mul-phi-a
+mul-phi-a c = omega (arith, few (c .before))
+
+element-copy-out-phi-a : tie.Need-element-copy-out-phi-a
+element-copy-out-phi-a c = omega (arith, few (c .before))
+
+mul-phi-b : tie.Need-mul-phi-b
+mul-phi-b c = omega (arith, few (c .before .before), next (c .before))
+
+element-copy-out-phi-b : tie.Need-element-copy-out-phi-b
+element-copy-out-phi-b c = omega (arith, few (c .before .before), next (c .before))
+
+gap-requires : tie.Need-gap-requires
+gap-requires c κs = search needs
+
+collapsed-requires : tie.Need-collapsed-requires
+collapsed-requires c κs = search needs
+
+returns-2 : tie.Need-returns-2
+returns-2 c = let e = c .before .before .before .before .before in let s = e .before .before in let a = s .args in let n = e .before .count in
+    rw (
+      lt-ltb (a .i) (length (angleList (a .t3))) (omega (arith, n .ensures)),
+      gap-arc (circleList (a .set)) (a .k) (a .circle) (a .t3 .phi) (a .t3 .n) (n .result) (a .i) (n .ensures) (e .if1 .left),
+      ← (c .before .before .gap .ensures),
+      sym (c .before .collapsed .ensures) ∙ c .if2 .taken,
+    )
+
+point-at-requires : tie.Need-point-at-requires
+point-at-requires c κs = search needs
+
+owned-requires : tie.Need-owned-requires
+owned-requires c κs = search needs
+
+between-requires : tie.Need-between-requires
+between-requires c κs = search needs
+
+returns-3 : tie.Need-returns-3
+returns-3 c = let d = c .before .before .before .before in let e = d .before .before .before .before .before in let s = e .before .before in let a = s .args in let n = e .before .count in
+    rw (
+      lt-ltb (a .i) (length (angleList (a .t3))) (omega (arith, n .ensures)),
+      gap-arc (circleList (a .set)) (a .k) (a .circle) (a .t3 .phi) (a .t3 .n) (n .result) (a .i) (n .ensures) (e .if1 .left),
+      ← (d .before .before .gap .ensures),
+      sym (d .before .collapsed .ensures) ∙ d .if2 .left,
+      ← (c .before .before .before .point-at .ensures),
+      sym (c .before .before .owned .ensures) ∙ c .before .if3 .taken,
+      c .between .ensures,
+    )
+
+returns-4 : tie.Need-returns-4
+returns-4 c = let d = c .before .before .before in let e = d .before .before .before .before .before in let s = e .before .before in let a = s .args in let n = e .before .count in
+    rw (
+      lt-ltb (a .i) (length (angleList (a .t3))) (omega (arith, n .ensures)),
+      gap-arc (circleList (a .set)) (a .k) (a .circle) (a .t3 .phi) (a .t3 .n) (n .result) (a .i) (n .ensures) (e .if1 .left),
+      ← (d .before .before .gap .ensures),
+      sym (d .before .collapsed .ensures) ∙ d .if2 .left,
+      ← (c .before .before .point-at .ensures),
+      sym (c .before .owned .ensures) ∙ c .if3 .left,
+    )
+
+pub arc-from-spec : {M : Type 1} → statement M
+arc-from-spec =
+    tie.close
+    (tie.spec
+    count-requires
+    returns
+    add-next
+    rem-next
+    mul-phi-a
+    element-copy-out-phi-a
+    mul-phi-b
+    element-copy-out-phi-b
+    gap-requires
+    collapsed-requires
+    returns-2
+    point-at-requires
+    owned-requires
+    between-requires
+    returns-3
+    returns-4)

@@ -1,0 +1,79 @@
+-- `ownership::owned` meets its contract. The invariant: the members from l on decide.
+use borrow.Author.Needs.{needs}
+use mathlib.Core.Path.{_≡_, refl, sym, _∙_, ap}
+use Prim.Native.Nat.{_+_, _-_, _≤_, _<_}
+use native.Mathlib.Omega.{arith}
+use mathlib.Core.Bool.{true, false}
+use borrow.Author.Tests.{not-true, not-false}
+use lib.ListN.{getD, length, drop, take, length-take}
+use lib.Seq.{getD-take}
+use Rattle.boundary.specs.Outline.{ownedFrom, owned, lets}
+use Rattle.boundary.specs.Outline.{noCircle}
+use Rattle.boundary.specs.Lists.{circleList}
+use Rattle.boundary.proofs.Arrays.{length-of-values}
+use Rattle.boundary.proofs.Owning.{owned-on, owned-not, owned-all}
+use Rattle.boundary.proofs.ownership.owned.Statement.{statement}
+use Rattle.boundary.proofs.ownership.owned.Tie as tie
+
+abbrev Inv-loop : tie.InvT-loop
+Inv-loop k p set n l₀ l = (length (set .circles) ≡ 10) × (n ≡ set .n) × (l ≤ 10) × (l ≤ n) × (ownedFrom k p l (drop l (circleList set)) ≡ owned k p (circleList set))
+
+abbrev μ-loop : tie.MeasureT-loop
+μ-loop k p set n l₀ l = 10 - l
+
+loop-holds : tie.Need-loop-holds Inv-loop μ-loop
+loop-holds c = (search length-of-values, refl, omega arith, omega arith, refl)
+
+returns : tie.Need-returns Inv-loop μ-loop
+returns c = let d = c .before .before in let a = d .before .args in
+    sym (owned-all (a .k) (a .p) (circleList (a .t3)) (d .loop .l) (omega (arith, length-take (a .t3 .n) (a .t3 .circles)))) ∙ d .loop .inv .4
+
+mul-lets : tie.Need-mul-lets Inv-loop μ-loop
+mul-lets c = omega arith
+
+element-copy-out-lets : tie.Need-element-copy-out-lets Inv-loop μ-loop
+element-copy-out-lets c = omega arith
+
+lets-requires : tie.Need-lets-requires Inv-loop μ-loop
+lets-requires c κs = search needs
+
+returns-2 : tie.Need-returns-2 Inv-loop μ-loop
+returns-2 c = let d = c .before .before .before .before .before in let a = d .before .args in
+    let below : d .loop .l < a .t3 .n = omega arith in
+    let e : lets (a .k) (a .p) (d .loop .l) (getD (circleList (a .t3)) (d .loop .l) noCircle) ≡ false =
+    rw (getD-take (a .t3 .n) (a .t3 .circles) (d .loop .l) noCircle below) (sym (c .before .lets .ensures) ∙ not-true _ (c .if2 .taken)) in
+    sym (owned-not (a .k) (a .p) (circleList (a .t3)) (d .loop .l) (omega (arith, length-take (a .t3 .n) (a .t3 .circles))) e) ∙ d .loop .inv .4
+
+add-l : tie.Need-add-l Inv-loop μ-loop
+add-l c = omega arith
+
+loop-less : tie.Need-loop-less Inv-loop μ-loop
+loop-less c = omega arith
+
+loop-again : tie.Need-loop-again Inv-loop μ-loop
+loop-again c = let d = c .before .before .before .before .before in let a = d .before .args in
+    let below : d .loop .l < a .t3 .n = omega arith in
+    let e : lets (a .k) (a .p) (d .loop .l) (getD (circleList (a .t3)) (d .loop .l) noCircle) ≡ true =
+    rw (getD-take (a .t3 .n) (a .t3 .circles) (d .loop .l) noCircle below) (sym (c .before .lets .ensures) ∙ not-false _ (c .if2 .left)) in
+    (d .loop .inv .0, refl, omega arith, omega arith, sym (owned-on (a .k) (a .p) (circleList (a .t3)) (d .loop .l) (omega (arith, length-take (a .t3 .n) (a .t3 .circles))) e) ∙ d .loop .inv .4)
+
+returns-3 : tie.Need-returns-3 Inv-loop μ-loop
+returns-3 c = let d = c .before in let a = d .before .args in
+    sym (owned-all (a .k) (a .p) (circleList (a .t3)) (d .loop .l) (omega (arith, length-take (a .t3 .n) (a .t3 .circles)))) ∙ d .loop .inv .4
+
+pub owned-spec : {M : Type 1} → statement M
+owned-spec =
+    tie.close
+    (tie.spec
+    Inv-loop
+    μ-loop
+    loop-holds
+    returns
+    mul-lets
+    element-copy-out-lets
+    lets-requires
+    returns-2
+    add-l
+    loop-less
+    loop-again
+    returns-3)

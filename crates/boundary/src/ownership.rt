@@ -1,0 +1,65 @@
+// Which member of a set has a point of its edge: where edges coincide, the one at the lowest position.
+// Rests on `lets` and `owned` of specs/Outline.antt.
+use crate::members::Members;
+use binary64::abs;
+use binary64::larger;
+use geometry::circle::Circle;
+use geometry::point::Point;
+ghost use mathlib.Core.Path.{_≡_};
+ghost use Rattle.boundary.specs.Outline.{implicitValue, tolerance, lets, owned};
+ghost use Rattle.boundary.specs.Lists.{circleList};
+
+// The implicit form of a circle at a point: below 1 inside, 1 on the edge, above 1 outside.
+pub fn circle_implicit_value(p: Point, c: Circle) -> f64
+    ensures { λ r. ⌜ r ≡ implicitValue p c ⌝ }
+{
+    let dx = p.x - c.center.x;
+    let dy = p.y - c.center.y;
+    (dx * dx + dy * dy) / (c.radius * c.radius)
+}
+
+// How far from 1 the implicit form counts as 1.
+pub fn tolerance(c: Circle) -> f64
+    ensures { λ r. ⌜ r ≡ tolerance c ⌝ }
+{
+    larger(
+        2.0 * Circle::BOUNDARY_COINCIDENCE_GEOM_TOL / c.radius,
+        Circle::IMPLICIT_VALUE_FP_TOL,
+    )
+}
+
+// The member at l, whose circle is c, lets the one at k have the point p.
+pub fn lets(k: usize, p: Point, l: usize, c: Circle) -> bool
+    ensures { λ r. ⌜ r ≡ lets k p l c ⌝ }
+{
+    if l == k {
+        return true;
+    }
+    let eps = tolerance(c);
+    let v = circle_implicit_value(p, c);
+    if v > 1.0 + eps {
+        return false;
+    }
+    if abs(v - 1.0) <= eps {
+        return !(l < k);
+    }
+    true
+}
+
+// The point p of the edge of the member at k is that member's own: every member of the set lets it have p.
+pub fn owned(k: usize, p: Point, set: Members) -> bool
+    ensures { λ r. ⌜ r ≡ owned k p (circleList set) ⌝ }
+{
+    let n = set.n;
+    let mut l: usize = 0;
+    while l < 10 {
+        if n <= l {
+            return true;
+        }
+        if !lets(k, p, l, set.circles[l]) {
+            return false;
+        }
+        l += 1;
+    }
+    true
+}
