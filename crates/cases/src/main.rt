@@ -13,10 +13,10 @@ use plan::Needed;
 use plan::Plan;
 use plan::book;
 use plan::check;
-use plan::fields;
-use plan::reader;
-use plan::reader::Handed;
-use plan::reader::Reader;
+use file::fields;
+use file::reader;
+use file::reader::Handed;
+use file::reader::Reader;
 
 fn byte_at(s: &[u8], i: usize) -> u8 {
     if i < s.len() { s[i] } else { 0 }

@@ -1,3 +1,2 @@
 pub mod Conditions
 pub mod Answers
-pub mod Reading

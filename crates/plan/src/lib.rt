@@ -8,8 +8,6 @@ ghost use Rattle.plan.specs.Table.{numberOf, refusalOf, holds, examined}
 
 pub mod book;
 pub mod check;
-pub mod fields;
-pub mod reader;
 
 use heads::Head;
 
@@ -149,7 +147,7 @@ fn long_enough(needed: usize, width: usize, rows: usize, gradients: usize) -> bo
 }
 
 // One check: taken, or refused at the byte offset `at`.
-pub(crate) fn examine(item: Item, at: u64) -> Answer
+pub fn examine(item: Item, at: u64) -> Answer
     ensures { λ r. ⌜ r ≡ examined item at ⌝ }
 {
     if item_holds(item) {
