@@ -4,6 +4,10 @@
 // lent). Numbers are little-endian. The stored input and what it must print are worked out by tests/plan/trials.py from document 01.
 ghost use Prim.Native.Nat.{_<_, _≤_};
 ghost use lib.ListN.{length};
+use file::fields;
+use file::reader;
+use file::reader::Handed;
+use file::reader::Reader;
 use heads::Head;
 use plan::Answer;
 use plan::Edit;
@@ -13,10 +17,6 @@ use plan::Needed;
 use plan::Plan;
 use plan::book;
 use plan::check;
-use file::fields;
-use file::reader;
-use file::reader::Handed;
-use file::reader::Reader;
 
 fn byte_at(s: &[u8], i: usize) -> u8 {
     if i < s.len() { s[i] } else { 0 }

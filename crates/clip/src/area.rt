@@ -1,11 +1,5 @@
 // The area of a set inside the box: of a list of arcs, and of a set straight from its members, with no list in memory.
 // Rests on specs/Area.antt.
-use inside::parts::clipped_arc_integral;
-use inside::span::Span;
-use inside::span::horizontal_edge_inside_interval;
-use inside::span::vertical_edge_inside_interval;
-use geometry::bounds::Bounds;
-use geometry::circle::Circle;
 use boundary::arcs::Arcs;
 use boundary::arcs::BoundaryArc;
 use boundary::arcs::Candidate;
@@ -18,6 +12,12 @@ use boundary::members::members_of;
 use boundary::points::Intersections;
 use boundary::sort::Angles;
 use boundary::sort::count;
+use geometry::bounds::Bounds;
+use geometry::circle::Circle;
+use inside::parts::clipped_arc_integral;
+use inside::span::Span;
+use inside::span::horizontal_edge_inside_interval;
+use inside::span::vertical_edge_inside_interval;
 ghost use mathlib.Core.Path.{_≡_};
 ghost use mathlib.Core.List.{map};
 ghost use lib.ListN.{take, length};

@@ -1,11 +1,11 @@
 // The spans of the four edges of the box, summed together with their shares of the gradient. Rests on specs/Gradient.antt.
+use boundary::members::Members;
+use geometry::bounds::Bounds;
 use inside::span::Span;
 use inside::span::horizontal_edge_inside_interval;
 use inside::span::vertical_edge_inside_interval;
-use geometry::bounds::Bounds;
 use outline::gradient::add_at;
 use outline::gradient::sub_at;
-use boundary::members::Members;
 ghost use mathlib.Core.Path.{_≡_};
 ghost use Prim.Native.Nat.{_≤_};
 ghost use Rattle.boundary.specs.Lists.{circleList};

@@ -3,8 +3,6 @@
 use crate::area::empty_box;
 use crate::edges::add_edges_with_gradient;
 use crate::slopes::add_clipped_arc_with_gradient;
-use geometry::bounds::Bounds;
-use geometry::circle::Circle;
 use boundary::arcs::Arcs;
 use boundary::arcs::Candidate;
 use boundary::arcs::full_circle;
@@ -16,6 +14,8 @@ use boundary::members::members_of;
 use boundary::points::Intersections;
 use boundary::sort::Angles;
 use boundary::sort::count;
+use geometry::bounds::Bounds;
+use geometry::circle::Circle;
 ghost use mathlib.Core.Path.{_≡_};
 ghost use mathlib.Core.List.{map};
 ghost use lib.ListN.{take, length};

@@ -5,6 +5,13 @@ ghost use lib.ListN.{getD};
 ghost use Rattle.plan.specs.Exactly.{noHead};
 ghost use Rattle.file.specs.File.{after, missingHead, missingGround, noHeads};
 ghost use Rattle.file.specs.Reader.{countOf, itemOf, started, moved, checkedOr, begun, mapped, withField, planPut, headPut, valued, fieldAt, turned, toHead, completedAt, completed, sought, chosen, steppedAt, stepped, finished, fed};
+use crate::fields::ground_item;
+use crate::fields::head_item;
+use crate::fields::next_field;
+use crate::fields::number32;
+use crate::fields::put_ground;
+use crate::fields::put_head;
+use heads::Head;
 use plan::Answer;
 use plan::Edit;
 use plan::Ground;
@@ -13,13 +20,6 @@ use plan::Plan;
 use plan::Refusal;
 use plan::book::with_head;
 use plan::examine;
-use crate::fields::ground_item;
-use crate::fields::head_item;
-use crate::fields::next_field;
-use crate::fields::number32;
-use crate::fields::put_ground;
-use crate::fields::put_head;
-use heads::Head;
 
 // What the next byte is: the number of heads, a map byte, one of the four bytes of a number (with those before it), an
 // edit's head number, or nothing any more after a refusal.
