@@ -1,4 +1,5 @@
 pub mod Promises
+pub mod Every
 pub mod Open
 pub mod Boxed
 pub mod Rows
