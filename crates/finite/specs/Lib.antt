@@ -1,2 +1,4 @@
+pub mod Arcs
 pub mod Open
 pub mod Boxed
+pub mod Rows
