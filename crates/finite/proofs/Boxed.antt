@@ -23,15 +23,18 @@ use Rattle.geometry.specs.declared.circle.Circle.{Circle}
 use Rattle.outline.specs.declared.arcs.BoundaryArc.{BoundaryArc}
 use Rattle.outline.specs.Every.{Every, every-append}
 use Rattle.outline.specs.Counts.{sorted-length}
+use Rattle.outline.specs.Outline.{circlesOf, outline}
 use Rattle.outline.specs.Area.{noCircle}
 use Rattle.clip.specs.Breaks.{strictlyInside, copies, periodicInRange, verticalCrossings, horizontalCrossings, crossings, breaksBetween, breaks}
 use Rattle.clip.specs.Parts.{summed, subArc, addPart, clippedArcIntegral}
-use Rattle.clip.specs.Area.{emptyBox, addClippedArc, addClippedArcs, addEdges, clippedAreaOf}
+use Rattle.clip.specs.Area.{emptyBox, addClippedArc, addClippedArcs, addEdges, clippedAreaOf, clippedArea}
 use Rattle.finite.specs.Open.{InDomain}
-use Rattle.finite.specs.Boxed.{ShortArc, BoxInDomain, ArcFinite, ArcsFinite, ClippedAreaFinite}
+use Rattle.finite.specs.Arcs.{ShortArc}
+use Rattle.finite.specs.Boxed.{BoxInDomain, ArcFinite, ArcsFinite, ClippedAreaFinite, AreaInBoxFinite}
 use Rattle.finite.proofs.Every.{every-at, keep-every, keep-few, sorted-every}
 use Rattle.finite.proofs.Folds.{fold-after, pairs-after}
 use Rattle.finite.proofs.Promises.{sine-most, cosine-most, arccosine-most, arcsine-most}
+use Rattle.finite.proofs.Open.{outline-short}
 use Rattle.finite.proofs.Edges.{edges-most}
 
 -- ---- breaks
@@ -185,9 +188,13 @@ arcs-finite box cs arcs d short few =
 pub half-most : {j k : ℕ} {x : Float} → Most j 1074 x → j ≤ 2 ^ 53 → j ≤ k * 2 → Most k 1074 (half64 *ᶠ x)
 half-most {j} {k} h room twice = most-coarser (mul-most half64-most h 1073 refl (omega arith) (lit≤ tt)) 1 k (omega arith)
 
--- The area in the box.
+-- The area in the box, by a list of arcs, and by the members of a set.
 pub clipped-area-finite : ClippedAreaFinite
 unfolding clippedAreaOf
 clipped-area-finite box all own arcs b domain members short few =
     most-either (emptyBox box) most-zero
     (half-most (edges-most box own 82368000000000 (addClippedArcs box all zero64 arcs) b members (arcs-finite box all arcs domain short few) (lit≤ tt)) (lit≤ tt) (lit≤ tt))
+
+pub area-in-box-finite : AreaInBoxFinite
+unfolding clippedArea
+area-in-box-finite box ms b d few = clipped-area-finite box (circlesOf ms) (circlesOf ms) (outline ms) b d d (outline-short ms) few

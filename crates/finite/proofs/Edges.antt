@@ -59,7 +59,7 @@ none-or-short true l h = tt
 none-or-short false l h = h
 
 module _ (y a b : Float) (hy : Most 40000 1074 y) (ha : Most 40000 1074 a) (hb : Most 40000 1074 b) where
-  pub horizontal-short : (cs : List Circle) → Every InDomain cs → OneShort (horizontalSpan y a b cs)
+  horizontal-short : (cs : List Circle) → Every InDomain cs → OneShort (horizontalSpan y a b cs)
   unfolding horizontalSpan open-between OneShort
   horizontal-short cs d =
       let lo = lowEnd y a cs in
@@ -69,7 +69,7 @@ module _ (y a b : Float) (hy : Most 40000 1074 y) (ha : Most 40000 1074 a) (hb :
       none-or-short (missed y cs) (open-between lo hi)
       (none-or-short (not (lo <ᶠ hi)) (between lo hi ∷ []) (sub-most high low (lit≤ tt) (lit≤ tt), refl))
 
-  pub vertical-short : (cs : List Circle) → Every InDomain cs → OneShort (verticalSpan y a b cs)
+  vertical-short : (cs : List Circle) → Every InDomain cs → OneShort (verticalSpan y a b cs)
   unfolding verticalSpan swapped
   vertical-short cs d =
       horizontal-short (map swapped cs)
@@ -77,23 +77,36 @@ module _ (y a b : Float) (hy : Most 40000 1074 y) (ha : Most 40000 1074 a) (hb :
 
 -- ---- the four edges
 
+-- the spans of the four edges, counterclockwise from the bottom
+pub record EdgesShort (box : Bounds) (cs : List Circle) : Type 0 where
+  pub bottom : OneShort (horizontalSpan (box .«y_min») (box .«x_min») (box .«x_max») cs)
+  pub right : OneShort (verticalSpan (box .«x_max») (box .«y_min») (box .«y_max») cs)
+  pub top : OneShort (horizontalSpan (box .«y_max») (box .«x_min») (box .«x_max») cs)
+  pub left : OneShort (verticalSpan (box .«x_min») (box .«y_min») (box .«y_max») cs)
+
+pub edges-short : (box : Bounds) (cs : List Circle) → BoxInDomain box → Every InDomain cs → EdgesShort box cs
+edges-short box cs b d =
+    record {
+      bottom = horizontal-short (box .«y_min») (box .«x_min») (box .«x_max») (b .y-min) (b .x-min) (b .x-max) cs d;
+      right = vertical-short (box .«x_max») (box .«y_min») (box .«y_max») (b .x-max) (b .y-min) (b .y-max) cs d;
+      top = horizontal-short (box .«y_max») (box .«x_min») (box .«x_max») (b .y-max) (b .x-min) (b .x-max) cs d;
+      left = vertical-short (box .«x_min») (box .«y_min») (box .«y_max») (b .x-min) (b .y-min) (b .y-max) cs d;
+    }
+
 -- a span adds at most 40,000 × 171,072
-span-most : (factor total : Float) (j : ℕ) (l : List Interval) → Most 40000 1074 factor → Most j 1074 total → OneShort l → j + 6842880000 ≤ 2 ^ 53
+span-most : {factor total : Float} (j : ℕ) (l : List Interval) → Most 40000 1074 factor → Most j 1074 total → OneShort l → j + 6842880000 ≤ 2 ^ 53
     → Most (j + 6842880000) 1074 (addSpan factor total l)
 unfolding addSpan OneShort
-span-most factor total j [] hf ht h room = most-weaken ht (omega arith)
-span-most factor total j (i ∷ rest) hf ht h room = rw (h .1) (add-most ht (mul-most hf (h .0) 1074 refl (lit≤ tt) (lit≤ tt)) room (lit≤ tt))
+span-most j [] hf ht h room = most-weaken ht (omega arith)
+span-most j (i ∷ rest) hf ht h room = rw (h .1) (add-most ht (mul-most hf (h .0) 1074 refl (lit≤ tt) (lit≤ tt)) room (lit≤ tt))
 
 -- The spans of the four edges add at most 27,371,520,000.
 pub edges-most : (box : Bounds) (cs : List Circle) (j : ℕ) (total : Float) → BoxInDomain box → Every InDomain cs → Most j 1074 total
     → j + 27371520000 ≤ 2 ^ 53 → Most (j + 27371520000) 1074 (addEdges box cs total)
 unfolding addEdges
 edges-most box cs j total b d ht room =
-    let low-y = horizontal-short (box .«y_min») (box .«x_min») (box .«x_max») (b .y-min) (b .x-min) (b .x-max) cs d in
-    let high-x = vertical-short (box .«x_max») (box .«y_min») (box .«y_max») (b .x-max) (b .y-min) (b .y-max) cs d in
-    let high-y = horizontal-short (box .«y_max») (box .«x_min») (box .«x_max») (b .y-max) (b .x-min) (b .x-max) cs d in
-    let low-x = vertical-short (box .«x_min») (box .«y_min») (box .«y_max») (b .x-min) (b .y-min) (b .y-max) cs d in
-    let bottom = span-most _ total j _ (neg-most (b .y-min)) ht low-y (omega arith) in
-    let right = span-most _ _ (j + 6842880000) _ (b .x-max) bottom high-x (omega arith) in
-    let top = span-most _ _ (j + 6842880000 + 6842880000) _ (b .y-max) right high-y (omega arith) in
-    most-weaken (span-most _ _ (j + 6842880000 + 6842880000 + 6842880000) _ (neg-most (b .x-min)) top low-x (omega arith)) (omega arith)
+    let short = edges-short box cs b d in
+    let bottom = span-most j _ (neg-most (b .y-min)) ht (short .bottom) (omega arith) in
+    let right = span-most (j + 6842880000) _ (b .x-max) bottom (short .right) (omega arith) in
+    let top = span-most (j + 6842880000 + 6842880000) _ (b .y-max) right (short .top) (omega arith) in
+    most-weaken (span-most (j + 6842880000 + 6842880000 + 6842880000) _ (neg-most (b .x-min)) top (short .left) (omega arith)) (omega arith)

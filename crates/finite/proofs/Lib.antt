@@ -5,4 +5,6 @@ pub mod Folds
 pub mod Open
 pub mod Edges
 pub mod Boxed
+pub mod Slopes
 pub mod Rows
+pub mod BoxedRows

@@ -11,15 +11,11 @@ use Rattle.geometry.specs.declared.circle.Circle.{Circle}
 use Rattle.outline.specs.declared.arcs.BoundaryArc.{BoundaryArc}
 use Rattle.outline.specs.Every.{Every}
 use Rattle.outline.specs.Outline.{Member, circlesOf, outline}
+use Rattle.finite.specs.Arcs.{ShortArc}
 use Rattle.finite.specs.Open.{InDomain}
 use Rattle.clip.specs.Parts.{clippedArcIntegral}
 use Rattle.clip.specs.Area.{addClippedArcs, clippedAreaOf, clippedArea}
 use Rattle.clip.specs.Gradient.{WithGradient, clippedWithGradient, clippedGradient}
-
--- an arc as outlines have them: it starts at an angle of at most 4, and its length is at most 16
-pub record ShortArc (arc : BoundaryArc) : Type 0 where
-  pub start : Most 4 1074 (arc .«phi_start»)
-  pub turn : Most 16 1074 (arc .«delta_phi»)
 
 -- a box of the domain: its centre is at most 20000 and half a side at most 20000, so each side lies at most at 40000
 pub record BoxInDomain (box : Bounds) : Type 0 where
@@ -32,6 +28,8 @@ pub record BoxInDomain (box : Bounds) : Type 0 where
 pub record GradientMost (j k : ℕ) (s : WithGradient) : Type 0 where
   pub sum : Most j 1074 (s .sum)
   pub entries : Every (Most k 1074) (s .grad)
+
+-- ---- of arcs, and of a set by a list of arcs
 
 -- The integral along one arc is at most 457,600,000,000: at most 26 breaks, all at most 20, and each part adds at most 17,600,000,000.
 abbrev pub ArcFinite : Type 0
@@ -57,3 +55,16 @@ ClippedGradientFinite =
     (box : Bounds) (all own : List Circle) (arcs : List BoundaryArc) (k : ℕ) (g : List Float) → BoxInDomain box → Every InDomain all
     → Every InDomain own → Every ShortArc arcs → length arcs ≤ 180 → Every (Most k 1074) g → k + 31490604288 ≤ 2 ^ 53
     → GradientMost 41197685760000 (k + 31490604288) (clippedWithGradient box all own arcs g)
+
+-- ---- of a set, as the list of its members
+
+abbrev pub AreaInBoxFinite : Type 0
+AreaInBoxFinite =
+    (box : Bounds) (ms : List Member) → BoxInDomain box → Every InDomain (circlesOf ms) → length (outline ms) ≤ 180
+    → Most 41197685760000 1074 (clippedArea box ms)
+
+-- the area with its gradient by position
+abbrev pub GradientInBoxFinite : Type 0
+GradientInBoxFinite =
+    (box : Bounds) (ms : List Member) → BoxInDomain box → Every InDomain (circlesOf ms) → length (outline ms) ≤ 180
+    → GradientMost 41197685760000 31490604288 (clippedGradient box ms)

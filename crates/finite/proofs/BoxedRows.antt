@@ -1,0 +1,114 @@
+-- The rows in the box of heads within the limits, and so of a taken plan, are finite. Rests on proofs/Boxed.antt and
+-- proofs/Slopes.antt: the box of such a plan is of the domain, as are the circles of its heads.
+use mathlib.Core.Path.{_≡_, refl, subst}
+use Prim.Native.Nat.{ℕ, suc, _≤_, suc-le-suc}
+use native.Mathlib.Nat.{le-trans}
+use lib.Dec.{leb→le, lit≤}
+use lib.Ieee.{Float, binary64, ofInt, ofBits}
+use lib.IntN.{ℤ, pos, negsuc, natAbs, negℤ}
+use lib.ListN.{length, replicate}
+use Rattle.binary64.specs.Units.{mag, pow2}
+use Rattle.binary64.specs.Constants.{zero64, two64}
+use Rattle.binary64.specs.Magnitude.{Most, Least}
+use Rattle.binary64.proofs.Magnitude.{literal-least, most-zero, add-most, sub-most, mul-most, div-most}
+use Rattle.binary64.proofs.Whole.{ofInt-most}
+use Rattle.plan.specs.declared.Ground.{Ground}
+use Rattle.plan.specs.Exactly.{Within, plan-taken}
+use Rattle.plan.specs.Sound.{GroundMet}
+use Rattle.plan.specs.Table.{gradientWidth}
+use Rattle.regions.specs.Table.{headAt}
+use Rattle.geometry.specs.Floats.{_/ᶠ_}
+use Rattle.geometry.specs.Rectangle.{area, bounds}
+use Rattle.outline.specs.Set.{headsOf, circleAt, membersOf, regionArcs}
+use Rattle.outline.specs.Points.{collected}
+use Rattle.outline.specs.Counts.{outline-few}
+use Rattle.outline.specs.Every.{Every}
+use Rattle.outline.proofs.Walking.{circles-of-members}
+use Rattle.areas.specs.Open.{circlesOfHeads}
+use Rattle.areas.specs.Boxed.{boxOf}
+use Rattle.areas.proofs.Open.{circles-length}
+use Rattle.finite.specs.Open.{InDomain}
+use Rattle.finite.specs.Boxed.{BoxInDomain}
+use Rattle.finite.specs.BoxedRows.{HeadsInBoxFinite, PlanInBoxFinite, PlanBoxFinite}
+use Rattle.finite.proofs.Every.{every-replicate}
+use Rattle.finite.proofs.Open.{region-short, region-few}
+use Rattle.finite.proofs.Rows.{circles-domain, members-domain}
+use Rattle.finite.proofs.Boxed.{area-in-box-finite}
+use Rattle.finite.proofs.Slopes.{clipped-gradient-finite, gradient-in-box-finite}
+
+-- ---- the box
+
+-- a whole number between two limits is no larger than both
+within-size : (low high z : ℤ) (j : ℕ) → natAbs low ≤ j → natAbs high ≤ j → Within low high z → natAbs z ≤ j
+within-size low (pos m) (pos n) j hl hh w = le-trans (leb→le n m (w .1 .le)) hh
+within-size low (negsuc m) (pos n) j hl hh w = absurd (w .1 .le)
+within-size (negsuc m) high (negsuc n) j hl hh w = le-trans (suc-le-suc (leb→le n m (w .0 .le))) hl
+within-size (pos m) high (negsuc n) j hl hh w = absurd (w .0 .le)
+
+float-most : (z : ℤ) (j : ℕ) → j ≤ 40000 → natAbs z ≤ j → Most j 1074 (ofInt binary64 z)
+float-most z j few h = ofInt-most z (le-trans h (le-trans few (lit≤ tt))) h
+
+position-most : (z : ℤ) → Within (negℤ (pos 20000)) (pos 20000) z → Most 20000 1074 (ofInt binary64 z)
+position-most z w = float-most z 20000 (lit≤ tt) (within-size (negℤ (pos 20000)) (pos 20000) z 20000 (lit≤ tt) (lit≤ tt) w)
+
+side-most : (z : ℤ) → Within (pos 1) (pos 40000) z → Most 40000 1074 (ofInt binary64 z)
+side-most z w = float-most z 40000 (lit≤ tt) (within-size (pos 1) (pos 40000) z 40000 (lit≤ tt) (lit≤ tt) w)
+
+two-least : Least 2 1074 two64
+unfolding ofBits mag pow2
+two-least = literal-least 0x4000_0000_0000_0000 2 1074 tt tt
+
+half-side-most : (z : ℤ) → Within (pos 1) (pos 40000) z → Most 20000 1074 (ofInt binary64 z /ᶠ two64)
+half-side-most z w = div-most (side-most z w) two-least 20000 1074 refl (lit≤ tt) (lit≤ tt) (lit≤ tt) (lit≤ tt)
+
+-- the box within the limits is a box of the domain
+box-domain : (g : Ground) → GroundMet g → BoxInDomain (bounds (boxOf g))
+unfolding boxOf
+box-domain g m =
+    let x = position-most (g .x) (m .0) in
+    let y = position-most (g .y) (m .1) in
+    let wide = half-side-most (g .width) (m .2) in
+    let high = half-side-most (g .height) (m .3) in
+    record {
+      x-min = sub-most x wide (lit≤ tt) (lit≤ tt);
+      x-max = add-most x wide (lit≤ tt) (lit≤ tt);
+      y-min = sub-most y high (lit≤ tt) (lit≤ tt);
+      y-max = add-most y high (lit≤ tt) (lit≤ tt);
+    }
+
+box-area-most : (g : Ground) → GroundMet g → Most 1600000000 1074 (area (boxOf g))
+unfolding boxOf
+box-area-most g m = mul-most (side-most (g .width) (m .2)) (side-most (g .height) (m .3)) 1074 refl (lit≤ tt) (lit≤ tt)
+
+-- ---- rows
+
+-- The row in the box of any set of at most ten heads, box and heads within the limits, is finite.
+pub heads-in-box-finite : HeadsInBoxFinite
+heads-in-box-finite g h n S hn ground met =
+    let cs = circlesOfHeads h n in
+    let points = collected cs in
+    let ms = membersOf cs points S in
+    let b = box-domain g ground in
+    let d = circles-domain h n met in
+    let inside = members-domain cs points S d in
+    let few = outline-few cs S (rw (circles-length h n) hn) in
+    record {
+      area = area-in-box-finite (bounds (boxOf g)) ms b inside few;
+      gradient = gradient-in-box-finite (bounds (boxOf g)) ms b inside few;
+      gradientByHead =
+          clipped-gradient-finite (bounds (boxOf g)) cs _ (regionArcs cs points S) 0 (replicate (gradientWidth n) zero64) b d
+          (subst (Every InDomain) (circles-of-members cs points S) inside) (region-short cs points S) (region-few cs points S)
+          (every-replicate (Most 0 1074) (gradientWidth n) zero64 most-zero) (lit≤ tt);
+    }
+
+-- The row in the box of any set of a taken plan's heads is finite.
+pub plan-in-box-finite : PlanInBoxFinite
+plan-in-box-finite p long taken S =
+    let ok = plan-taken p long .0 taken in
+    heads-in-box-finite (p .ground) (headAt p) (p .n) S (ok .count) (ok .x, ok .y, ok .width, ok .height) (ok .heads)
+
+-- And so is the area of its box.
+pub plan-box-finite : PlanBoxFinite
+plan-box-finite p long taken =
+    let ok = plan-taken p long .0 taken in
+    box-area-most (p .ground) (ok .x, ok .y, ok .width, ok .height)
