@@ -1,6 +1,6 @@
 -- The open rows of heads within the limits, and so of a taken plan, are finite. Rests on proofs/Open.antt: the circles of such
 -- heads are of the domain, and ten circles have outlines of at most 180 arcs.
-use mathlib.Core.Path.{_≡_, sym}
+use mathlib.Core.Path.{sym}
 use mathlib.Core.List.{List, [], _∷_}
 use Prim.Native.Nat.{ℕ, _*_, _≤_, _<_, suc-le-suc}
 use native.Mathlib.Nat.{le-trans}
@@ -12,7 +12,6 @@ use Rattle.binary64.specs.Magnitude.{Most}
 use Rattle.binary64.proofs.Whole.{ofInt-most}
 use Rattle.heads.specs.declared.Head.{Head}
 use Rattle.plan.specs.Exactly.{Within, HeadMet, plan-taken}
-use Rattle.regions.specs.Row.{rowArea}
 use Rattle.regions.specs.Table.{headAt}
 use Rattle.exact.specs.Circle.{circleOf}
 use Rattle.geometry.specs.declared.circle.Circle.{Circle}
@@ -24,7 +23,7 @@ use Rattle.outline.specs.Points.{collected}
 use Rattle.outline.specs.Counts.{heads-below, outline-few}
 use Rattle.outline.specs.Every.{Every, every-map, every-upTo}
 use Rattle.outline.proofs.Walking.{circles-of-members}
-use Rattle.areas.specs.Open.{circlesOfHeads, openGeometry}
+use Rattle.areas.specs.Open.{circlesOfHeads}
 use Rattle.areas.proofs.Open.{circles-length, open-row}
 use Rattle.finite.specs.Open.{InDomain}
 use Rattle.finite.specs.Rows.{HeadsFinite, PlanFinite}
