@@ -2,7 +2,7 @@
 -- repeating and cutting off. They know nothing of numbers.
 use mathlib.Core.Bool.{Bool, true, false, cond}
 use mathlib.Core.List.{List, [], _∷_, map}
-use Prim.Native.Nat.{ℕ, zero, suc, _≤_, _<_}
+use Prim.Native.Nat.{ℕ, zero, suc, _<_}
 use native.Mathlib.Omega.{arith}
 use lib.ListN.{length, getD, set, replicate, take}
 use lib.Ieee.{Float}
@@ -10,6 +10,7 @@ use Rattle.regions.specs.Row.{keep}
 use Rattle.outline.specs.Every.{Every}
 use Rattle.outline.specs.Sort.{insert, sortOnto, sorted}
 use Rattle.outline.proofs.Ordering.{insert-every}
+pub use Rattle.outline.specs.Counts.{keep-length as keep-few}
 
 -- ---- one element
 
@@ -34,7 +35,7 @@ pub sorted-every : (P : Float → Type 0) (l : List Float) → Every P l → Eve
 unfolding sorted
 sorted-every P l g = sortOnto-every P [] l tt g
 
--- ---- those that pass
+-- ---- those that pass, which are no more than all: keep-few
 
 pub keep-every : {A : Type 0} (P : A → Type 0) (p : A → Bool) (l : List A) → Every P l → Every P (keep p l)
 unfolding keep
@@ -44,15 +45,6 @@ keep-every P p (x ∷ l) e = by (p x) (keep-every P p l (e .1))
     by : (b : Bool) → Every P (keep p l) → Every P (cond b (x ∷ keep p l) (keep p l))
     by true r = (e .0, r)
     by false r = r
-
-pub keep-few : {A : Type 0} (p : A → Bool) (l : List A) → length (keep p l) ≤ length l
-unfolding keep
-keep-few p [] = omega arith
-keep-few p (x ∷ l) = by (p x) (keep-few p l)
-  where
-    by : (b : Bool) → length (keep p l) ≤ length l → length (cond b (x ∷ keep p l) (keep p l)) ≤ suc (length l)
-    by true r = omega arith
-    by false r = omega arith
 
 -- ---- mapped, repeated and cut off
 

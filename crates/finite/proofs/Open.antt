@@ -2,13 +2,13 @@
 -- Rests on the promises of `elementary` as bounds, proofs/Promises.antt.
 use mathlib.Core.Path.{_≡_, refl}
 use mathlib.Core.Bool.{Bool, true, false, cond, not, _&&_}
-use mathlib.Core.List.{List, [], _∷_, _++_, map}
-use Prim.Native.Nat.{ℕ, zero, suc, _+_, _*_, _^_, _%_, _≤_, _<_}
-use native.Mathlib.Nat.{mod-lt, le-refl, le-trans}
+use mathlib.Core.List.{List, [], _∷_, map}
+use Prim.Native.Nat.{ℕ, suc, _+_, _*_, _^_, _%_, _≤_, _<_}
+use native.Mathlib.Nat.{mod-lt, le-refl}
 use native.Mathlib.Omega.{arith}
 use borrow.Author.Tests.{ltb-true}
 use lib.Dec.{leb→le, lit≤, ltb}
-use lib.ListN.{length, getD, replicate, take, length-take, length-map}
+use lib.ListN.{length, getD, replicate, length-take}
 use lib.Ieee.{Float, nan, inf, fin, binary64, ofBits, fits}
 use lib.Ieee.Fits.{sub-fits}
 use Rattle.binary64.specs.Units.{Finite, mag, pow2, plus, minus, negative}
@@ -28,7 +28,6 @@ use Rattle.geometry.specs.declared.circle.Circle.{Circle}
 use Rattle.outline.specs.declared.arcs.BoundaryArc.{BoundaryArc}
 use Rattle.outline.specs.declared.points.IntersectionPoint.{IntersectionPoint}
 use Rattle.outline.specs.Every.{Every, every-append, every-map, every-upTo}
-use Rattle.outline.specs.Sort.{sorted}
 use Rattle.outline.specs.Outline.{Member, circlesOf, angleAbout, wrapAngle, gap, collapsed, owned, pointAt, probe, fullCircle, between, arcFrom, arcsAt, anglesOf, outlineFrom, outline}
 use Rattle.outline.specs.Area.{noCircle, arcTerms, addArc, addArcs, areaOf, openArea, addAt, subAt, arcSlopes, addSlopes, addGradient, openGradient}
 use Rattle.outline.specs.Set.{headsOf, membersOf, numbered, arcsHeld, regionArcs}

@@ -1,19 +1,22 @@
 -- The open rows of heads within the limits, and so of a taken plan, are finite. Rests on proofs/Open.antt: the circles of such
 -- heads are of the domain, and ten circles have outlines of at most 180 arcs.
-use mathlib.Core.Path.{_≡_, sym}
+use mathlib.Core.Path.{sym}
+use mathlib.Core.Bool.{Bool, true, false, cond}
 use mathlib.Core.List.{List, [], _∷_}
-use Prim.Native.Nat.{ℕ, _*_, _≤_, _<_, suc-le-suc}
+use Prim.Native.Nat.{ℕ, zero, suc, _*_, _≤_, _<_, suc-le-suc}
 use native.Mathlib.Nat.{le-trans}
 use lib.Dec.{leb→le, lit≤}
-use lib.Ieee.{binary64, ofInt}
+use lib.Ieee.{Float, binary64, ofInt}
 use lib.IntN.{ℤ, pos, negsuc, natAbs, negℤ}
 use lib.ListN.{length}
 use Rattle.binary64.specs.Magnitude.{Most}
+use Rattle.binary64.specs.Constants.{zero64-is}
+use Rattle.binary64.proofs.Magnitude.{most-zero}
 use Rattle.binary64.proofs.Whole.{ofInt-most}
 use Rattle.heads.specs.declared.Head.{Head}
 use Rattle.plan.specs.Exactly.{Within, HeadMet, plan-taken}
-use Rattle.regions.specs.Row.{rowArea}
-use Rattle.regions.specs.Table.{headAt}
+use Rattle.regions.specs.Edit.{absent, present, afreshRow}
+use Rattle.regions.specs.Table.{areaAt, headAt}
 use Rattle.exact.specs.Circle.{circleOf}
 use Rattle.geometry.specs.declared.circle.Circle.{Circle}
 use Rattle.outline.specs.declared.points.IntersectionPoint.{IntersectionPoint}
@@ -24,10 +27,10 @@ use Rattle.outline.specs.Points.{collected}
 use Rattle.outline.specs.Counts.{heads-below, outline-few}
 use Rattle.outline.specs.Every.{Every, every-map, every-upTo}
 use Rattle.outline.proofs.Walking.{circles-of-members}
-use Rattle.areas.specs.Open.{circlesOfHeads, openGeometry}
+use Rattle.areas.specs.Open.{circlesOfHeads, openMethod}
 use Rattle.areas.proofs.Open.{circles-length, open-row}
 use Rattle.finite.specs.Open.{InDomain}
-use Rattle.finite.specs.Rows.{HeadsFinite, PlanFinite}
+use Rattle.finite.specs.Rows.{HeadsFinite, PlanFinite, TableFinite}
 use Rattle.finite.proofs.Every.{every-at, every-mapped}
 use Rattle.finite.proofs.Open.{area-finite, gradient-finite, region-gradient-finite}
 
@@ -85,3 +88,20 @@ pub plan-finite : PlanFinite
 plan-finite p long taken S hS =
     let ok = plan-taken p long .0 taken in
     heads-finite (headAt p) (p .n) S (ok .count) hS (ok .heads)
+
+-- ---- tables
+
+-- An afresh row has the box's number, a set's area or +0.
+pub afresh-most : {j a : ℕ} (box : Float) (area : ℕ → Float) (sets : ℕ → Bool) (S : ℕ) → Most j a box → Most j a (area S) → Most j a (afreshRow box area sets S .number)
+unfolding afreshRow
+afresh-most box area sets zero hb ha = hb
+afresh-most {j} {a} box area sets (suc S) hb ha = by (sets (suc S))
+  where
+    by : (b : Bool) → Most j a (cond b (present (area (suc S))) absent .number)
+    by true = ha
+    by false = rw (sym zero64-is) most-zero
+
+-- Every number of the afresh table of a taken plan's open rows is finite.
+pub table-finite : TableFinite
+table-finite box sets p long taken hb S hS =
+    afresh-most (box (p .ground)) (areaAt (openMethod box sets) p) (sets p) S hb (plan-finite p long taken S hS .area)
