@@ -10,30 +10,31 @@ use lib.ListN.{length, replicate}
 use Rattle.binary64.specs.Units.{mag, pow2}
 use Rattle.binary64.specs.Constants.{zero64, two64}
 use Rattle.binary64.specs.Magnitude.{Most, Least}
-use Rattle.binary64.proofs.Magnitude.{literal-least, most-zero, add-most, sub-most, mul-most, div-most}
+use Rattle.binary64.proofs.Magnitude.{literal-least, most-weaken, most-zero, add-most, sub-most, mul-most, div-most}
 use Rattle.binary64.proofs.Whole.{ofInt-most}
 use Rattle.plan.specs.declared.Ground.{Ground}
 use Rattle.plan.specs.Exactly.{Within, plan-taken}
 use Rattle.plan.specs.Sound.{GroundMet}
 use Rattle.plan.specs.Table.{gradientWidth}
-use Rattle.regions.specs.Table.{headAt}
+use Rattle.regions.specs.Table.{headAt, areaAt}
 use Rattle.geometry.specs.Floats.{_/ᶠ_}
 use Rattle.geometry.specs.Rectangle.{area, bounds}
-use Rattle.outline.specs.Set.{headsOf, circleAt, membersOf, regionArcs}
+use Rattle.outline.specs.Set.{regionArcs}
 use Rattle.outline.specs.Points.{collected}
 use Rattle.outline.specs.Counts.{outline-few}
 use Rattle.outline.specs.Every.{Every}
 use Rattle.outline.proofs.Walking.{circles-of-members}
-use Rattle.areas.specs.Open.{circlesOfHeads}
-use Rattle.areas.specs.Boxed.{boxOf}
+use Rattle.areas.specs.Open.{circlesOfHeads, membersOfPlan}
+use Rattle.areas.specs.Boxed.{boxOf, clippedMethod}
 use Rattle.areas.proofs.Open.{circles-length}
+use Rattle.areas.proofs.Boxed.{boxed-row}
 use Rattle.finite.specs.Open.{InDomain}
 use Rattle.finite.specs.Boxed.{BoxInDomain}
-use Rattle.finite.specs.BoxedRows.{HeadsInBoxFinite, PlanInBoxFinite, PlanBoxFinite}
+use Rattle.finite.specs.BoxedRows.{ownCircles, HeadsInBoxFinite, PlanInBoxFinite, PlanBoxFinite, TableInBoxFinite}
 use Rattle.finite.proofs.Every.{every-replicate}
 use Rattle.finite.proofs.Open.{region-short, region-few}
-use Rattle.finite.proofs.Rows.{circles-domain, members-domain}
-use Rattle.finite.proofs.Boxed.{area-in-box-finite}
+use Rattle.finite.proofs.Rows.{circles-domain, members-domain, afresh-most}
+use Rattle.finite.proofs.Boxed.{clipped-area-finite, area-in-box-finite}
 use Rattle.finite.proofs.Slopes.{clipped-gradient-finite, gradient-in-box-finite}
 
 -- ---- the box
@@ -85,20 +86,23 @@ box-area-most g m = mul-most (side-most (g .width) (m .2)) (side-most (g .height
 -- The row in the box of any set of at most ten heads, box and heads within the limits, is finite.
 pub heads-in-box-finite : HeadsInBoxFinite
 heads-in-box-finite g h n S hn ground met =
+    let box = bounds (boxOf g) in
     let cs = circlesOfHeads h n in
     let points = collected cs in
-    let ms = membersOf cs points S in
+    let arcs = regionArcs cs points S in
     let b = box-domain g ground in
     let d = circles-domain h n met in
     let inside = members-domain cs points S d in
+    let own = subst (Every InDomain) (circles-of-members cs points S) inside in
     let few = outline-few cs S (rw (circles-length h n) hn) in
+    let short = region-short cs points S in
+    let few-arcs = region-few cs points S in
+    let zeros = every-replicate (Most 0 1074) (gradientWidth n) zero64 most-zero in
     record {
-      area = area-in-box-finite (bounds (boxOf g)) ms b inside few;
-      gradient = gradient-in-box-finite (bounds (boxOf g)) ms b inside few;
-      gradientByHead =
-          clipped-gradient-finite (bounds (boxOf g)) cs _ (regionArcs cs points S) 0 (replicate (gradientWidth n) zero64) b d
-          (subst (Every InDomain) (circles-of-members cs points S) inside) (region-short cs points S) (region-few cs points S)
-          (every-replicate (Most 0 1074) (gradientWidth n) zero64 most-zero) (lit≤ tt);
+      area = area-in-box-finite box (membersOfPlan h n S) b inside few;
+      gradient = gradient-in-box-finite box (membersOfPlan h n S) b inside few;
+      numberedArea = clipped-area-finite box cs (ownCircles cs S) arcs b d own short few-arcs;
+      numberedGradient = clipped-gradient-finite box cs (ownCircles cs S) arcs 0 (replicate (gradientWidth n) zero64) b d own short few-arcs zeros (lit≤ tt);
     }
 
 -- The row in the box of any set of a taken plan's heads is finite.
@@ -112,3 +116,11 @@ pub plan-box-finite : PlanBoxFinite
 plan-box-finite p long taken =
     let ok = plan-taken p long .0 taken in
     box-area-most (p .ground) (ok .x, ok .y, ok .width, ok .height)
+
+-- Every number of the afresh table of a taken plan's rows in its box is finite.
+pub table-in-box-finite : TableInBoxFinite
+table-in-box-finite sets p long taken S hS =
+    let box = bounds (boxOf (p .ground)) in
+    afresh-most (area (boxOf (p .ground))) (areaAt (clippedMethod sets) p) (sets p) S
+    (most-weaken (plan-box-finite p long taken) (lit≤ tt))
+    (subst (Most 41197685760000 1074) (boxed-row box (headAt p) (p .n) S (plan-taken p long .0 taken .count) hS) (plan-in-box-finite p long taken S .area))
