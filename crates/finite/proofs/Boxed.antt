@@ -2,7 +2,7 @@
 use mathlib.Core.Path.{_≡_, refl}
 use mathlib.Core.Bool.{Bool, true, false, cond}
 use mathlib.Core.List.{List, [], _∷_, _++_}
-use Prim.Native.Nat.{ℕ, suc, _+_, _*_, _^_, _≤_, _<_}
+use Prim.Native.Nat.{ℕ, suc, _*_, _^_, _≤_, _<_}
 use native.Mathlib.Omega.{arith}
 use borrow.Author.Tests.{ltb-true}
 use lib.Dec.{lit≤, ltb}
@@ -27,10 +27,10 @@ use Rattle.outline.specs.Outline.{circlesOf, outline}
 use Rattle.outline.specs.Area.{noCircle}
 use Rattle.clip.specs.Breaks.{strictlyInside, copies, periodicInRange, verticalCrossings, horizontalCrossings, crossings, breaksBetween, breaks}
 use Rattle.clip.specs.Parts.{summed, subArc, addPart, clippedArcIntegral}
-use Rattle.clip.specs.Area.{emptyBox, addClippedArc, addClippedArcs, addEdges, clippedAreaOf, clippedArea}
+use Rattle.clip.specs.Area.{emptyBox, addClippedArc, addClippedArcs, clippedAreaOf, clippedArea}
 use Rattle.finite.specs.Open.{InDomain}
 use Rattle.finite.specs.Arcs.{ShortArc}
-use Rattle.finite.specs.Boxed.{BoxInDomain, ArcFinite, ArcsFinite, ClippedAreaFinite, AreaInBoxFinite}
+use Rattle.finite.specs.Boxed.{ArcFinite, ArcsFinite, ClippedAreaFinite, AreaInBoxFinite}
 use Rattle.finite.proofs.Every.{every-at, keep-every, keep-few, sorted-every}
 use Rattle.finite.proofs.Folds.{fold-after, pairs-after}
 use Rattle.finite.proofs.Promises.{sine-most, cosine-most, arccosine-most, arcsine-most}
@@ -139,15 +139,22 @@ cosines-most a b = sub-most (cosine-most b) (cosine-most a) (lit≤ tt) (lit≤ 
 pub length-most : {a b : Float} → Angle a → Angle b → Most 40 1074 (b -ᶠ a)
 length-most ha hb = sub-most hb ha (lit≤ tt) (lit≤ tt)
 
+-- the three terms of a part, of which the Rust adds the second or takes it away
+pub terms-most : (c : Circle) {s u t : Float} → InDomain c → Most 2 1074 s → Most 2 1074 u → Most 40 1074 t
+    → Most 800000000 1074 (c .center .x *ᶠ c .radius *ᶠ s) × Most 800000000 1074 (c .center .y *ᶠ c .radius *ᶠ u) × Most 16000000000 1074 (c .radius *ᶠ c .radius *ᶠ t)
+terms-most c d hs hu ht = (
+  mul-most (mul-most (d .x) (d .r) 1074 refl (lit≤ tt) (lit≤ tt)) hs 1074 refl (lit≤ tt) (lit≤ tt),
+  mul-most (mul-most (d .y) (d .r) 1074 refl (lit≤ tt) (lit≤ tt)) hu 1074 refl (lit≤ tt) (lit≤ tt),
+  mul-most (mul-most (d .r) (d .r) 1074 refl (lit≤ tt) (lit≤ tt)) ht 1074 refl (lit≤ tt) (lit≤ tt),
+)
+
 module _ (box : Bounds) (c : Circle) (d : InDomain c) where
   part-most : (m : ℕ) (sum a b : Float) → m < 26 → Most (m * 17600000000) 1074 sum → Angle a → Angle b
       → Most (suc m * 17600000000) 1074 (addPart box c sum a b)
   unfolding addPart subArc
   part-most m sum a b few hs ha hb =
-      let wide = mul-most (mul-most (d .x) (d .r) 1074 refl (lit≤ tt) (lit≤ tt)) (sines-most a b) 1074 refl (lit≤ tt) (lit≤ tt) in
-      let high = mul-most (mul-most (d .y) (d .r) 1074 refl (lit≤ tt) (lit≤ tt)) (cosines-most b a) 1074 refl (lit≤ tt) (lit≤ tt) in
-      let round = mul-most (mul-most (d .r) (d .r) 1074 refl (lit≤ tt) (lit≤ tt)) (length-most ha hb) 1074 refl (lit≤ tt) (lit≤ tt) in
-      let part = add-most (add-most wide high (lit≤ tt) (lit≤ tt)) round (lit≤ tt) (lit≤ tt) in
+      let terms = terms-most c d (sines-most a b) (cosines-most b a) (length-most ha hb) in
+      let part = add-most (add-most (terms .0) (terms .1) (lit≤ tt) (lit≤ tt)) (terms .2) (lit≤ tt) (lit≤ tt) in
       most-either (summed box c a b) (most-weaken (add-most hs part (omega arith) (lit≤ tt)) (omega arith)) (most-weaken hs (omega arith))
 
 -- The integral along one arc.

@@ -1,12 +1,12 @@
 -- The rows in the box of heads within the limits, and so of a taken plan, are finite. Rests on proofs/Boxed.antt and
 -- proofs/Slopes.antt: the box of such a plan is of the domain, as are the circles of its heads.
-use mathlib.Core.Path.{_≡_, refl, subst}
-use Prim.Native.Nat.{ℕ, suc, _≤_, suc-le-suc}
+use mathlib.Core.Path.{refl, subst}
+use Prim.Native.Nat.{ℕ, _≤_, suc-le-suc}
 use native.Mathlib.Nat.{le-trans}
 use lib.Dec.{leb→le, lit≤}
-use lib.Ieee.{Float, binary64, ofInt, ofBits}
+use lib.Ieee.{binary64, ofInt, ofBits}
 use lib.IntN.{ℤ, pos, negsuc, natAbs, negℤ}
-use lib.ListN.{length, replicate}
+use lib.ListN.{replicate}
 use Rattle.binary64.specs.Units.{mag, pow2}
 use Rattle.binary64.specs.Constants.{zero64, two64}
 use Rattle.binary64.specs.Magnitude.{Most, Least}

@@ -3,15 +3,14 @@
 use mathlib.Core.Path.{_≡_, refl}
 use mathlib.Core.Bool.{Bool, true, false, not, cond}
 use mathlib.Core.List.{List, [], _∷_, map}
-use Prim.Native.Nat.{ℕ, _+_, _*_, _^_, _≤_}
+use Prim.Native.Nat.{ℕ, _+_, _^_, _≤_}
 use native.Mathlib.Omega.{arith}
 use lib.Dec.{lit≤}
-use lib.Ieee.{Float, neg}
-use Rattle.binary64.specs.Constants.{zero64}
+use lib.Ieee.{Float}
 use Rattle.binary64.specs.Magnitude.{Most}
 use Rattle.binary64.proofs.Functions.{larger-most}
 use Rattle.binary64.proofs.Magnitude.{most-weaken, most-either, most-zero, neg-most, add-most, sub-most, mul-most}
-use Rattle.geometry.specs.Floats.{_+ᶠ_, _-ᶠ_, _*ᶠ_, _<ᶠ_}
+use Rattle.geometry.specs.Floats.{_+ᶠ_, _-ᶠ_, _<ᶠ_}
 use Rattle.geometry.specs.declared.bounds.Bounds.{Bounds}
 use Rattle.geometry.specs.declared.circle.Circle.{Circle}
 use Rattle.outline.specs.Every.{Every, every-map}

@@ -9,7 +9,7 @@ use lib.Dec.{lit≤}
 use lib.IntN.{pos}
 use lib.Ieee.{Float, binary64, ofInt, lt}
 use Rattle.binary64.specs.Units.{one, mag, negative, signedZero}
-use Rattle.binary64.specs.Constants.{zero64, zero64-is}
+use Rattle.binary64.specs.Constants.{zero64-is}
 use Rattle.binary64.specs.Magnitude.{Most}
 use Rattle.binary64.proofs.Units.{is-zero, zero-finite, zero-mag, plus-minus, not-below-zero, not-above-zero}
 use Rattle.binary64.proofs.Whole.{ofInt-finite, ofInt-mag}

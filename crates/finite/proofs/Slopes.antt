@@ -8,7 +8,7 @@ use native.Mathlib.Omega.{arith}
 use borrow.Author.Tests.{ltb-true}
 use lib.Dec.{lit≤, ltb}
 use lib.ListN.{length, getD, replicate}
-use lib.Ieee.{Float, neg, ofBits}
+use lib.Ieee.{Float, ofBits}
 use Rattle.binary64.specs.Units.{mag, pow2}
 use Rattle.binary64.specs.Constants.{zero64}
 use Rattle.binary64.specs.Magnitude.{Most, Least}
@@ -34,7 +34,7 @@ use Rattle.finite.proofs.Every.{every-at, every-replicate}
 use Rattle.finite.proofs.Folds.{fold-after, pairs-after}
 use Rattle.finite.proofs.Open.{entry-add, entry-sub, outline-short}
 use Rattle.finite.proofs.Edges.{OneShort, edges-short}
-use Rattle.finite.proofs.Boxed.{Angle, breaks-most, breaks-few, sines-most, cosines-most, length-most, half-most}
+use Rattle.finite.proofs.Boxed.{Angle, breaks-most, breaks-few, sines-most, cosines-most, length-most, terms-most, half-most}
 
 -- ---- looser bounds
 
@@ -48,7 +48,7 @@ gradient-either : {j k : ℕ} {s t : WithGradient} (b : Bool) → GradientMost j
 gradient-either true h g = h
 gradient-either false h g = g
 
--- ---- parts
+-- ---- parts: what is said of both, the sum and the entries
 
 -- a part adds at most 880,000 to its three entries together
 part-slopes-most : (k off : ℕ) {r s c t : Float} (g : List Float) → Most 20000 1074 r → Most 2 1074 s → Most 2 1074 c → Most 40 1074 t
@@ -65,10 +65,8 @@ part-slopes-most k off {r} {s} {c} {t} g hr hs hc ht e room =
 differences-most : (c : Circle) {s u t : Float} → InDomain c → Most 2 1074 s → Most 2 1074 u → Most 40 1074 t → Most 17600000000 1074 (subArcByDifferences c s u t)
 unfolding subArcByDifferences
 differences-most c d hs hu ht =
-    let wide = mul-most (mul-most (d .x) (d .r) 1074 refl (lit≤ tt) (lit≤ tt)) hs 1074 refl (lit≤ tt) (lit≤ tt) in
-    let high = mul-most (mul-most (d .y) (d .r) 1074 refl (lit≤ tt) (lit≤ tt)) hu 1074 refl (lit≤ tt) (lit≤ tt) in
-    let round = mul-most (mul-most (d .r) (d .r) 1074 refl (lit≤ tt) (lit≤ tt)) ht 1074 refl (lit≤ tt) (lit≤ tt) in
-    add-most (sub-most wide high (lit≤ tt) (lit≤ tt)) round (lit≤ tt) (lit≤ tt)
+    let terms = terms-most c d hs hu ht in
+    add-most (sub-most (terms .0) (terms .1) (lit≤ tt) (lit≤ tt)) (terms .2) (lit≤ tt) (lit≤ tt)
 
 -- what m parts of an arc have added to a gradient whose entries are at most k
 AfterParts : ℕ → ℕ → WithGradient → Type 0

@@ -19,9 +19,9 @@ use Rattle.plan.specs.Table.{gradientWidth}
 use Rattle.regions.specs.Table.{headAt, afresh}
 use Rattle.geometry.specs.Rectangle.{area, bounds}
 use Rattle.geometry.specs.declared.bounds.Bounds.{Bounds}
+use Rattle.geometry.specs.declared.circle.Circle.{Circle}
 use Rattle.outline.specs.Points.{collected}
 use Rattle.outline.specs.Set.{headsOf, circleAt, regionArcs}
-use Rattle.geometry.specs.declared.circle.Circle.{Circle}
 use Rattle.areas.specs.Open.{circlesOfHeads, membersOfPlan}
 use Rattle.areas.specs.Boxed.{boxOf, clippedMethod}
 use Rattle.clip.specs.Area.{clippedAreaOf, clippedArea}
