@@ -27,10 +27,10 @@ use Rattle.outline.proofs.Walking.{circles-of-members}
 use Rattle.areas.specs.Open.{circlesOfHeads, membersOfPlan}
 use Rattle.areas.specs.Boxed.{boxOf, clippedMethod}
 use Rattle.areas.proofs.Open.{circles-length}
-use Rattle.areas.proofs.Boxed.{boxed-row}
+use Rattle.areas.proofs.Boxed.{boxed-row, boxed-gradient-row}
 use Rattle.finite.specs.Open.{InDomain}
-use Rattle.finite.specs.Boxed.{BoxInDomain}
-use Rattle.finite.specs.BoxedRows.{ownCircles, HeadsInBoxFinite, PlanInBoxFinite, PlanBoxFinite, TableInBoxFinite}
+use Rattle.finite.specs.Boxed.{BoxInDomain, GradientMost}
+use Rattle.finite.specs.BoxedRows.{ownCircles, HeadsInBoxFinite, PlanInBoxFinite, PlanRowFinite, PlanBoxFinite, TableInBoxFinite}
 use Rattle.finite.proofs.Every.{every-replicate}
 use Rattle.finite.proofs.Open.{region-short, region-few}
 use Rattle.finite.proofs.Rows.{circles-domain, members-domain, afresh-most}
@@ -111,6 +111,15 @@ plan-in-box-finite p long taken S =
     let ok = plan-taken p long .0 taken in
     heads-in-box-finite (p .ground) (headAt p) (p .n) S (ok .count) (ok .x, ok .y, ok .width, ok .height) (ok .heads)
 
+pub plan-row-finite : PlanRowFinite
+plan-row-finite p long taken S hS =
+    let box = bounds (boxOf (p .ground)) in
+    let few = plan-taken p long .0 taken .count in
+    let most = plan-in-box-finite p long taken S in (
+      subst (Most 41197685760000 1074) (boxed-row box (headAt p) (p .n) S few hS) (most .area),
+      subst (GradientMost 41197685760000 31490604288) (boxed-gradient-row box (headAt p) (p .n) S few hS) (most .gradient),
+    )
+
 -- And so is the area of its box.
 pub plan-box-finite : PlanBoxFinite
 plan-box-finite p long taken =
@@ -120,7 +129,5 @@ plan-box-finite p long taken =
 -- Every number of the afresh table of a taken plan's rows in its box is finite.
 pub table-in-box-finite : TableInBoxFinite
 table-in-box-finite sets p long taken S hS =
-    let box = bounds (boxOf (p .ground)) in
-    afresh-most (area (boxOf (p .ground))) (areaAt (clippedMethod sets) p) (sets p) S
-    (most-weaken (plan-box-finite p long taken) (lit≤ tt))
-    (subst (Most 41197685760000 1074) (boxed-row box (headAt p) (p .n) S (plan-taken p long .0 taken .count) hS) (plan-in-box-finite p long taken S .area))
+    afresh-most (area (boxOf (p .ground))) (areaAt (clippedMethod sets) p) (sets p) S (most-weaken (plan-box-finite p long taken) (lit≤ tt))
+    (plan-row-finite p long taken S hS .0)

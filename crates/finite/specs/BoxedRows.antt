@@ -16,6 +16,7 @@ use Rattle.plan.specs.Checks.{planAnswer}
 use Rattle.plan.specs.Exactly.{HeadMet}
 use Rattle.plan.specs.Sound.{GroundMet}
 use Rattle.plan.specs.Table.{gradientWidth}
+use Rattle.regions.specs.Row.{rowArea}
 use Rattle.regions.specs.Table.{headAt, afresh}
 use Rattle.geometry.specs.Rectangle.{area, bounds}
 use Rattle.geometry.specs.declared.bounds.Bounds.{Bounds}
@@ -23,7 +24,7 @@ use Rattle.geometry.specs.declared.circle.Circle.{Circle}
 use Rattle.outline.specs.Points.{collected}
 use Rattle.outline.specs.Set.{headsOf, circleAt, regionArcs}
 use Rattle.areas.specs.Open.{circlesOfHeads, membersOfPlan}
-use Rattle.areas.specs.Boxed.{boxOf, clippedMethod}
+use Rattle.areas.specs.Boxed.{boxOf, clippedGeometry, clippedMethod, clippedGradientRow}
 use Rattle.clip.specs.Area.{clippedAreaOf, clippedArea}
 use Rattle.clip.specs.Gradient.{WithGradient, clippedWithGradient, clippedGradient}
 use Rattle.finite.specs.Boxed.{GradientMost}
@@ -59,7 +60,14 @@ abbrev pub PlanInBoxFinite : Type 0
 PlanInBoxFinite =
     (p : Plan) → length (p .heads) ≡ 10 → planAnswer p ≡ Taken → (S : ℕ) → BoxedRowFinite (bounds (boxOf (p .ground))) (headAt p) (p .n) S
 
--- and row 0, the area of the box, is at most 1,600,000,000.
+-- So the row of `regions`, which is what the code works out, and its gradient by position.
+abbrev pub PlanRowFinite : Type 0
+PlanRowFinite =
+    (p : Plan) → length (p .heads) ≡ 10 → planAnswer p ≡ Taken → (S : ℕ) → S < 2 ^ p .n
+    → Most 41197685760000 1074 (rowArea (clippedGeometry (bounds (boxOf (p .ground)))) (headAt p) (p .n) S)
+    × GradientMost 41197685760000 31490604288 (clippedGradientRow (bounds (boxOf (p .ground))) (headAt p) (p .n) S)
+
+-- And row 0, the area of the box, is at most 1,600,000,000.
 abbrev pub PlanBoxFinite : Type 0
 PlanBoxFinite = (p : Plan) → length (p .heads) ≡ 10 → planAnswer p ≡ Taken → Most 1600000000 1074 (area (boxOf (p .ground)))
 
