@@ -1,9 +1,10 @@
--- The open area that the code works out for a set of a plan's heads is base 4's row over the geometry of open rows.
+-- What the code works out for a set of a plan's heads, its points, its open area and its gradient, is the row of `regions` over the
+-- geometry of open rows, as specs/Open.antt states it; and open rows never go stale.
 use mathlib.Core.Path.{_≡_, refl, sym, ap, ap₂, _∙_}
 use mathlib.Core.Bool.{Bool, true, false, _&&_, _||_, cond}
 use mathlib.Core.List.{List, [], _∷_, _++_, map, map-append}
 use mathlib.Core.Logic.{⊎-elim}
-use Prim.Native.Nat.{ℕ, zero, suc, _+_, _-_, _^_, _≤_, _<_}
+use Prim.Native.Nat.{ℕ, zero, suc, _+_, _-_, _*_, _^_, _≤_, _<_}
 use native.Mathlib.Nat.{lt-of-lt-of-le}
 use native.Mathlib.Omega.{arith}
 use borrow.Author.Tests.{eqb-true}
@@ -13,7 +14,7 @@ use lib.Ieee.Fits.{and-i}
 use lib.Signed.{leZ}
 use lib.Ieee.{Float}
 use lib.IntN.{ℤ, pos, negℤ}
-use lib.ListN.{length, getD, length-append, length-map, List·getD-append}
+use lib.ListN.{length, getD, replicate, length-append, length-map, List·getD-append}
 use lib.Pow.{pow-mono}
 use lib.Seq.{getD-at}
 use Rattle.heads.specs.declared.Head.{Head}
@@ -37,19 +38,20 @@ use Rattle.plan.specs.declared.Answer.the-variants.{Taken}
 use Rattle.plan.specs.declared.Ground.{Ground}
 use Rattle.plan.specs.declared.Needed.{Needed}
 use Rattle.plan.specs.declared.Plan.{Plan}
+use Rattle.binary64.specs.Constants.{zero64}
 use Rattle.regions.proofs.Lists.{upTo-cong, upTo-through}
 use Rattle.geometry.specs.Circle.{intersectionPoints}
 use Rattle.geometry.specs.declared.point.Point.{Point}
 use Rattle.geometry.specs.declared.circle.Circle.{Circle}
-use Rattle.boundary.specs.declared.points.IntersectionPoint.{IntersectionPoint}
-use Rattle.boundary.specs.Outline.{Member, circlesOf, outline}
-use Rattle.boundary.specs.Outline.{noCircle}
-use Rattle.outline.specs.Area.{areaOf, openArea}
-use Rattle.boundary.specs.Set.{headsOf, countedFor, pointsFor, circleAt, memberAt, membersOf}
+use Rattle.outline.specs.declared.points.IntersectionPoint.{IntersectionPoint}
+use Rattle.outline.specs.Outline.{Member, circlesOf, outline}
+use Rattle.outline.specs.declared.arcs.BoundaryArc.{BoundaryArc}
+use Rattle.outline.specs.Area.{noCircle, areaOf, openArea, addGradient, openGradient}
+use Rattle.outline.specs.Set.{headsOf, countedFor, pointsFor, circleAt, memberAt, membersOf}
 use Rattle.outline.specs.Points.{adopts, met, pairPoints, rowPoints, collected}
 use Rattle.outline.specs.Counts.{points-whole}
 use Rattle.exact.specs.Circle.{circleOf}
-use Rattle.areas.specs.Open.{circlesOfHeads, memberOf, openGeometry, openMethod}
+use Rattle.areas.specs.Open.{circlesOfHeads, memberOf, openGeometry, openMethod, structOf, membersOfPlan, openGradientRow, PointsOfPlan, OpenRow, OpenGradientRow}
 use Rattle.outline.proofs.Walking.{circles-of-members, outline-one}
 use Rattle.outline.proofs.Walking.{members-many as heads-many}
 
@@ -104,10 +106,6 @@ module _ (h : ℕ → Head) where
 
 -- ---- meeting points
 
--- base 4's meeting point as the code's struct
-abbrev structOf : Row.IntersectionPoint Point → IntersectionPoint
-structOf q = record { point = q .point; first = q .first; second = q .second; adopters = q .adopters }
-
 module _ (h : ℕ → Head) (n : ℕ) where
   abbrev cs : List Circle
   cs = circlesOfHeads h n
@@ -132,7 +130,7 @@ module _ (h : ℕ → Head) (n : ℕ) where
   mapped : (f : ℕ → List (Row.IntersectionPoint Point)) (m : ℕ) → map structOf (upTo f m) ≡ upTo (λ i. map structOf (f i)) m
   mapped f m = upTo-through (map structOf) refl (map-append structOf) f m
 
-  -- base 4's points of head i with the heads after it
+  -- the points of head i with the heads after it, by `regions`
   row : ℕ → List (Row.IntersectionPoint Point)
   row i = upTo (λ d. Row.pairPoints openGeometry h n i (i + 1 + d)) (n - (i + 1))
 
@@ -144,7 +142,7 @@ module _ (h : ℕ → Head) (n : ℕ) where
       (λ d hd. pair-is i (i + 1 + d) hi (omega arith))
       ∙ sym (mapped (λ d. Row.pairPoints openGeometry h n i (i + 1 + d)) (n - (i + 1))))
 
-  pub collected-is : collected cs ≡ map structOf (intersections openGeometry h n)
+  collected-is : collected cs ≡ map structOf (intersections openGeometry h n)
   unfolding collected intersections row
   collected-is =
       rw (circles-length h n) (upTo-cong (rowPoints (circlesOfHeads h n)) (λ i. map structOf (row i)) n row-is ∙ sym (mapped row n))
@@ -215,26 +213,51 @@ module _ (h : ℕ → Head) (n : ℕ) where
       ∙ sym (row-members (λ m. circleOf (m .head)) S)
       ∙ map-alike (λ m. circleOf (m .head)) (λ m. m .circle) memberOf (λ m. refl) (Row.members openGeometry h n S))
 
--- a single's area comes from its circle alone
-area-of-one : (ms ms' : List Member) → length ms ≡ 1 → circlesOf ms ≡ circlesOf ms' → openArea ms ≡ openArea ms'
-unfolding openArea
-area-of-one ms ms' one e =
-    rw (outline-one ms one, outline-one ms' (sym (length-map ms' (λ m. m .circle)) ∙ sym (ap length e) ∙ length-map ms (λ m. m .circle) ∙ one), e)
+  pub as-many : (S : ℕ) → length (membersOf cs (collected cs) S) ≡ length (map memberOf (Row.members openGeometry h n S))
+  as-many S =
+      sym (length-map (membersOf cs (collected cs) S) (λ m. m .circle))
+      ∙ ap length (circles-are S)
+      ∙ length-map (map memberOf (Row.members openGeometry h n S)) (λ m. m .circle)
 
--- The open area of a set of a plan's heads, as the code works it out, is the row of base 4.
-pub open-row : (h : ℕ → Head) (n S : ℕ) → n ≤ 10 → S < 2 ^ n
-    → openArea (membersOf (circlesOfHeads h n) (collected (circlesOfHeads h n)) S) ≡ rowArea openGeometry h n S
-unfolding rowArea
-open-row h n S hn hS = by (isSingle S) refl
+pub points-of-plan : PointsOfPlan
+points-of-plan = collected-is
+
+-- ---- rows
+
+-- The outline of a set of a plan's heads, as the code walks it, is that of the row's members. A single's comes from its circle alone.
+pub outline-of-row : (h : ℕ → Head) (n S : ℕ) → n ≤ 10 → S < 2 ^ n
+    → outline (membersOfPlan h n S) ≡ outline (map memberOf (Row.members openGeometry h n S))
+outline-of-row h n S hn hS = by (isSingle S) refl
   where
-    by : (b : Bool) → isSingle S ≡ b
-        → openArea (membersOf (circlesOfHeads h n) (collected (circlesOfHeads h n)) S) ≡ openArea (map memberOf (Row.members openGeometry h n S))
-    by false e = ap openArea (members-many h n S hS hn e)
+    ms : List Member
+    ms = membersOfPlan h n S
+
+    ms' : List Member
+    ms' = map memberOf (Row.members openGeometry h n S)
+
+    by : (b : Bool) → isSingle S ≡ b → outline ms ≡ outline ms'
+    by false e = ap outline (members-many h n S hS hn e)
     by true e =
-        area-of-one (membersOf (circlesOfHeads h n) (collected (circlesOfHeads h n)) S) (map memberOf (Row.members openGeometry h n S))
-        (heads-many (circlesOfHeads h n) (collected (circlesOfHeads h n)) S
-        ∙ rw (circles-length h n) (heads-size n S ∙ sym (ones-size n S hS) ∙ eqb-true (ones S) 1 e))
-        (circles-are h n S)
+        let one : length ms ≡ 1 =
+        heads-many (circlesOfHeads h n) (collected (circlesOfHeads h n)) S
+        ∙ rw (circles-length h n) (heads-size n S ∙ sym (ones-size n S hS) ∙ eqb-true (ones S) 1 e) in
+        rw (outline-one ms one, outline-one ms' (sym (as-many h n S) ∙ one), circles-are h n S)
+
+-- So whatever is worked out from the circles and the outline of a set alone is the same of the row's members.
+pub of-row : {A : Type 0} (f : List Circle → List BoundaryArc → A) (h : ℕ → Head) (n S : ℕ) → n ≤ 10 → S < 2 ^ n
+    → f (circlesOf (membersOfPlan h n S)) (outline (membersOfPlan h n S))
+    ≡ f (circlesOf (map memberOf (Row.members openGeometry h n S))) (outline (map memberOf (Row.members openGeometry h n S)))
+of-row f h n S hn hS = ap₂ f (circles-are h n S) (outline-of-row h n S hn hS)
+
+pub open-row : OpenRow
+unfolding rowArea openArea
+open-row = of-row areaOf
+
+pub open-gradient-row : OpenGradientRow
+unfolding openGradientRow openGradient
+open-gradient-row h n S hn hS =
+    rw (as-many h n S)
+    (of-row (λ cs arcs. addGradient cs (replicate (3 * length (map memberOf (Row.members openGeometry h n S))) zero64) arcs) h n S hn hS)
 
 -- a head within the limits as `plan` says it is one within the limits as `heads` says it
 within-test : (low high z : ℤ) → Within low high z → T (leZ low z && leZ z high)

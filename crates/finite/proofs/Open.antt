@@ -1,248 +1,297 @@
--- Open areas are finite: bounds on angles, gaps and arcs, and on what each arc adds.
-use mathlib.Core.Path.{_≡_, refl, sym, ap, _∙_}
+-- Open areas and gradients are finite: bounds on the angles, gaps and arcs of any outline, and on what each arc adds.
+-- Rests on the promises of `elementary` as bounds, proofs/Promises.antt.
+use mathlib.Core.Path.{_≡_, refl}
 use mathlib.Core.Bool.{Bool, true, false, cond, not, _&&_}
-use mathlib.Core.List.{List, [], _∷_, _++_, map}
-use Prim.Native.Nat.{ℕ, zero, suc, _+_, _*_, _^_, _%_, _≤_, _<_}
+use mathlib.Core.List.{List, [], _∷_, map}
+use Prim.Native.Nat.{ℕ, suc, _+_, _*_, _^_, _%_, _≤_, _<_}
 use native.Mathlib.Nat.{mod-lt, le-refl}
 use native.Mathlib.Omega.{arith}
 use borrow.Author.Tests.{ltb-true}
-use lib.Dec.{T, leb→le, lit≤, ltb}
-use lib.ListN.{length, getD, set, replicate}
-use lib.Ieee.{Float, nan, inf, fin, binary64, ofBits, fits, le, add, sub, mul}
-use Rattle.binary64.specs.Units.{Finite, mag, pow2, negative}
-use Rattle.binary64.specs.Functions.{absolute, signumOf}
-use Rattle.binary64.proofs.Functions.{absolute-of-negative, absolute-of-other}
+use lib.Dec.{leb→le, lit≤, ltb}
+use lib.ListN.{length, getD, replicate, length-take}
+use lib.Ieee.{Float, nan, inf, fin, binary64, ofBits, fits}
+use lib.Ieee.Fits.{sub-fits}
+use Rattle.binary64.specs.Units.{Finite, mag, pow2, plus, minus, negative}
+use Rattle.binary64.specs.Functions.{absolute, signumOf, remEuclid, FromZeroTo}
 use Rattle.binary64.specs.Magnitude.{Most}
-use Rattle.binary64.specs.Constants.{zero64, half64, twoPi}
-use Rattle.binary64.proofs.Magnitude.{most-weaken, most-either, neg-most, add-most, sub-most, mul-most}
+use Rattle.binary64.specs.Constants.{zero64, half64, pi, twoPi}
+use Rattle.binary64.proofs.Constants.{half64-most, pi-most, pi-least, twoPi-most, twoPi-least}
+use Rattle.binary64.proofs.Functions.{absolute-most}
+use Rattle.binary64.proofs.Magnitude.{bound-digits, most-weaken, most-coarser, most-zero, most-either, add-most, sub-most, mul-most}
+use Rattle.binary64.proofs.Operations.{sub-result, result-le}
+use Rattle.binary64.proofs.Remainder.{rem-euclid-within}
+use Rattle.binary64.proofs.Units.{pow2-pos, plus-minus, plus-is, units-of-lt, units-of-not-lt}
 use Rattle.elementary.specs.Sine.{sine as sin, cosine as cos}
-use Rattle.elementary.specs.Arctangent.{atan2}
-use Rattle.regions.specs.Row.{upTo}
-use Rattle.geometry.specs.Floats.{_+ᶠ_, _-ᶠ_, _*ᶠ_, _≤ᶠ_}
+use Rattle.geometry.specs.Floats.{_+ᶠ_, _-ᶠ_, _*ᶠ_, _<ᶠ_, _≤ᶠ_}
 use Rattle.geometry.specs.declared.point.Point.{Point}
 use Rattle.geometry.specs.declared.circle.Circle.{Circle}
-use Rattle.boundary.specs.declared.arcs.BoundaryArc.{BoundaryArc}
-use Rattle.boundary.specs.Every.{Every, every-append, every-map, every-upTo}
-use Rattle.boundary.specs.Sort.{insert, sortOnto, sorted}
-use Rattle.boundary.specs.Outline.{Member, circlesOf, angleAbout, gap, collapsed, owned, pointAt, probe, fullCircle, between, arcFrom, arcsAt, anglesOf, outlineFrom, outline}
-use Rattle.boundary.specs.Outline.{noCircle}
-use Rattle.outline.specs.Area.{arcTerms, addArc, addArcs, areaOf, openArea, addAt, subAt, arcSlopes, addSlopes, addGradient, openGradient}
-use Rattle.boundary.proofs.Ordering.{insert-every}
-use Rattle.finite.specs.Open.{Promised, InDomain, AreaFinite, GradientFinite}
-
--- ---- constants
-
-twoPi-most : Most 7 1074 twoPi
-unfolding ofBits mag pow2 fits
-twoPi-most = record { finite = record { fit = tt; number = tt }; bound = leb→le _ _ tt }
-
-half-most : Most 1 1074 half64
-unfolding ofBits mag pow2 fits
-half-most = record { finite = record { fit = tt; number = tt }; bound = leb→le _ _ tt }
-
-zero-most : Most 0 1074 zero64
-unfolding ofBits mag pow2 fits
-zero-most = record { finite = record { fit = tt; number = tt }; bound = leb→le _ _ tt }
+use Rattle.outline.specs.declared.arcs.BoundaryArc.{BoundaryArc}
+use Rattle.outline.specs.declared.points.IntersectionPoint.{IntersectionPoint}
+use Rattle.outline.specs.Every.{Every, every-append, every-map, every-upTo}
+use Rattle.outline.specs.Outline.{Member, circlesOf, angleAbout, wrapAngle, gap, collapsed, owned, pointAt, probe, fullCircle, between, arcFrom, arcsAt, anglesOf, outlineFrom, outline}
+use Rattle.outline.specs.Area.{noCircle, arcTerms, addArc, addArcs, areaOf, openArea, addAt, subAt, arcSlopes, addSlopes, addGradient, openGradient}
+use Rattle.outline.specs.Set.{headsOf, membersOf, numbered, arcsHeld, regionArcs}
+use Rattle.finite.specs.Arcs.{ShortArc, OutlineShort, OutlineEnds}
+use Rattle.finite.specs.Open.{InDomain, ArcsAreaFinite, ArcsGradientFinite, AreaFinite, GradientFinite, RegionAreaFinite, RegionGradientFinite}
+use Rattle.finite.proofs.Every.{every-at, every-set, sorted-every, every-mapped, every-replicate, every-take}
+use Rattle.finite.proofs.Promises.{sine-most, cosine-most, arctangent-most}
 
 -- ---- angles
 
--- an element of a list of which P holds throughout
-every-at : {A : Type 0} (P : A → Type 0) (l : List A) (i : ℕ) (d : A) → i < length l → Every P l → P (getD l i d)
-every-at P [] i d h e = absurd (omega arith)
-every-at P (x ∷ l) zero d h e = e .0
-every-at P (x ∷ l) (suc i) d h e = every-at P l i d (omega arith) (e .1)
+abbrev Angle : Float → Type 0
+Angle = Most 4 1074
 
-sortOnto-every : (P : Float → Type 0) (done l : List Float) → Every P done → Every P l → Every P (sortOnto done l)
-unfolding sortOnto
-sortOnto-every P done [] h g = h
-sortOnto-every P done (x ∷ l) h g = sortOnto-every P (insert x done) l (insert-every P x done (g .0) h) (g .1)
+angles-most : (c : Circle) (l : List Point) → Every Angle (map (angleAbout c) l)
+unfolding angleAbout
+angles-most c [] = tt
+angles-most c (p ∷ l) = (arctangent-most _ _ (sub-fits binary64 _ _) (sub-fits binary64 _ _), angles-most c l)
 
-module _ (promised : Promised) where
-  angles-most : (c : Circle) (l : List Point) → Every (Most 4 1074) (map (angleAbout c) l)
-  unfolding angleAbout
-  angles-most c [] = tt
-  angles-most c (p ∷ l) = (promised .arctangent _ _, angles-most c l)
-
-  sorted-most : (m : Member) → Every (Most 4 1074) (anglesOf m)
-  unfolding anglesOf sorted
-  sorted-most m = sortOnto-every (Most 4 1074) [] (map (angleAbout (m .circle)) (m .points)) tt (angles-most (m .circle) (m .points))
+sorted-most : (m : Member) → Every Angle (anglesOf m)
+unfolding anglesOf
+sorted-most m = sorted-every Angle (map (angleAbout (m .circle)) (m .points)) (angles-most (m .circle) (m .points))
 
 -- a gap between angles
-gap-most : (a b : Float) → Most 4 1074 a → Most 4 1074 b → Most 15 1074 (gap a b)
+gap-most : (a b : Float) → Angle a → Angle b → Most 15 1074 (gap a b)
 unfolding gap
 gap-most a b ha hb =
     let d = sub-most hb ha (lit≤ tt) (lit≤ tt) in
     most-either (b -ᶠ a ≤ᶠ zero64) (add-most d twoPi-most (lit≤ tt) (lit≤ tt)) (most-weaken d (lit≤ tt))
 
--- ---- arcs
+positive-constants : (negative pi ≡ false) × (negative twoPi ≡ false)
+unfolding ofBits
+positive-constants = (refl, refl)
 
--- the length of an arc is at most 16
-abbrev Short : BoundaryArc → Type 0
-Short arc = Most 16 1074 (arc .«delta_phi»)
+-- an angle wrapped: the remainder lies from 0 to 2 * PI, and one above PI comes down by 2 * PI
+pub wrapped-most : {x : Float} → Finite x → Angle (wrapAngle x)
+unfolding wrapAngle
+wrapped-most {x} h = by (pi <ᶠ y) refl
+  where
+    y : Float
+    y = remEuclid x twoPi
+
+    half : (plus pi ≡ mag pi) × (minus pi ≡ 0)
+    half = plus-is pi (positive-constants .0)
+
+    whole : (plus twoPi ≡ mag twoPi) × (minus twoPi ≡ 0)
+    whole = plus-is twoPi (positive-constants .1)
+
+    w : FromZeroTo y twoPi
+    w = rem-euclid-within h (twoPi-most .finite) (omega (arith, whole, twoPi-least .bound, pow2-pos 1074))
+
+    by : (b : Bool) → (pi <ᶠ y) ≡ b → Angle (cond b (y -ᶠ twoPi) y)
+    by true e =
+        let above = units-of-lt (pi-most .finite) (w .finite) e in
+        let size : Most 7 1074 y = record { finite = w .finite; bound = omega (arith, plus-minus y, w .above, w .below, whole, twoPi-most .bound) } in
+        let f = sub-most size twoPi-most (lit≤ tt) (lit≤ tt) .finite in
+        let least = pi-least .bound in
+        let most = twoPi-most .bound in
+        record {
+          finite = f;
+          bound = result-le (le-refl 1) (sub-result (w .finite) (twoPi-most .finite)) (bound-digits 1074 (lit≤ tt)) (omega (arith, w .below, whole)) (omega (arith, above, w .above, half, whole)) f;
+        }
+    by false e =
+        record {
+          finite = w .finite;
+          bound = omega (arith, units-of-not-lt (pi-most .finite) (w .finite) e, plus-minus y, w .above, half, pi-most .bound);
+        }
+
+-- ---- arcs
 
 one-of : {A : Type 0} (P : A → Type 0) (b : Bool) (x : A) → P x → Every P (cond b (x ∷ []) [])
 one-of P true x h = (h, tt)
 one-of P false x h = tt
 
-between-short : (k : ℕ) (c : Circle) (a delta : Float) → Most 15 1074 delta → Short (between k c a delta)
-unfolding between
-between-short k c a delta h = most-weaken h (lit≤ tt)
+-- What holds of full circles, and of arcs from an angle of at most 4 over a gap of at most 15, holds of every arc of an outline.
+module _ (P : BoundaryArc → Type 0) (full : (k : ℕ) (c : Circle) → P (fullCircle k c)) (over : (k : ℕ) (c : Circle) (a delta : Float) → Angle a → Most 15 1074 delta → P (between k c a delta)) where
+  gap-every : (cs : List Circle) (k : ℕ) (c : Circle) (phis : List Float) (i : ℕ) → i < length phis → Every Angle phis → Every P (arcFrom cs k c phis i)
+  unfolding arcFrom
+  gap-every cs k c phis i h e =
+      let a = getD phis i nan in
+      let next = (i + 1) % length phis in
+      let b = getD phis next nan in
+      let delta = gap a b in
+      let ha = every-at Angle phis i nan h e in
+      let hb = every-at Angle phis next nan (mod-lt (i + 1) {m = length phis} (omega arith)) e in
+      one-of P (not (collapsed delta) && owned k (pointAt c (a +ᶠ delta *ᶠ half64)) cs) (between k c a delta) (over k c a delta ha (gap-most a b ha hb))
 
-full-short : (k : ℕ) (c : Circle) → Short (fullCircle k c)
-unfolding fullCircle
-full-short k c = most-weaken twoPi-most (lit≤ tt)
+  arcs-every : (cs : List Circle) (k : ℕ) (c : Circle) (phis : List Float) → Every Angle phis → Every P (arcsAt cs k c phis)
+  unfolding arcsAt
+  arcs-every cs k c [] e = one-of P (owned k (probe c) cs) (fullCircle k c) (full k c)
+  arcs-every cs k c (phi ∷ phis) e =
+      every-upTo P (arcFrom cs k c (phi ∷ phis)) (length (phi ∷ phis)) (λ i h. gap-every cs k c (phi ∷ phis) i h e)
 
-gap-short : (cs : List Circle) (k : ℕ) (c : Circle) (phis : List Float) (i : ℕ) → i < length phis → Every (Most 4 1074) phis
-    → Every Short (arcFrom cs k c phis i)
-unfolding arcFrom
-gap-short cs k c phis i h e =
-    let a = getD phis i nan in
-    let b = getD phis ((i + 1) % length phis) nan in
-    let delta = gap a b in
-    one-of Short (not (collapsed delta) && owned k (pointAt c (a +ᶠ delta *ᶠ half64)) cs) (between k c a delta)
-    (between-short k c a delta
-    (gap-most a b (every-at (Most 4 1074) phis i nan h e)
-    (every-at (Most 4 1074) phis ((i + 1) % length phis) nan (mod-lt (i + 1) {m = length phis} (omega arith)) e)))
-
-arcs-short : (cs : List Circle) (k : ℕ) (c : Circle) (phis : List Float) → Every (Most 4 1074) phis → Every Short (arcsAt cs k c phis)
-unfolding arcsAt
-arcs-short cs k c [] e = one-of Short (owned k (probe c) cs) (fullCircle k c) (full-short k c)
-arcs-short cs k c (phi ∷ phis) e =
-    every-upTo Short (arcFrom cs k c (phi ∷ phis)) (length (phi ∷ phis)) (λ i h. gap-short cs k c (phi ∷ phis) i h e)
-
-module _ (promised : Promised) where
-  members-short : (cs : List Circle) (k : ℕ) (ms : List Member) → Every Short (outlineFrom cs k ms)
+  members-every : (cs : List Circle) (k : ℕ) (ms : List Member) → Every P (outlineFrom cs k ms)
   unfolding outlineFrom
-  members-short cs k [] = tt
-  members-short cs k (m ∷ ms) =
-      every-append Short (arcsAt cs k (m .circle) (anglesOf m)) (outlineFrom cs (suc k) ms)
-      (arcs-short cs k (m .circle) (anglesOf m) (sorted-most promised m))
-      (members-short cs (suc k) ms)
+  members-every cs k [] = tt
+  members-every cs k (m ∷ ms) =
+      every-append P (arcsAt cs k (m .circle) (anglesOf m)) (outlineFrom cs (suc k) ms)
+      (arcs-every cs k (m .circle) (anglesOf m) (sorted-most m))
+      (members-every cs (suc k) ms)
 
-  outline-short : (ms : List Member) → Every Short (outline ms)
+  outline-every : (ms : List Member) → Every P (outline ms)
   unfolding outline
-  outline-short [] = tt
-  outline-short (m ∷ []) = (full-short 0 (m .circle), tt)
-  outline-short (m ∷ (m' ∷ ms)) = members-short (circlesOf (m ∷ (m' ∷ ms))) 0 (m ∷ (m' ∷ ms))
+  outline-every [] = tt
+  outline-every (m ∷ []) = (full 0 (m .circle), tt)
+  outline-every (m ∷ (m' ∷ ms)) = members-every (circlesOf (m ∷ (m' ∷ ms))) 0 (m ∷ (m' ∷ ms))
 
-  -- ---- the sum
+between-short : (k : ℕ) (c : Circle) (a delta : Float) → Angle a → Most 15 1074 delta → ShortArc (between k c a delta)
+unfolding between
+between-short k c a delta ha h = record { start = ha; turn = most-weaken h (lit≤ tt) }
 
-  terms-most : (j : ℕ) (total : Float) (c : Circle) (arc : BoundaryArc) → Most j 1074 total → InDomain c → Short arc
-      → j + 8000000000 ≤ 2 ^ 53 → Most (j + 8000000000) 1074 (arcTerms total c arc)
-  unfolding arcTerms
-  terms-most j total c arc ht d hs room =
-      let a = arc .«phi_start» in
-      let b = a +ᶠ arc .«delta_phi» in
-      let sines = sub-most (promised .sine b) (promised .sine a) (lit≤ tt) (lit≤ tt) in
-      let cosines = sub-most (promised .cosine a) (promised .cosine b) (lit≤ tt) (lit≤ tt) in
-      let wide = mul-most (mul-most (d .x) (d .r) 1074 refl (lit≤ tt) (lit≤ tt)) sines 1074 refl (lit≤ tt) (lit≤ tt) in
-      let high = mul-most (mul-most (d .y) (d .r) 1074 refl (lit≤ tt) (lit≤ tt)) cosines 1074 refl (lit≤ tt) (lit≤ tt) in
-      let round = mul-most (mul-most (d .r) (d .r) 1074 refl (lit≤ tt) (lit≤ tt)) hs 1074 refl (lit≤ tt) (lit≤ tt) in
-      most-weaken
-      (add-most (add-most (add-most ht wide (omega arith) (lit≤ tt)) high (omega arith) (lit≤ tt)) round (omega arith) (lit≤ tt))
-      (omega arith)
+full-short : (k : ℕ) (c : Circle) → ShortArc (fullCircle k c)
+unfolding fullCircle
+full-short k c = record { start = most-zero; turn = most-weaken twoPi-most (lit≤ tt) }
 
-  arc-most : (j : ℕ) (total : Float) (cs : List Circle) (arc : BoundaryArc) → Most j 1074 total → Every InDomain cs → Short arc
-      → j + 8000000000 ≤ 2 ^ 53 → Most (j + 8000000000) 1074 (addArc cs total arc)
-  unfolding addArc
-  arc-most j total cs arc ht d hs room = by (ltb (arc .circle) (length cs)) refl
-    where
-      by : (b : Bool) → ltb (arc .circle) (length cs) ≡ b → Most (j + 8000000000) 1074 (cond b (arcTerms total (getD cs (arc .circle) noCircle) arc) total)
-      by true e = terms-most j total (getD cs (arc .circle) noCircle) arc ht (every-at InDomain cs (arc .circle) noCircle (ltb-true _ _ e) d) hs room
-      by false e = most-weaken ht (omega arith)
+-- Every arc of an outline starts at an angle of at most 4, and its length is at most 16.
+pub outline-short : OutlineShort
+outline-short = outline-every ShortArc full-short between-short
 
-  arcs-most : (arcs : List BoundaryArc) (j : ℕ) (total : Float) (cs : List Circle) → Most j 1074 total → Every InDomain cs → Every Short arcs
-      → j + length arcs * 8000000000 ≤ 2 ^ 53 → Most (j + length arcs * 8000000000) 1074 (addArcs cs total arcs)
-  unfolding addArcs
-  arcs-most [] j total cs ht d hs room = most-weaken ht (omega arith)
-  arcs-most (arc ∷ arcs) j total cs ht d hs room =
-      most-weaken
-      (arcs-most arcs (j + 8000000000) (addArc cs total arc) cs (arc-most j total cs arc ht d (hs .0) (omega arith)) d (hs .1) (omega arith))
-      (omega arith)
+between-end : (k : ℕ) (c : Circle) (a delta : Float) → Angle a → Most 15 1074 delta → Angle (between k c a delta .«phi_end»)
+unfolding between
+between-end k c a delta ha h = wrapped-most (add-most ha h (lit≤ tt) (lit≤ tt) .finite)
 
--- Open areas are finite, and at most 1,440,000,000,000.
+full-end : (k : ℕ) (c : Circle) → Angle (fullCircle k c .«phi_end»)
+unfolding fullCircle
+full-end k c = most-zero
+
+-- Every arc of an outline ends at an angle of at most 4.
+pub outline-ends : OutlineEnds
+outline-ends = outline-every (λ arc. Angle (arc .«phi_end»)) full-end between-end
+
+numbered-short : (heads : List ℕ) (arc : BoundaryArc) → ShortArc arc → ShortArc (numbered heads arc)
+unfolding numbered
+numbered-short heads arc s = record { start = s .start; turn = s .turn }
+
+-- Under head numbers too the arcs of a set are short, and they are at most 180.
+pub region-short : (cs : List Circle) (points : List IntersectionPoint) (S : ℕ) → Every ShortArc (regionArcs cs points S)
+unfolding regionArcs
+region-short cs points S =
+    let js = headsOf (length cs) S in
+    let arcs = outline (membersOf cs points S) in
+    every-take ShortArc arcsHeld (map (numbered js) arcs)
+    (every-mapped ShortArc (numbered js) arcs (every-map arcs (numbered-short js) (outline-short (membersOf cs points S))))
+
+pub region-few : (cs : List Circle) (points : List IntersectionPoint) (S : ℕ) → length (regionArcs cs points S) ≤ 180
+unfolding regionArcs
+region-few cs points S = rw (length-take) (omega arith)
+
+-- ---- the area
+
+terms-most : (j : ℕ) (total : Float) (c : Circle) (arc : BoundaryArc) → Most j 1074 total → InDomain c → ShortArc arc
+    → j + 8000000000 ≤ 2 ^ 53 → Most (j + 8000000000) 1074 (arcTerms total c arc)
+unfolding arcTerms
+terms-most j total c arc ht d hs room =
+    let a = arc .«phi_start» in
+    let b = a +ᶠ arc .«delta_phi» in
+    let sines = sub-most (sine-most b) (sine-most a) (lit≤ tt) (lit≤ tt) in
+    let cosines = sub-most (cosine-most a) (cosine-most b) (lit≤ tt) (lit≤ tt) in
+    let wide = mul-most (mul-most (d .x) (d .r) 1074 refl (lit≤ tt) (lit≤ tt)) sines 1074 refl (lit≤ tt) (lit≤ tt) in
+    let high = mul-most (mul-most (d .y) (d .r) 1074 refl (lit≤ tt) (lit≤ tt)) cosines 1074 refl (lit≤ tt) (lit≤ tt) in
+    let round = mul-most (mul-most (d .r) (d .r) 1074 refl (lit≤ tt) (lit≤ tt)) (hs .turn) 1074 refl (lit≤ tt) (lit≤ tt) in
+    most-weaken
+    (add-most (add-most (add-most ht wide (omega arith) (lit≤ tt)) high (omega arith) (lit≤ tt)) round (omega arith) (lit≤ tt))
+    (omega arith)
+
+arc-most : (j : ℕ) (total : Float) (cs : List Circle) (arc : BoundaryArc) → Most j 1074 total → Every InDomain cs → ShortArc arc
+    → j + 8000000000 ≤ 2 ^ 53 → Most (j + 8000000000) 1074 (addArc cs total arc)
+unfolding addArc
+arc-most j total cs arc ht d hs room = by (ltb (arc .circle) (length cs)) refl
+  where
+    by : (b : Bool) → ltb (arc .circle) (length cs) ≡ b → Most (j + 8000000000) 1074 (cond b (arcTerms total (getD cs (arc .circle) noCircle) arc) total)
+    by true e = terms-most j total (getD cs (arc .circle) noCircle) arc ht (every-at InDomain cs (arc .circle) noCircle (ltb-true _ _ e) d) hs room
+    by false e = most-weaken ht (omega arith)
+
+arcs-most : (arcs : List BoundaryArc) (j : ℕ) (total : Float) (cs : List Circle) → Most j 1074 total → Every InDomain cs → Every ShortArc arcs
+    → j + length arcs * 8000000000 ≤ 2 ^ 53 → Most (j + length arcs * 8000000000) 1074 (addArcs cs total arcs)
+unfolding addArcs
+arcs-most [] j total cs ht d hs room = most-weaken ht (omega arith)
+arcs-most (arc ∷ arcs) j total cs ht d hs room =
+    most-weaken
+    (arcs-most arcs (j + 8000000000) (addArc cs total arc) cs (arc-most j total cs arc ht d (hs .0) (omega arith)) d (hs .1) (omega arith))
+    (omega arith)
+
+-- The area that at most 180 arcs enclose is finite, and at most 1,440,000,000,000.
+pub arcs-area-finite : ArcsAreaFinite
+unfolding areaOf
+arcs-area-finite cs arcs d short few =
+    let sum : Most 1440000000000 1074 (addArcs cs zero64 arcs) = most-weaken (arcs-most arcs 0 zero64 cs most-zero d short (omega arith)) (omega arith) in
+    most-weaken (mul-most (most-coarser half64-most 1 1 (lit≤ tt)) sum 1074 refl (lit≤ tt) (lit≤ tt)) (lit≤ tt)
+
+-- Open areas of members are finite.
 pub area-finite : AreaFinite
-unfolding openArea areaOf
-area-finite promised ms d few =
-    let sum = arcs-most promised (outline ms) 0 zero64 (circlesOf ms) zero-most d (outline-short promised ms) (omega arith) in
-    let most : Most 1440000000000 1074 (addArcs (circlesOf ms) zero64 (outline ms)) = most-weaken sum (omega arith) in
-    most-weaken (mul-most half-most most 1074 refl (lit≤ tt) (lit≤ tt)) (lit≤ tt)
+unfolding openArea
+area-finite ms d few = arcs-area-finite (circlesOf ms) (outline ms) d (outline-short ms) few
+
+-- Areas from a set's arcs under head numbers are finite.
+pub region-area-finite : RegionAreaFinite
+region-area-finite cs points S d = arcs-area-finite cs (regionArcs cs points S) d (region-short cs points S) (region-few cs points S)
 
 -- ---- the gradient
 
-signum-most : (x : Float) → Finite x → Most 1 1074 (signumOf x)
+pub signum-most : (x : Float) → Finite x → Most 1 1074 (signumOf x)
 unfolding mag pow2 fits
 signum-most nan f = absurd (f .number)
 signum-most (inf s) f = absurd (f .number)
 signum-most (fin true m e) f = record { finite = record { fit = tt; number = tt }; bound = leb→le _ _ tt }
 signum-most (fin false m e) f = record { finite = record { fit = tt; number = tt }; bound = leb→le _ _ tt }
 
-absolute-most : {j a : ℕ} (x : Float) → Most j a x → Most j a (absolute x)
-absolute-most {j} {a} x h = by (negative x) refl
-  where
-    by : (b : Bool) → negative x ≡ b → Most j a (absolute x)
-    by true e = rw (sym (absolute-of-negative x e)) (neg-most h)
-    by false e = rw (sym (absolute-of-other x e)) h
-
-every-set : {A : Type 0} (P : A → Type 0) (l : List A) (i : ℕ) (v : A) → Every P l → (i < length l → P v) → Every P (set l i v)
-every-set P [] i v e h = tt
-every-set P (x ∷ l) zero v e h = (h (omega arith), e .1)
-every-set P (x ∷ l) (suc i) v e h = (e .0, every-set P l i v (e .1) (λ k. h (omega arith)))
-
-entry-add : (j k : ℕ) (g : List Float) (i : ℕ) (x : Float) → Every (Most j 1074) g → Most k 1074 x → j + k ≤ 2 ^ 53
+pub entry-add : (j k : ℕ) (g : List Float) (i : ℕ) (x : Float) → Every (Most j 1074) g → Most k 1074 x → j + k ≤ 2 ^ 53
     → Every (Most (j + k) 1074) (addAt g i x)
 entry-add j k g i x e h room =
     every-set (Most (j + k) 1074) g i (getD g i nan +ᶠ x) (every-map g (λ z m. most-weaken m (omega arith)) e)
     (λ b. add-most (every-at (Most j 1074) g i nan b e) h room (lit≤ tt))
 
-entry-sub : (j k : ℕ) (g : List Float) (i : ℕ) (x : Float) → Every (Most j 1074) g → Most k 1074 x → j + k ≤ 2 ^ 53
+pub entry-sub : (j k : ℕ) (g : List Float) (i : ℕ) (x : Float) → Every (Most j 1074) g → Most k 1074 x → j + k ≤ 2 ^ 53
     → Every (Most (j + k) 1074) (subAt g i x)
 entry-sub j k g i x e h room =
     every-set (Most (j + k) 1074) g i (getD g i nan -ᶠ x) (every-map g (λ z m. most-weaken m (omega arith)) e)
     (λ b. sub-most (every-at (Most j 1074) g i nan b e) h room (lit≤ tt))
 
-zeros : (n : ℕ) → Every (Most 0 1074) (replicate n zero64)
-zeros zero = tt
-zeros (suc n) = (zero-most, zeros n)
+slopes-most : (j : ℕ) (g : List Float) (c : Circle) (arc : BoundaryArc) → Every (Most j 1074) g → InDomain c → ShortArc arc
+    → j + 400000 ≤ 2 ^ 53 → Every (Most (j + 400000) 1074) (arcSlopes g c arc)
+unfolding arcSlopes
+slopes-most j g c arc e d hs room =
+    let across = mul-most (signum-most (arc .«delta_phi») (hs .turn .finite)) (d .r) 1074 refl (lit≤ tt) (lit≤ tt) in
+    let off = arc .circle * 3 in
+    let sines = sub-most (sine-most (arc .«phi_end»)) (sine-most (arc .«phi_start»)) (lit≤ tt) (lit≤ tt) in
+    let cosines = sub-most (cosine-most (arc .«phi_end»)) (cosine-most (arc .«phi_start»)) (lit≤ tt) (lit≤ tt) in
+    let turn = signumOf (arc .«delta_phi») *ᶠ c .radius in
+    let lx = addAt g off (turn *ᶠ (sin (arc .«phi_end») -ᶠ sin (arc .«phi_start»))) in
+    let ly = subAt lx (off + 1) (turn *ᶠ (cos (arc .«phi_end») -ᶠ cos (arc .«phi_start»))) in
+    let lr = addAt ly (off + 2) (c .radius *ᶠ absolute (arc .«delta_phi»)) in
+    let gx = entry-add j 40000 g off (turn *ᶠ (sin (arc .«phi_end») -ᶠ sin (arc .«phi_start»))) e (mul-most across sines 1074 refl (lit≤ tt) (lit≤ tt)) (omega arith) in
+    let gy = entry-sub (j + 40000) 40000 lx (off + 1) (turn *ᶠ (cos (arc .«phi_end») -ᶠ cos (arc .«phi_start»))) gx (mul-most across cosines 1074 refl (lit≤ tt) (lit≤ tt)) (omega arith) in
+    let gr = entry-add (j + 40000 + 40000) 320000 ly (off + 2) (c .radius *ᶠ absolute (arc .«delta_phi»)) gy (mul-most (d .r) (absolute-most (hs .turn)) 1074 refl (lit≤ tt) (lit≤ tt)) (omega arith) in
+    every-map {P = Most (j + 40000 + 40000 + 320000) 1074} {Q = Most (j + 400000) 1074} lr (λ z m. most-weaken m (omega arith)) gr
 
-module _ (promised : Promised) where
-  slopes-most : (j : ℕ) (g : List Float) (c : Circle) (arc : BoundaryArc) → Every (Most j 1074) g → InDomain c → Short arc
-      → j + 400000 ≤ 2 ^ 53 → Every (Most (j + 400000) 1074) (arcSlopes g c arc)
-  unfolding arcSlopes
-  slopes-most j g c arc e d hs room =
-      let across = mul-most (signum-most (arc .«delta_phi») (hs .finite)) (d .r) 1074 refl (lit≤ tt) (lit≤ tt) in
-      let off = arc .circle * 3 in
-      let sines = sub-most (promised .sine (arc .«phi_end»)) (promised .sine (arc .«phi_start»)) (lit≤ tt) (lit≤ tt) in
-      let cosines = sub-most (promised .cosine (arc .«phi_end»)) (promised .cosine (arc .«phi_start»)) (lit≤ tt) (lit≤ tt) in
-      let turn = signumOf (arc .«delta_phi») *ᶠ c .radius in
-      let lx = addAt g off (turn *ᶠ (sin (arc .«phi_end») -ᶠ sin (arc .«phi_start»))) in
-      let ly = subAt lx (off + 1) (turn *ᶠ (cos (arc .«phi_end») -ᶠ cos (arc .«phi_start»))) in
-      let lr = addAt ly (off + 2) (c .radius *ᶠ absolute (arc .«delta_phi»)) in
-      let gx = entry-add j 40000 g off (turn *ᶠ (sin (arc .«phi_end») -ᶠ sin (arc .«phi_start»))) e (mul-most across sines 1074 refl (lit≤ tt) (lit≤ tt)) (omega arith) in
-      let gy = entry-sub (j + 40000) 40000 lx (off + 1) (turn *ᶠ (cos (arc .«phi_end») -ᶠ cos (arc .«phi_start»))) gx (mul-most across cosines 1074 refl (lit≤ tt) (lit≤ tt)) (omega arith) in
-      let gr = entry-add (j + 40000 + 40000) 320000 ly (off + 2) (c .radius *ᶠ absolute (arc .«delta_phi»)) gy (mul-most (d .r) (absolute-most (arc .«delta_phi») hs) 1074 refl (lit≤ tt) (lit≤ tt)) (omega arith) in
-      every-map {P = Most (j + 40000 + 40000 + 320000) 1074} {Q = Most (j + 400000) 1074} lr (λ z m. most-weaken m (omega arith)) gr
+arc-slopes-most : (j : ℕ) (g : List Float) (cs : List Circle) (arc : BoundaryArc) → Every (Most j 1074) g → Every InDomain cs → ShortArc arc
+    → j + 400000 ≤ 2 ^ 53 → Every (Most (j + 400000) 1074) (addSlopes cs g arc)
+unfolding addSlopes
+arc-slopes-most j g cs arc e d hs room = by (ltb (arc .circle) (length cs)) refl
+  where
+    by : (b : Bool) → ltb (arc .circle) (length cs) ≡ b → Every (Most (j + 400000) 1074) (cond b (arcSlopes g (getD cs (arc .circle) noCircle) arc) g)
+    by true t = slopes-most j g (getD cs (arc .circle) noCircle) arc e (every-at InDomain cs (arc .circle) noCircle (ltb-true _ _ t) d) hs room
+    by false t = every-map g (λ z m. most-weaken m (omega arith)) e
 
-  arc-slopes-most : (j : ℕ) (g : List Float) (cs : List Circle) (arc : BoundaryArc) → Every (Most j 1074) g → Every InDomain cs → Short arc
-      → j + 400000 ≤ 2 ^ 53 → Every (Most (j + 400000) 1074) (addSlopes cs g arc)
-  unfolding addSlopes
-  arc-slopes-most j g cs arc e d hs room = by (ltb (arc .circle) (length cs)) refl
-    where
-      by : (b : Bool) → ltb (arc .circle) (length cs) ≡ b → Every (Most (j + 400000) 1074) (cond b (arcSlopes g (getD cs (arc .circle) noCircle) arc) g)
-      by true t = slopes-most j g (getD cs (arc .circle) noCircle) arc e (every-at InDomain cs (arc .circle) noCircle (ltb-true _ _ t) d) hs room
-      by false t = every-map g (λ z m. most-weaken m (omega arith)) e
+gradient-most : (arcs : List BoundaryArc) (j : ℕ) (g : List Float) (cs : List Circle) → Every (Most j 1074) g → Every InDomain cs → Every ShortArc arcs
+    → j + length arcs * 400000 ≤ 2 ^ 53 → Every (Most (j + length arcs * 400000) 1074) (addGradient cs g arcs)
+unfolding addGradient
+gradient-most [] j g cs e d hs room = every-map g (λ z m. most-weaken m (omega arith)) e
+gradient-most (arc ∷ arcs) j g cs e d hs room =
+    every-map (addGradient cs (addSlopes cs g arc) arcs) (λ z m. most-weaken m (omega arith))
+    (gradient-most arcs (j + 400000) (addSlopes cs g arc) cs (arc-slopes-most j g cs arc e d (hs .0) (omega arith)) d (hs .1) (omega arith))
 
-  gradient-most : (arcs : List BoundaryArc) (j : ℕ) (g : List Float) (cs : List Circle) → Every (Most j 1074) g → Every InDomain cs → Every Short arcs
-      → j + length arcs * 400000 ≤ 2 ^ 53 → Every (Most (j + length arcs * 400000) 1074) (addGradient cs g arcs)
-  unfolding addGradient
-  gradient-most [] j g cs e d hs room = every-map g (λ z m. most-weaken m (omega arith)) e
-  gradient-most (arc ∷ arcs) j g cs e d hs room =
-      every-map (addGradient cs (addSlopes cs g arc) arcs) (λ z m. most-weaken m (omega arith))
-      (gradient-most arcs (j + 400000) (addSlopes cs g arc) cs (arc-slopes-most j g cs arc e d (hs .0) (omega arith)) d (hs .1) (omega arith))
+-- The gradient of at most 180 arcs is finite, and each entry at most 72,000,000.
+pub arcs-gradient-finite : ArcsGradientFinite
+arcs-gradient-finite cs arcs m d short few =
+    every-map (addGradient cs (replicate m zero64) arcs) (λ z h. most-weaken h (omega arith))
+    (gradient-most arcs 0 (replicate m zero64) cs (every-replicate (Most 0 1074) m zero64 most-zero) d short (omega arith))
 
--- Gradients of open areas are finite, and each entry at most 72,000,000.
+-- Gradients of open areas by position are finite.
 pub gradient-finite : GradientFinite
 unfolding openGradient
-gradient-finite promised ms d few =
-    every-map (addGradient (circlesOf ms) (replicate (3 * length ms) zero64) (outline ms)) (λ z m. most-weaken m (omega arith))
-    (gradient-most promised (outline ms) 0 (replicate (3 * length ms) zero64) (circlesOf ms) (zeros (3 * length ms)) d (outline-short promised ms) (omega arith))
+gradient-finite ms d few = arcs-gradient-finite (circlesOf ms) (outline ms) (3 * length ms) d (outline-short ms) few
+
+-- Gradients of open areas by head number are finite.
+pub region-gradient-finite : RegionGradientFinite
+region-gradient-finite cs points S m d = arcs-gradient-finite cs (regionArcs cs points S) m d (region-short cs points S) (region-few cs points S)

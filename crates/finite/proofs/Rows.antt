@@ -1,27 +1,40 @@
--- Open rows of heads within the limits are finite.
-use mathlib.Core.Path.{_≡_, sym}
-use mathlib.Core.List.{List, [], _∷_, map}
-use Prim.Native.Nat.{ℕ, _^_, _≤_, _<_, suc-le-suc}
+-- The open rows of heads within the limits, and so of a taken plan, are finite. Rests on proofs/Open.antt: the circles of such
+-- heads are of the domain, and ten circles have outlines of at most 180 arcs.
+use mathlib.Core.Path.{sym}
+use mathlib.Core.Bool.{Bool, true, false, cond}
+use mathlib.Core.List.{List, [], _∷_}
+use Prim.Native.Nat.{ℕ, zero, suc, _*_, _≤_, _<_, suc-le-suc}
 use native.Mathlib.Nat.{le-trans}
 use lib.Dec.{leb→le, lit≤}
-use lib.Ieee.{binary64, ofInt}
+use lib.Ieee.{Float, binary64, ofInt}
 use lib.IntN.{ℤ, pos, negsuc, natAbs, negℤ}
 use lib.ListN.{length}
 use Rattle.binary64.specs.Magnitude.{Most}
+use Rattle.binary64.specs.Constants.{zero64-is}
+use Rattle.binary64.proofs.Magnitude.{most-zero}
 use Rattle.binary64.proofs.Whole.{ofInt-most}
 use Rattle.heads.specs.declared.Head.{Head}
-use Rattle.plan.specs.Exactly.{Within, HeadMet}
-use Rattle.regions.specs.Row.{rowArea}
+use Rattle.plan.specs.Exactly.{Within, HeadMet, plan-taken}
+use Rattle.regions.specs.Edit.{absent, present, afreshRow}
+use Rattle.regions.specs.Table.{areaAt, headAt}
 use Rattle.exact.specs.Circle.{circleOf}
-use Rattle.boundary.specs.Set.{headsOf, circleAt, membersOf}
+use Rattle.geometry.specs.declared.circle.Circle.{Circle}
+use Rattle.outline.specs.declared.points.IntersectionPoint.{IntersectionPoint}
+use Rattle.outline.specs.Area.{noCircle}
+use Rattle.outline.specs.Outline.{circlesOf}
+use Rattle.outline.specs.Set.{headsOf, circleAt, membersOf}
 use Rattle.outline.specs.Points.{collected}
 use Rattle.outline.specs.Counts.{heads-below, outline-few}
-use Rattle.boundary.specs.Every.{Every, every-map}
+use Rattle.outline.specs.Every.{Every, every-map, every-upTo}
 use Rattle.outline.proofs.Walking.{circles-of-members}
-use Rattle.areas.specs.Open.{circlesOfHeads, openGeometry}
-use Rattle.areas.proofs.Open.{circles-length, circle-at, open-row}
-use Rattle.finite.specs.Open.{Promised, InDomain}
-use Rattle.finite.proofs.Open.{area-finite}
+use Rattle.areas.specs.Open.{circlesOfHeads, openMethod}
+use Rattle.areas.proofs.Open.{circles-length, open-row}
+use Rattle.finite.specs.Open.{InDomain}
+use Rattle.finite.specs.Rows.{HeadsFinite, PlanFinite, TableFinite}
+use Rattle.finite.proofs.Every.{every-at, every-mapped}
+use Rattle.finite.proofs.Open.{area-finite, gradient-finite, region-gradient-finite}
+
+-- ---- circles of heads
 
 float-most : (z : ℤ) → natAbs z ≤ 20000 → Most 20000 1074 (ofInt binary64 z)
 float-most z h = ofInt-most z (le-trans h (lit≤ tt)) h
@@ -43,19 +56,52 @@ circle-domain h m =
       r = float-most (h .radius) (radius-size (h .radius) (m .2));
     }
 
-every-mapped : {A B : Type 0} (P : B → Type 0) (f : A → B) (l : List A) → Every (λ a. P (f a)) l → Every P (map f l)
-every-mapped P f [] e = tt
-every-mapped P f (a ∷ l) e = (e .0, every-mapped P f l (e .1))
+pub circles-domain : (h : ℕ → Head) (n : ℕ) → ((i : ℕ) → i < n → HeadMet (h i)) → Every InDomain (circlesOfHeads h n)
+unfolding circlesOfHeads
+circles-domain h n met = every-upTo InDomain (λ i. circleOf (h i) ∷ []) n (λ i g. (circle-domain (h i) (met i g), tt))
 
--- The open row of any set of heads within the limits is finite, and at most 1,440,000,000,000.
-pub open-row-finite : Promised → (h : ℕ → Head) (n S : ℕ) → n ≤ 10 → S < 2 ^ n → ((i : ℕ) → i < n → HeadMet (h i))
-    → Most 1440000000000 1074 (rowArea openGeometry h n S)
-open-row-finite promised h n S hn hS met =
+-- the circles of a set's members are among the circles
+pub members-domain : (cs : List Circle) (points : List IntersectionPoint) (S : ℕ) → Every InDomain cs → Every InDomain (circlesOf (membersOf cs points S))
+members-domain cs points S d =
+    rw (circles-of-members cs points S)
+    (every-mapped InDomain (circleAt cs) (headsOf (length cs) S)
+    (every-map (headsOf (length cs) S) (λ j g. every-at InDomain cs j noCircle g d) (heads-below (length cs) S)))
+
+-- ---- rows
+
+-- The open row of any set of at most ten heads within the limits is finite.
+pub heads-finite : HeadsFinite
+heads-finite h n S hn hS met =
     let cs = circlesOfHeads h n in
-    let few : length cs ≤ 10 = rw (circles-length h n) hn in
-    rw (sym (open-row h n S hn hS))
-    (area-finite promised (membersOf cs (collected cs) S)
-    (rw (circles-of-members cs (collected cs) S, circles-length h n)
-    (every-mapped InDomain (circleAt cs) (headsOf n S)
-    (every-map (headsOf n S) (λ j hj. rw (circle-at h n j hj) (circle-domain (h j) (met j hj))) (heads-below n S))))
-    (outline-few cs S few))
+    let points = collected cs in
+    let d = circles-domain h n met in
+    let inside = members-domain cs points S d in
+    let few = outline-few cs S (rw (circles-length h n) hn) in
+    record {
+      area = rw (sym (open-row h n S hn hS)) (area-finite (membersOf cs points S) inside few);
+      gradient = gradient-finite (membersOf cs points S) inside few;
+      gradientByHead = region-gradient-finite cs points S (3 * n) d;
+    }
+
+-- The open row of any set of a taken plan's heads is finite.
+pub plan-finite : PlanFinite
+plan-finite p long taken S hS =
+    let ok = plan-taken p long .0 taken in
+    heads-finite (headAt p) (p .n) S (ok .count) hS (ok .heads)
+
+-- ---- tables
+
+-- An afresh row has the box's number, a set's area or +0.
+pub afresh-most : {j a : ℕ} (box : Float) (area : ℕ → Float) (sets : ℕ → Bool) (S : ℕ) → Most j a box → Most j a (area S) → Most j a (afreshRow box area sets S .number)
+unfolding afreshRow
+afresh-most box area sets zero hb ha = hb
+afresh-most {j} {a} box area sets (suc S) hb ha = by (sets (suc S))
+  where
+    by : (b : Bool) → Most j a (cond b (present (area (suc S))) absent .number)
+    by true = ha
+    by false = rw (sym zero64-is) most-zero
+
+-- Every number of the afresh table of a taken plan's open rows is finite.
+pub table-finite : TableFinite
+table-finite box sets p long taken hb S hS =
+    afresh-most (box (p .ground)) (areaAt (openMethod box sets) p) (sets p) S hb (plan-finite p long taken S hS .area)

@@ -73,7 +73,7 @@ collected-few cs h = omega (arith, rows-few cs (length cs) (omega arith), mul-le
 
 -- ---- points counted at one head
 
-keep-length : {A : Type 0} (p : A → Bool) (l : List A) → length (keep p l) ≤ length l
+pub keep-length : {A : Type 0} (p : A → Bool) (l : List A) → length (keep p l) ≤ length l
 unfolding keep
 keep-length p [] = omega arith
 keep-length p (x ∷ l) = by (p x) (keep-length p l)

@@ -1,0 +1,133 @@
+-- The rows in the box of heads within the limits, and so of a taken plan, are finite. Rests on proofs/Boxed.antt and
+-- proofs/Slopes.antt: the box of such a plan is of the domain, as are the circles of its heads.
+use mathlib.Core.Path.{refl, subst}
+use Prim.Native.Nat.{ℕ, _≤_, suc-le-suc}
+use native.Mathlib.Nat.{le-trans}
+use lib.Dec.{leb→le, lit≤}
+use lib.Ieee.{binary64, ofInt, ofBits}
+use lib.IntN.{ℤ, pos, negsuc, natAbs, negℤ}
+use lib.ListN.{replicate}
+use Rattle.binary64.specs.Units.{mag, pow2}
+use Rattle.binary64.specs.Constants.{zero64, two64}
+use Rattle.binary64.specs.Magnitude.{Most, Least}
+use Rattle.binary64.proofs.Magnitude.{literal-least, most-weaken, most-zero, add-most, sub-most, mul-most, div-most}
+use Rattle.binary64.proofs.Whole.{ofInt-most}
+use Rattle.plan.specs.declared.Ground.{Ground}
+use Rattle.plan.specs.Exactly.{Within, plan-taken}
+use Rattle.plan.specs.Sound.{GroundMet}
+use Rattle.plan.specs.Table.{gradientWidth}
+use Rattle.regions.specs.Table.{headAt, areaAt}
+use Rattle.geometry.specs.Floats.{_/ᶠ_}
+use Rattle.geometry.specs.Rectangle.{area, bounds}
+use Rattle.outline.specs.Set.{regionArcs}
+use Rattle.outline.specs.Points.{collected}
+use Rattle.outline.specs.Counts.{outline-few}
+use Rattle.outline.specs.Every.{Every}
+use Rattle.outline.proofs.Walking.{circles-of-members}
+use Rattle.areas.specs.Open.{circlesOfHeads, membersOfPlan}
+use Rattle.areas.specs.Boxed.{boxOf, clippedMethod}
+use Rattle.areas.proofs.Open.{circles-length}
+use Rattle.areas.proofs.Boxed.{boxed-row, boxed-gradient-row}
+use Rattle.finite.specs.Open.{InDomain}
+use Rattle.finite.specs.Boxed.{BoxInDomain, GradientMost}
+use Rattle.finite.specs.BoxedRows.{ownCircles, HeadsInBoxFinite, PlanInBoxFinite, PlanRowFinite, PlanBoxFinite, TableInBoxFinite}
+use Rattle.finite.proofs.Every.{every-replicate}
+use Rattle.finite.proofs.Open.{region-short, region-few}
+use Rattle.finite.proofs.Rows.{circles-domain, members-domain, afresh-most}
+use Rattle.finite.proofs.Boxed.{clipped-area-finite, area-in-box-finite}
+use Rattle.finite.proofs.Slopes.{clipped-gradient-finite, gradient-in-box-finite}
+
+-- ---- the box
+
+-- a whole number between two limits is no larger than both
+within-size : (low high z : ℤ) (j : ℕ) → natAbs low ≤ j → natAbs high ≤ j → Within low high z → natAbs z ≤ j
+within-size low (pos m) (pos n) j hl hh w = le-trans (leb→le n m (w .1 .le)) hh
+within-size low (negsuc m) (pos n) j hl hh w = absurd (w .1 .le)
+within-size (negsuc m) high (negsuc n) j hl hh w = le-trans (suc-le-suc (leb→le n m (w .0 .le))) hl
+within-size (pos m) high (negsuc n) j hl hh w = absurd (w .0 .le)
+
+float-most : (z : ℤ) (j : ℕ) → j ≤ 40000 → natAbs z ≤ j → Most j 1074 (ofInt binary64 z)
+float-most z j few h = ofInt-most z (le-trans h (le-trans few (lit≤ tt))) h
+
+position-most : (z : ℤ) → Within (negℤ (pos 20000)) (pos 20000) z → Most 20000 1074 (ofInt binary64 z)
+position-most z w = float-most z 20000 (lit≤ tt) (within-size (negℤ (pos 20000)) (pos 20000) z 20000 (lit≤ tt) (lit≤ tt) w)
+
+side-most : (z : ℤ) → Within (pos 1) (pos 40000) z → Most 40000 1074 (ofInt binary64 z)
+side-most z w = float-most z 40000 (lit≤ tt) (within-size (pos 1) (pos 40000) z 40000 (lit≤ tt) (lit≤ tt) w)
+
+two-least : Least 2 1074 two64
+unfolding ofBits mag pow2
+two-least = literal-least 0x4000_0000_0000_0000 2 1074 tt tt
+
+half-side-most : (z : ℤ) → Within (pos 1) (pos 40000) z → Most 20000 1074 (ofInt binary64 z /ᶠ two64)
+half-side-most z w = div-most (side-most z w) two-least 20000 1074 refl (lit≤ tt) (lit≤ tt) (lit≤ tt) (lit≤ tt)
+
+-- the box within the limits is a box of the domain
+box-domain : (g : Ground) → GroundMet g → BoxInDomain (bounds (boxOf g))
+unfolding boxOf
+box-domain g m =
+    let x = position-most (g .x) (m .0) in
+    let y = position-most (g .y) (m .1) in
+    let wide = half-side-most (g .width) (m .2) in
+    let high = half-side-most (g .height) (m .3) in
+    record {
+      x-min = sub-most x wide (lit≤ tt) (lit≤ tt);
+      x-max = add-most x wide (lit≤ tt) (lit≤ tt);
+      y-min = sub-most y high (lit≤ tt) (lit≤ tt);
+      y-max = add-most y high (lit≤ tt) (lit≤ tt);
+    }
+
+box-area-most : (g : Ground) → GroundMet g → Most 1600000000 1074 (area (boxOf g))
+unfolding boxOf
+box-area-most g m = mul-most (side-most (g .width) (m .2)) (side-most (g .height) (m .3)) 1074 refl (lit≤ tt) (lit≤ tt)
+
+-- ---- rows
+
+-- The row in the box of any set of at most ten heads, box and heads within the limits, is finite.
+pub heads-in-box-finite : HeadsInBoxFinite
+heads-in-box-finite g h n S hn ground met =
+    let box = bounds (boxOf g) in
+    let cs = circlesOfHeads h n in
+    let points = collected cs in
+    let arcs = regionArcs cs points S in
+    let b = box-domain g ground in
+    let d = circles-domain h n met in
+    let inside = members-domain cs points S d in
+    let own = subst (Every InDomain) (circles-of-members cs points S) inside in
+    let few = outline-few cs S (rw (circles-length h n) hn) in
+    let short = region-short cs points S in
+    let few-arcs = region-few cs points S in
+    let zeros = every-replicate (Most 0 1074) (gradientWidth n) zero64 most-zero in
+    record {
+      area = area-in-box-finite box (membersOfPlan h n S) b inside few;
+      gradient = gradient-in-box-finite box (membersOfPlan h n S) b inside few;
+      numberedArea = clipped-area-finite box cs (ownCircles cs S) arcs b d own short few-arcs;
+      numberedGradient = clipped-gradient-finite box cs (ownCircles cs S) arcs 0 (replicate (gradientWidth n) zero64) b d own short few-arcs zeros (lit≤ tt);
+    }
+
+-- The row in the box of any set of a taken plan's heads is finite.
+pub plan-in-box-finite : PlanInBoxFinite
+plan-in-box-finite p long taken S =
+    let ok = plan-taken p long .0 taken in
+    heads-in-box-finite (p .ground) (headAt p) (p .n) S (ok .count) (ok .x, ok .y, ok .width, ok .height) (ok .heads)
+
+pub plan-row-finite : PlanRowFinite
+plan-row-finite p long taken S hS =
+    let box = bounds (boxOf (p .ground)) in
+    let few = plan-taken p long .0 taken .count in
+    let most = plan-in-box-finite p long taken S in (
+      subst (Most 41197685760000 1074) (boxed-row box (headAt p) (p .n) S few hS) (most .area),
+      subst (GradientMost 41197685760000 31490604288) (boxed-gradient-row box (headAt p) (p .n) S few hS) (most .gradient),
+    )
+
+-- And so is the area of its box.
+pub plan-box-finite : PlanBoxFinite
+plan-box-finite p long taken =
+    let ok = plan-taken p long .0 taken in
+    box-area-most (p .ground) (ok .x, ok .y, ok .width, ok .height)
+
+-- Every number of the afresh table of a taken plan's rows in its box is finite.
+pub table-in-box-finite : TableInBoxFinite
+table-in-box-finite sets p long taken S hS =
+    afresh-most (area (boxOf (p .ground))) (areaAt (clippedMethod sets) p) (sets p) S (most-weaken (plan-box-finite p long taken) (lit≤ tt))
+    (plan-row-finite p long taken S hS .0)
