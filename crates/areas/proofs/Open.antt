@@ -43,11 +43,12 @@ use Rattle.regions.proofs.Lists.{upTo-cong, upTo-through}
 use Rattle.geometry.specs.Circle.{intersectionPoints}
 use Rattle.geometry.specs.declared.point.Point.{Point}
 use Rattle.geometry.specs.declared.circle.Circle.{Circle}
-use Rattle.outline.specs.declared.points.IntersectionPoint.{IntersectionPoint}
-use Rattle.outline.specs.Outline.{Member, circlesOf, outline}
-use Rattle.outline.specs.declared.arcs.BoundaryArc.{BoundaryArc}
-use Rattle.outline.specs.Area.{noCircle, areaOf, openArea, addGradient, openGradient}
-use Rattle.outline.specs.Set.{headsOf, countedFor, pointsFor, circleAt, memberAt, membersOf}
+use Rattle.boundary.specs.declared.points.IntersectionPoint.{IntersectionPoint}
+use Rattle.boundary.specs.Outline.{Member, circlesOf, outline}
+use Rattle.boundary.specs.declared.arcs.BoundaryArc.{BoundaryArc}
+use Rattle.boundary.specs.Outline.{noCircle}
+use Rattle.outline.specs.Area.{areaOf, openArea, addGradient, openGradient}
+use Rattle.boundary.specs.Set.{headsOf, countedFor, pointsFor, circleAt, memberAt, membersOf}
 use Rattle.outline.specs.Points.{adopts, met, pairPoints, rowPoints, collected}
 use Rattle.outline.specs.Counts.{points-whole}
 use Rattle.exact.specs.Circle.{circleOf}

@@ -16,11 +16,11 @@ use Rattle.geometry.specs.Circle.{intersectionPoints}
 use Rattle.exact.specs.Circle.{circleOf}
 use Rattle.geometry.specs.declared.point.Point.{Point}
 use Rattle.geometry.specs.declared.circle.Circle.{Circle}
-use Rattle.outline.specs.declared.points.IntersectionPoint.{IntersectionPoint}
-use Rattle.outline.specs.Outline.{Member}
+use Rattle.boundary.specs.declared.points.IntersectionPoint.{IntersectionPoint}
+use Rattle.boundary.specs.Outline.{Member}
 use Rattle.outline.specs.Area.{openArea, openGradient}
 use Rattle.outline.specs.Points.{adoptsPoint, collected}
-use Rattle.outline.specs.Set.{membersOf}
+use Rattle.boundary.specs.Set.{membersOf}
 
 -- the circles of n heads
 unfoldable pub circlesOfHeads : (ℕ → Head) → ℕ → List Circle

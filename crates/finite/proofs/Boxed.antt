@@ -20,13 +20,13 @@ use Rattle.elementary.specs.Sine.{sine as sin, cosine as cos}
 use Rattle.geometry.specs.Floats.{_+ᶠ_, _-ᶠ_, _*ᶠ_, _/ᶠ_, _≤ᶠ_}
 use Rattle.geometry.specs.declared.bounds.Bounds.{Bounds}
 use Rattle.geometry.specs.declared.circle.Circle.{Circle}
-use Rattle.outline.specs.declared.arcs.BoundaryArc.{BoundaryArc}
-use Rattle.outline.specs.Every.{Every, every-append}
+use Rattle.boundary.specs.declared.arcs.BoundaryArc.{BoundaryArc}
+use Rattle.boundary.specs.Every.{Every, every-append}
 use Rattle.outline.specs.Counts.{sorted-length}
-use Rattle.outline.specs.Outline.{circlesOf, outline}
-use Rattle.outline.specs.Area.{noCircle}
-use Rattle.clip.specs.Breaks.{strictlyInside, copies, periodicInRange, verticalCrossings, horizontalCrossings, crossings, breaksBetween, breaks}
-use Rattle.clip.specs.Parts.{summed, subArc, addPart, clippedArcIntegral}
+use Rattle.boundary.specs.Outline.{circlesOf, outline}
+use Rattle.boundary.specs.Outline.{noCircle}
+use Rattle.inside.specs.Breaks.{strictlyInside, copies, periodicInRange, verticalCrossings, horizontalCrossings, crossings, breaksBetween, breaks}
+use Rattle.inside.specs.Parts.{summed, subArc, addPart, clippedArcIntegral}
 use Rattle.clip.specs.Area.{emptyBox, addClippedArc, addClippedArcs, clippedAreaOf, clippedArea}
 use Rattle.finite.specs.Open.{InDomain}
 use Rattle.finite.specs.Arcs.{ShortArc}

@@ -14,15 +14,15 @@ use Rattle.binary64.proofs.Magnitude.{literal-least, most-weaken, most-zero, ad
 use Rattle.binary64.proofs.Whole.{ofInt-most}
 use Rattle.plan.specs.declared.Ground.{Ground}
 use Rattle.plan.specs.Exactly.{Within, plan-taken}
-use Rattle.plan.specs.Sound.{GroundMet}
+use Rattle.file.specs.Sound.{GroundMet}
 use Rattle.plan.specs.Table.{gradientWidth}
 use Rattle.regions.specs.Table.{headAt, areaAt}
 use Rattle.geometry.specs.Floats.{_/ᶠ_}
 use Rattle.geometry.specs.Rectangle.{area, bounds}
-use Rattle.outline.specs.Set.{regionArcs}
+use Rattle.boundary.specs.Set.{regionArcs}
 use Rattle.outline.specs.Points.{collected}
 use Rattle.outline.specs.Counts.{outline-few}
-use Rattle.outline.specs.Every.{Every}
+use Rattle.boundary.specs.Every.{Every}
 use Rattle.outline.proofs.Walking.{circles-of-members}
 use Rattle.areas.specs.Open.{circlesOfHeads, membersOfPlan}
 use Rattle.areas.specs.Boxed.{boxOf, clippedMethod}

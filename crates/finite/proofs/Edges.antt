@@ -13,8 +13,8 @@ use Rattle.binary64.proofs.Magnitude.{most-weaken, most-either, most-zero, neg-
 use Rattle.geometry.specs.Floats.{_+ᶠ_, _-ᶠ_, _<ᶠ_}
 use Rattle.geometry.specs.declared.bounds.Bounds.{Bounds}
 use Rattle.geometry.specs.declared.circle.Circle.{Circle}
-use Rattle.outline.specs.Every.{Every, every-map}
-use Rattle.clip.specs.Span.{Interval, between, halfChord, missed, raised, lowered, lowEnd, highEnd, open-between, horizontalSpan, swapped, verticalSpan}
+use Rattle.boundary.specs.Every.{Every, every-map}
+use Rattle.inside.specs.Span.{Interval, between, halfChord, missed, raised, lowered, lowEnd, highEnd, open-between, horizontalSpan, swapped, verticalSpan}
 use Rattle.clip.specs.Area.{addSpan, addEdges}
 use Rattle.finite.specs.Open.{InDomain}
 use Rattle.finite.specs.Boxed.{BoxInDomain}

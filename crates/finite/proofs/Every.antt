@@ -7,9 +7,9 @@ use native.Mathlib.Omega.{arith}
 use lib.ListN.{length, getD, set, replicate, take}
 use lib.Ieee.{Float}
 use Rattle.regions.specs.Row.{keep}
-use Rattle.outline.specs.Every.{Every}
-use Rattle.outline.specs.Sort.{insert, sortOnto, sorted}
-use Rattle.outline.proofs.Ordering.{insert-every}
+use Rattle.boundary.specs.Every.{Every}
+use Rattle.boundary.specs.Sort.{insert, sortOnto, sorted}
+use Rattle.boundary.proofs.Ordering.{insert-every}
 pub use Rattle.outline.specs.Counts.{keep-length as keep-few}
 
 -- ---- one element

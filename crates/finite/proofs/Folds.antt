@@ -6,8 +6,8 @@ use Prim.Native.Nat.{ℕ, suc, _+_, _≤_, _<_}
 use native.Mathlib.Omega.{arith}
 use lib.Ieee.{Float}
 use lib.ListN.{length}
-use Rattle.outline.specs.Every.{Every}
-use Rattle.clip.specs.Parts.{overPairs}
+use Rattle.boundary.specs.Every.{Every}
+use Rattle.inside.specs.Parts.{overPairs}
 
 -- over the elements of a list
 module _ {A S : Type 0} (After : ℕ → S → Type 0) (P : A → Type 0) (f : S → A → S) (most : ℕ)

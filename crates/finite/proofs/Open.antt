@@ -25,12 +25,13 @@ use Rattle.elementary.specs.Sine.{sine as sin, cosine as cos}
 use Rattle.geometry.specs.Floats.{_+ᶠ_, _-ᶠ_, _*ᶠ_, _<ᶠ_, _≤ᶠ_}
 use Rattle.geometry.specs.declared.point.Point.{Point}
 use Rattle.geometry.specs.declared.circle.Circle.{Circle}
-use Rattle.outline.specs.declared.arcs.BoundaryArc.{BoundaryArc}
-use Rattle.outline.specs.declared.points.IntersectionPoint.{IntersectionPoint}
-use Rattle.outline.specs.Every.{Every, every-append, every-map, every-upTo}
-use Rattle.outline.specs.Outline.{Member, circlesOf, angleAbout, wrapAngle, gap, collapsed, owned, pointAt, probe, fullCircle, between, arcFrom, arcsAt, anglesOf, outlineFrom, outline}
-use Rattle.outline.specs.Area.{noCircle, arcTerms, addArc, addArcs, areaOf, openArea, addAt, subAt, arcSlopes, addSlopes, addGradient, openGradient}
-use Rattle.outline.specs.Set.{headsOf, membersOf, numbered, arcsHeld, regionArcs}
+use Rattle.boundary.specs.declared.arcs.BoundaryArc.{BoundaryArc}
+use Rattle.boundary.specs.declared.points.IntersectionPoint.{IntersectionPoint}
+use Rattle.boundary.specs.Every.{Every, every-append, every-map, every-upTo}
+use Rattle.boundary.specs.Outline.{Member, circlesOf, angleAbout, wrapAngle, gap, collapsed, owned, pointAt, probe, fullCircle, between, arcFrom, arcsAt, anglesOf, outlineFrom, outline}
+use Rattle.boundary.specs.Outline.{noCircle}
+use Rattle.outline.specs.Area.{arcTerms, addArc, addArcs, areaOf, openArea, addAt, subAt, arcSlopes, addSlopes, addGradient, openGradient}
+use Rattle.boundary.specs.Set.{headsOf, membersOf, numbered, arcsHeld, regionArcs}
 use Rattle.finite.specs.Arcs.{ShortArc, OutlineShort, OutlineEnds}
 use Rattle.finite.specs.Open.{InDomain, ArcsAreaFinite, ArcsGradientFinite, AreaFinite, GradientFinite, RegionAreaFinite, RegionGradientFinite}
 use Rattle.finite.proofs.Every.{every-at, every-set, sorted-every, every-mapped, every-replicate, every-take}

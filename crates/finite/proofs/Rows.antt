@@ -19,13 +19,13 @@ use Rattle.regions.specs.Edit.{absent, present, afreshRow}
 use Rattle.regions.specs.Table.{areaAt, headAt}
 use Rattle.exact.specs.Circle.{circleOf}
 use Rattle.geometry.specs.declared.circle.Circle.{Circle}
-use Rattle.outline.specs.declared.points.IntersectionPoint.{IntersectionPoint}
-use Rattle.outline.specs.Area.{noCircle}
-use Rattle.outline.specs.Outline.{circlesOf}
-use Rattle.outline.specs.Set.{headsOf, circleAt, membersOf}
+use Rattle.boundary.specs.declared.points.IntersectionPoint.{IntersectionPoint}
+use Rattle.boundary.specs.Outline.{noCircle}
+use Rattle.boundary.specs.Outline.{circlesOf}
+use Rattle.boundary.specs.Set.{headsOf, circleAt, membersOf}
 use Rattle.outline.specs.Points.{collected}
 use Rattle.outline.specs.Counts.{heads-below, outline-few}
-use Rattle.outline.specs.Every.{Every, every-map, every-upTo}
+use Rattle.boundary.specs.Every.{Every, every-map, every-upTo}
 use Rattle.outline.proofs.Walking.{circles-of-members}
 use Rattle.areas.specs.Open.{circlesOfHeads, openMethod}
 use Rattle.areas.proofs.Open.{circles-length, open-row}

@@ -17,14 +17,15 @@ use Rattle.elementary.specs.Sine.{sine as sin, cosine as cos}
 use Rattle.geometry.specs.Floats.{_+ᶠ_, _-ᶠ_, _*ᶠ_, _/ᶠ_}
 use Rattle.geometry.specs.declared.bounds.Bounds.{Bounds}
 use Rattle.geometry.specs.declared.circle.Circle.{Circle}
-use Rattle.outline.specs.declared.arcs.BoundaryArc.{BoundaryArc}
-use Rattle.outline.specs.Every.{Every, every-map}
-use Rattle.outline.specs.Outline.{circlesOf, outline}
-use Rattle.outline.specs.Area.{noCircle, addAt, subAt}
+use Rattle.boundary.specs.declared.arcs.BoundaryArc.{BoundaryArc}
+use Rattle.boundary.specs.Every.{Every, every-map}
+use Rattle.boundary.specs.Outline.{circlesOf, outline}
+use Rattle.boundary.specs.Outline.{noCircle}
+use Rattle.outline.specs.Area.{addAt, subAt}
 use Rattle.clip.specs.declared.edges.Edge.{Edge}
-use Rattle.clip.specs.Breaks.{breaks}
-use Rattle.clip.specs.Parts.{summed}
-use Rattle.clip.specs.Span.{Interval}
+use Rattle.inside.specs.Breaks.{breaks}
+use Rattle.inside.specs.Parts.{summed}
+use Rattle.inside.specs.Span.{Interval}
 use Rattle.clip.specs.Area.{emptyBox}
 use Rattle.clip.specs.Gradient.{WithGradient, with-gradient, subArcByDifferences, partSlopes, subArcWithGradient, addPartWithGradient, clippedArcIntegralWithGradient, addClippedArcWithGradient, addClippedArcsWithGradient, moved, fourᶠ, edgeSlopes, addSpanWithGradient, bottomEdge, rightEdge, topEdge, leftEdge, addEdgesWithGradient, clippedWithGradient, clippedOnto, clippedGradient}
 use Rattle.finite.specs.Arcs.{ShortArc}

@@ -2,9 +2,9 @@
 -- A bound is a whole number j: `Most j 1074 x` says that x is finite and |x| ≤ j.
 use mathlib.Core.List.{List}
 use Rattle.binary64.specs.Magnitude.{Most}
-use Rattle.outline.specs.declared.arcs.BoundaryArc.{BoundaryArc}
-use Rattle.outline.specs.Every.{Every}
-use Rattle.outline.specs.Outline.{Member, outline}
+use Rattle.boundary.specs.declared.arcs.BoundaryArc.{BoundaryArc}
+use Rattle.boundary.specs.Every.{Every}
+use Rattle.boundary.specs.Outline.{Member, outline}
 
 -- an arc that starts at an angle of at most 4, and whose length is at most 16
 pub record ShortArc (arc : BoundaryArc) : Type 0 where

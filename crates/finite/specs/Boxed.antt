@@ -8,12 +8,12 @@ use Rattle.binary64.specs.Constants.{zero64}
 use Rattle.binary64.specs.Magnitude.{Most}
 use Rattle.geometry.specs.declared.bounds.Bounds.{Bounds}
 use Rattle.geometry.specs.declared.circle.Circle.{Circle}
-use Rattle.outline.specs.declared.arcs.BoundaryArc.{BoundaryArc}
-use Rattle.outline.specs.Every.{Every}
-use Rattle.outline.specs.Outline.{Member, circlesOf, outline}
+use Rattle.boundary.specs.declared.arcs.BoundaryArc.{BoundaryArc}
+use Rattle.boundary.specs.Every.{Every}
+use Rattle.boundary.specs.Outline.{Member, circlesOf, outline}
 use Rattle.finite.specs.Arcs.{ShortArc}
 use Rattle.finite.specs.Open.{InDomain}
-use Rattle.clip.specs.Parts.{clippedArcIntegral}
+use Rattle.inside.specs.Parts.{clippedArcIntegral}
 use Rattle.clip.specs.Area.{addClippedArcs, clippedAreaOf, clippedArea}
 use Rattle.clip.specs.Gradient.{WithGradient, clippedWithGradient, clippedGradient}
 

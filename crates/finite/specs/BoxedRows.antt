@@ -14,7 +14,7 @@ use Rattle.plan.specs.declared.Ground.{Ground}
 use Rattle.plan.specs.declared.Plan.{Plan}
 use Rattle.plan.specs.Checks.{planAnswer}
 use Rattle.plan.specs.Exactly.{HeadMet}
-use Rattle.plan.specs.Sound.{GroundMet}
+use Rattle.file.specs.Sound.{GroundMet}
 use Rattle.plan.specs.Table.{gradientWidth}
 use Rattle.regions.specs.Row.{rowArea}
 use Rattle.regions.specs.Table.{headAt, afresh}
@@ -22,7 +22,7 @@ use Rattle.geometry.specs.Rectangle.{area, bounds}
 use Rattle.geometry.specs.declared.bounds.Bounds.{Bounds}
 use Rattle.geometry.specs.declared.circle.Circle.{Circle}
 use Rattle.outline.specs.Points.{collected}
-use Rattle.outline.specs.Set.{headsOf, circleAt, regionArcs}
+use Rattle.boundary.specs.Set.{headsOf, circleAt, regionArcs}
 use Rattle.areas.specs.Open.{circlesOfHeads, membersOfPlan}
 use Rattle.areas.specs.Boxed.{boxOf, clippedGeometry, clippedMethod, clippedGradientRow}
 use Rattle.clip.specs.Area.{clippedAreaOf, clippedArea}

@@ -2,26 +2,17 @@
 -- A bound is a whole number j: `Most j 1074 x` says that x is finite and |x| ≤ j.
 use Prim.Native.Nat.{ℕ, _≤_}
 use mathlib.Core.List.{List}
-use lib.Ieee.{Float}
 use lib.ListN.{length, replicate}
 use Rattle.binary64.specs.Constants.{zero64}
 use Rattle.binary64.specs.Magnitude.{Most}
-use Rattle.elementary.specs.Sine.{sine as sin, cosine as cos}
-use Rattle.elementary.specs.Arctangent.{atan2}
 use Rattle.geometry.specs.declared.circle.Circle.{Circle}
-use Rattle.outline.specs.declared.arcs.BoundaryArc.{BoundaryArc}
-use Rattle.outline.specs.declared.points.IntersectionPoint.{IntersectionPoint}
-use Rattle.outline.specs.Every.{Every}
-use Rattle.outline.specs.Outline.{Member, circlesOf, outline}
+use Rattle.boundary.specs.declared.arcs.BoundaryArc.{BoundaryArc}
+use Rattle.boundary.specs.declared.points.IntersectionPoint.{IntersectionPoint}
+use Rattle.boundary.specs.Every.{Every}
+use Rattle.boundary.specs.Outline.{Member, circlesOf, outline}
 use Rattle.outline.specs.Area.{areaOf, addGradient, openArea, openGradient}
-use Rattle.outline.specs.Set.{regionArcs}
+use Rattle.boundary.specs.Set.{regionArcs}
 use Rattle.finite.specs.Arcs.{ShortArc}
-
--- What document 01 promises of the lower crate, and all that is asked of it here: |sin|, |cos| ≤ 1 and |atan2| ≤ PI < 4.
-pub record Promised : Type 0 where
-  pub sine : (v : Float) → Most 1 1074 (sin v)
-  pub cosine : (v : Float) → Most 1 1074 (cos v)
-  pub arctangent : (y x : Float) → Most 4 1074 (atan2 y x)
 
 -- a circle of the domain: centre and radius at most 20000
 pub record InDomain (c : Circle) : Type 0 where

@@ -17,9 +17,9 @@ use Rattle.plan.specs.Exactly.{HeadMet}
 use Rattle.regions.specs.Row.{rowArea}
 use Rattle.regions.specs.Table.{headAt, afresh}
 use Rattle.outline.specs.Area.{addGradient, openGradient}
-use Rattle.outline.specs.Every.{Every}
+use Rattle.boundary.specs.Every.{Every}
 use Rattle.outline.specs.Points.{collected}
-use Rattle.outline.specs.Set.{membersOf, regionArcs}
+use Rattle.boundary.specs.Set.{membersOf, regionArcs}
 use Rattle.areas.specs.Open.{circlesOfHeads, openGeometry, openMethod}
 
 -- the gradient of row S of n heads by position in the set: x, y and radius of each of its heads in turn
