@@ -69,10 +69,14 @@ every-at P [] i d h e = absurd (omega arith)
 every-at P (x ∷ l) zero d h e = e .0
 every-at P (x ∷ l) (suc i) d h e = every-at P l i d (omega arith) (e .1)
 
+-- the circles of the heads, by position
+abbrev pub own : List Circle → List ℕ → List Circle
+own circles heads = map (circleAt circles) heads
+
 module _ (circles : List Circle) (heads : List ℕ) (below : Every (λ j. j < length circles) heads) (arc : BoundaryArc) (at : arc .circle < length heads) where
   -- the circle by position
-  pub has-own : ltb (arc .circle) (length (map (circleAt circles) heads)) ≡ true
-  has-own = lt-ltb (arc .circle) (length (map (circleAt circles) heads)) (rw (length-map heads (circleAt circles)) at)
+  pub has-own : ltb (arc .circle) (length (own circles heads)) ≡ true
+  has-own = lt-ltb (arc .circle) (length (own circles heads)) (rw (length-map heads (circleAt circles)) at)
 
   -- the circle by head
   pub has-head : ltb (numbered heads arc .circle) (length circles) ≡ true
@@ -80,7 +84,7 @@ module _ (circles : List Circle) (heads : List ℕ) (below : Every (λ j. j < le
   has-head = lt-ltb (getD heads (arc .circle) 0) (length circles) (every-at (λ j. j < length circles) heads (arc .circle) 0 at below)
 
   -- is the same
-  pub same-circle : getD (map (circleAt circles) heads) (arc .circle) noCircle ≡ getD circles (numbered heads arc .circle) noCircle
+  pub same-circle : getD (own circles heads) (arc .circle) noCircle ≡ getD circles (numbered heads arc .circle) noCircle
   unfolding numbered
   same-circle = getD-map (circleAt circles) heads (arc .circle) 0 noCircle at
 

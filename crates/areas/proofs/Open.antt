@@ -2,7 +2,7 @@
 -- geometry of open rows, as specs/Open.antt states it; and open rows never go stale.
 use mathlib.Core.Path.{_≡_, refl, sym, ap, ap₂, _∙_}
 use mathlib.Core.Bool.{Bool, true, false, _&&_, _||_, cond}
-use mathlib.Core.List.{List, [], _∷_, _++_, map, map-append}
+use mathlib.Core.List.{List, [], _∷_, map, map-append}
 use mathlib.Core.Logic.{⊎-elim}
 use Prim.Native.Nat.{ℕ, zero, suc, _+_, _-_, _*_, _^_, _≤_, _<_}
 use native.Mathlib.Nat.{lt-of-lt-of-le}
@@ -14,7 +14,7 @@ use lib.Ieee.Fits.{and-i}
 use lib.Signed.{leZ}
 use lib.Ieee.{Float}
 use lib.IntN.{ℤ, pos, negℤ}
-use lib.ListN.{length, getD, replicate, length-append, length-map, List·getD-append}
+use lib.ListN.{length, replicate, length-append, length-map, List·getD-append}
 use lib.Pow.{pow-mono}
 use lib.Seq.{getD-at}
 use Rattle.heads.specs.declared.Head.{Head}

@@ -1,20 +1,21 @@
 -- Laws of scattering: where entries stand, and that changing an entry by position and scattering is scattering and changing the entry
 -- where it stands. One law for every change of an entry.
 use mathlib.Core.Path.{_≡_, refl, sym, ap, _∙_}
-use mathlib.Core.Bool.{Bool, true, false, cond}
+use mathlib.Core.Bool.{Bool, true, false, cond, true≢false}
 use mathlib.Core.List.{List, [], _∷_, _++_}
 use Prim.Native.Nat.{ℕ, zero, suc, _+_, _*_, _≤_, _<_}
 use native.Mathlib.Numerals.{unary-clauses}
 use native.Mathlib.Omega.{arith}
-use lib.ListN.{length, getD, set, replicate, length-set, length-append, length-replicate, List·getD-append}
+use lib.ListN.{length, getD, set, replicate, length-set, length-append, length-replicate, getD-replicate, List·getD-append}
 use lib.Seq.{getD-set-same, getD-set-other, set-set, set-comm, getD-append-add}
 use lib.Ieee.{Float, nan}
+use Rattle.binary64.specs.Constants.{zero64}
 use Rattle.masks.specs.Mask.{inSet}
 use Rattle.regions.specs.Row.{upTo}
-use Rattle.outline.specs.Every.{Every, every-append, every-map}
+use Rattle.outline.specs.Every.{Every, every-append, every-map, every-upTo}
 use Rattle.outline.specs.Set.{headsOf}
 use Rattle.outline.specs.Counts.{heads-below}
-use Rattle.areas.specs.Scatter.{entriesOf, boxEntries, put}
+use Rattle.areas.specs.Scatter.{entriesOf, boxEntries, put, scatter, Scatters}
 
 -- ---- increasing lists
 
@@ -58,8 +59,7 @@ unfolding entriesOf
 entries-increasing [] h = tt
 entries-increasing (j ∷ js) h =
     let after : Every (λ p. j * 3 + 2 < p) (entriesOf js) =
-    entries-every (λ j'. j < j') (λ p. j * 3 + 2 < p) (λ j' k. (omega arith, (omega arith, omega arith))) js (h .0) in
-    (
+    entries-every (λ j'. j < j') (λ p. j * 3 + 2 < p) (λ j' k. (omega arith, (omega arith, omega arith))) js (h .0) in (
       (omega arith, (omega arith, every-map (entriesOf js) (λ p k. omega arith) after)),
       ((omega arith, every-map (entriesOf js) (λ p k. omega arith) after), (after, entries-increasing js (h .1))),
     )
@@ -180,3 +180,52 @@ entry-changed ps out g G q p f i b at s = record {
       rw (s .same, at .1, put-at ps g out (length out) q nan i b refl (s .many) (at .0))
       (put-set ps g out q (f (getD g q nan)) i (s .many) (at .0));
 }
+
+-- ---- what scattering does
+
+put-length : (ps : List ℕ) (g out : List Float) → length (put ps g out) ≡ length out
+unfolding put
+put-length [] g out = refl
+put-length (p ∷ ps) [] out = refl
+put-length (p ∷ ps) (x ∷ g) out = put-length ps g (set out p x) ∙ length-set out p x
+
+heads-in : (n S : ℕ) → Every (λ j. inSet S j ≡ true) (headsOf n S)
+unfolding headsOf
+heads-in n S = every-upTo (λ j. inSet S j ≡ true) (λ j. cond (inSet S j) (j ∷ []) []) n (λ j h. by j (inSet S j) refl)
+  where
+    by : (j : ℕ) (b : Bool) → inSet S j ≡ b → Every (λ j. inSet S j ≡ true) (cond b (j ∷ []) [])
+    by j true e = (e, tt)
+    by j false e = tt
+
+module _ (n S : ℕ) (g : List Float) where
+  many-scattered : length (scatter (headsOf n S) n g) ≡ 3 * n
+  unfolding scatter
+  many-scattered = put-length (entriesOf (headsOf n S)) g (replicate (3 * n) zero64) ∙ length-replicate (3 * n) zero64
+
+  scattered-at : length g ≡ 3 * length (headsOf n S) → (k i : ℕ) → k < length (headsOf n S) → i < 3
+      → getD (scatter (headsOf n S) n g) (getD (headsOf n S) k 0 * 3 + i) nan ≡ getD g (k * 3 + i) nan
+  unfolding scatter
+  scattered-at lg k i h l =
+      let heads = headsOf n S in
+      let many = entries-many heads in
+      rw (sym (entry-at heads k i h l))
+      (put-at (entriesOf heads) g (replicate (3 * n) zero64) (3 * n) (k * 3 + i) nan
+      (entries-increasing heads (heads-increasing n S))
+      (every-map (entriesOf heads) (λ p b. omega (arith, b)) (entries-below n heads (heads-below n S)))
+      (length-replicate (3 * n) zero64) (omega (arith, lg, many)) (omega (arith, many)))
+
+  scattered-elsewhere : (j i : ℕ) → j < n → i < 3 → inSet S j ≡ false → getD (scatter (headsOf n S) n g) (j * 3 + i) nan ≡ zero64
+  unfolding scatter
+  scattered-elsewhere j i h l e =
+      put-other (entriesOf (headsOf n S)) g (replicate (3 * n) zero64) (j * 3 + i) nan
+      (entries-every (λ j'. inSet S j' ≡ true) (λ q. j * 3 + i ≡ q → ⊥) other (headsOf n S) (heads-in n S))
+      ∙ getD-replicate (3 * n) (j * 3 + i) zero64 nan (omega arith)
+    where
+      other : (j' : ℕ) → inSet S j' ≡ true
+          → (j * 3 + i ≡ j' * 3 → ⊥) × ((j * 3 + i ≡ j' * 3 + 1 → ⊥) × (j * 3 + i ≡ j' * 3 + 2 → ⊥))
+      other j' t =
+          let differ : j ≡ j' → ⊥ = λ d. true≢false (sym t ∙ ap (inSet S) (sym d) ∙ e) in
+          (λ q. differ (omega (arith, q, l)), (λ q. differ (omega (arith, q, l)), λ q. differ (omega (arith, q, l))))
+
+pub scatters : (n S : ℕ) (g : List Float) → length g ≡ 3 * length (headsOf n S) → Scatters n S g
+scatters n S g lg = record { many = many-scattered n S g; own = scattered-at n S g lg; elsewhere = scattered-elsewhere n S g }

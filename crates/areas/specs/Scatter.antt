@@ -1,12 +1,14 @@
 -- Head numbers come in by a map at the end. A row and its gradient are worked out by position in the set; the Rust's functions over a
 -- list of arcs name heads. Here is how a gradient by position becomes one by head, and the claim that the functions by head give what
 -- those by position give, bit for bit. proofs/ByHead.antt proves it: `by-head`.
-use Prim.Native.Nat.{ℕ, _+_, _*_, _≤_}
+use Prim.Native.Nat.{ℕ, _+_, _*_, _≤_, _<_}
+use mathlib.Core.Bool.{false}
 use mathlib.Core.Path.{_≡_}
 use mathlib.Core.List.{List, [], _∷_, _++_, map}
-use lib.ListN.{length, set, replicate}
-use lib.Ieee.{Float}
+use lib.ListN.{length, getD, set, replicate}
+use lib.Ieee.{Float, nan}
 use Rattle.binary64.specs.Constants.{zero64}
+use Rattle.masks.specs.Mask.{inSet}
 use Rattle.geometry.specs.declared.bounds.Bounds.{Bounds}
 use Rattle.geometry.specs.declared.circle.Circle.{Circle}
 use Rattle.outline.specs.declared.points.IntersectionPoint.{IntersectionPoint}
@@ -14,7 +16,7 @@ use Rattle.outline.specs.Outline.{circlesOf, outline}
 use Rattle.outline.specs.Area.{areaOf, addGradient, openArea, openGradient}
 use Rattle.outline.specs.Set.{headsOf, circleAt, membersOf, arcsHeld, regionArcs}
 use Rattle.clip.specs.Area.{clippedAreaOf, clippedArea}
-use Rattle.clip.specs.Gradient.{WithGradient, with-gradient, clippedWithGradient, clippedOnto, clippedGradient}
+use Rattle.clip.specs.Gradient.{with-gradient, clippedWithGradient, clippedOnto, clippedGradient}
 
 -- ---- scattering
 
@@ -42,6 +44,16 @@ scatter heads n g = put (entriesOf heads) g (replicate (3 * n) zero64)
 unfoldable pub scatterInBox : List ℕ → ℕ → List Float → List Float
 unfolding entriesOf put
 scatterInBox heads n g = put (entriesOf heads ++ boxEntries n) g (replicate (n * 3 + 4) zero64)
+
+-- What `scatter` does to a gradient g of the heads of a set S among n. proofs/Scattering.antt proves it: `scatters`.
+pub record Scatters (n S : ℕ) (g : List Float) : Type 0 where
+  -- three entries a head
+  pub many : length (scatter (headsOf n S) n g) ≡ 3 * n
+  -- entry i of position k stands at entry i of its head
+  pub own : (k i : ℕ) → k < length (headsOf n S) → i < 3
+      → getD (scatter (headsOf n S) n g) (getD (headsOf n S) k 0 * 3 + i) nan ≡ getD g (k * 3 + i) nan
+  -- the entries of a head outside the set are +0
+  pub elsewhere : (j i : ℕ) → j < n → i < 3 → inSet S j ≡ false → getD (scatter (headsOf n S) n g) (j * 3 + i) nan ≡ zero64
 
 -- ---- what is claimed of a set S of circles and their meeting points
 
