@@ -22,7 +22,8 @@ use Rattle.clip.specs.Area.{clippedAreaOf, clippedArea}
 use Rattle.clip.specs.Gradient.{clippedWithGradient, clippedOnto, clippedGradient}
 use Rattle.areas.specs.Open.{memberOf, openGeometry}
 use Rattle.areas.specs.Boxed.{clippedGeometry, clippedMethod, clippedGradientRow, BoxedRow, BoxedGradientRow}
-use Rattle.areas.proofs.Open.{as-many, of-row, open-faithful}
+use Rattle.areas.specs.Demand.{DemandThree}
+use Rattle.areas.proofs.Open.{as-many, of-row, open-faithful, demand-three}
 
 -- the members of a row in the box are those of the open row
 boxed-members : (box : Bounds) (h : ℕ → Head) (n S : ℕ)
@@ -50,3 +51,6 @@ pub clipped-list-ends-afresh : (sets : Plan → ℕ → Bool)
     → (needed : Needed) (p : Plan) → length (p .heads) ≡ 10 → planAnswer p ≡ Taken
     → (rows : ℕ → Row) → AfreshRows (clippedMethod sets) p rows → (es : List Entry) → Ends (clippedMethod sets) needed p rows es
 clipped-list-ends-afresh sets = list-ends-afresh (clippedMethod sets) (clipped-faithful sets)
+
+pub clipped-demand : (sets : Plan → ℕ → Bool) → DemandThree (clippedMethod sets)
+clipped-demand sets = demand-three (clippedMethod sets) (clipped-faithful sets)

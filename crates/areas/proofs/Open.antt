@@ -2,7 +2,7 @@
 -- geometry of open rows, as specs/Open.antt states it; and open rows never go stale.
 use mathlib.Core.Path.{_≡_, refl, sym, ap, ap₂, _∙_}
 use mathlib.Core.Bool.{Bool, true, false, _&&_, _||_, cond}
-use mathlib.Core.List.{List, [], _∷_, _++_, map, map-append}
+use mathlib.Core.List.{List, [], _∷_, map, map-append}
 use mathlib.Core.Logic.{⊎-elim}
 use Prim.Native.Nat.{ℕ, zero, suc, _+_, _-_, _*_, _^_, _≤_, _<_}
 use native.Mathlib.Nat.{lt-of-lt-of-le}
@@ -14,7 +14,7 @@ use lib.Ieee.Fits.{and-i}
 use lib.Signed.{leZ}
 use lib.Ieee.{Float}
 use lib.IntN.{ℤ, pos, negℤ}
-use lib.ListN.{length, getD, replicate, length-append, length-map, List·getD-append}
+use lib.ListN.{length, replicate, length-append, length-map, List·getD-append}
 use lib.Pow.{pow-mono}
 use lib.Seq.{getD-at}
 use Rattle.heads.specs.declared.Head.{Head}
@@ -28,7 +28,8 @@ use Rattle.regions.specs.Row as Row
 use Rattle.regions.specs.Row.{upTo, keep, intersections, isSingle, rowArea}
 use Rattle.regions.specs.Edit.{Row as TableRow}
 use Rattle.regions.specs.Demand.{Faithful, AfreshRows, Ends}
-use Rattle.regions.proofs.Demand.{list-ends-afresh}
+use Rattle.regions.specs.Table.{Method}
+use Rattle.regions.proofs.Demand.{list-ends-afresh, edit-reworks-exactly, refused-leaves-all}
 use Rattle.plan.specs.Book.{Entry}
 use Rattle.plan.specs.Checks.{planAnswer}
 use Rattle.plan.specs.Exactly.{Within, HeadMet}
@@ -53,6 +54,7 @@ use Rattle.outline.specs.Points.{adopts, met, pairPoints, rowPoints, collected}
 use Rattle.outline.specs.Counts.{points-whole}
 use Rattle.exact.specs.Circle.{circleOf}
 use Rattle.areas.specs.Open.{circlesOfHeads, memberOf, openGeometry, openMethod, structOf, membersOfPlan, openGradientRow, PointsOfPlan, OpenRow, OpenGradientRow}
+use Rattle.areas.specs.Demand.{DemandThree}
 use Rattle.outline.proofs.Walking.{circles-of-members, outline-one}
 use Rattle.outline.proofs.Walking.{members-many as heads-many}
 
@@ -282,3 +284,15 @@ pub open-list-ends-afresh : (box : Ground → Float) (sets : Plan → ℕ → Bo
     → (needed : Needed) (p : Plan) → length (p .heads) ≡ 10 → planAnswer p ≡ Taken
     → (rows : ℕ → TableRow) → AfreshRows (openMethod box sets) p rows → (es : List Entry) → Ends (openMethod box sets) needed p rows es
 open-list-ends-afresh box sets = list-ends-afresh (openMethod box sets) (open-faithful box sets)
+
+-- a faithful way to work out a table has both halves
+pub demand-three : (m : Method) → Faithful m → DemandThree m
+demand-three m f =
+    record {
+      ends = list-ends-afresh m f;
+      reworks = edit-reworks-exactly m;
+      refused = refused-leaves-all m;
+    }
+
+pub open-demand : (box : Ground → Float) (sets : Plan → ℕ → Bool) → DemandThree (openMethod box sets)
+open-demand box sets = demand-three (openMethod box sets) (open-faithful box sets)

@@ -1,2 +1,4 @@
 pub mod Open
 pub mod Boxed
+pub mod Scatter
+pub mod Demand

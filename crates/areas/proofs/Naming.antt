@@ -1,0 +1,98 @@
+-- An arc of a set's outline names a position of the set; under head numbers it names the head there, which has the same circle. So a
+-- fold over the arcs that looks at their circles and angles is the same by position and by head.
+use mathlib.Core.Path.{_≡_, refl}
+use mathlib.Core.Bool.{Bool, true, false, not, _&&_, cond}
+use mathlib.Core.List.{List, [], _∷_, map, foldl}
+use Prim.Native.Nat.{ℕ, zero, suc, _+_, _%_, _≤_, _<_}
+use native.Mathlib.Omega.{arith}
+use borrow.Author.Tests.{lt-ltb}
+use lib.Dec.{ltb}
+use lib.ListN.{length, getD, length-map}
+use lib.Ieee.{Float, nan}
+use Rattle.binary64.specs.Constants.{half64}
+use Rattle.geometry.specs.Floats.{_+ᶠ_, _*ᶠ_}
+use Rattle.geometry.specs.declared.circle.Circle.{Circle}
+use Rattle.outline.specs.declared.arcs.BoundaryArc.{BoundaryArc}
+use Rattle.outline.specs.Every.{Every, every-append, every-map, every-upTo}
+use Rattle.outline.specs.Outline.{Member, circlesOf, owned, pointAt, probe, gap, collapsed, fullCircle, between, arcFrom, arcsAt, anglesOf, outlineFrom, outline}
+use Rattle.outline.specs.Area.{noCircle}
+use Rattle.outline.specs.Set.{circleAt, numbered}
+use Rattle.clip.proofs.Spanning.{getD-map}
+
+-- ---- positions
+
+every-one : {A : Type 0} (P : A → Type 0) (b : Bool) (x : A) → P x → Every P (cond b (x ∷ []) [])
+every-one P true x h = (h, tt)
+every-one P false x h = tt
+
+-- an arc of position k
+abbrev Of : ℕ → BoundaryArc → Type 0
+Of k arc = arc .circle ≡ k
+
+-- an arc of a position below n
+abbrev pub Below : ℕ → BoundaryArc → Type 0
+Below n arc = arc .circle < n
+
+gap-named : (cs : List Circle) (k : ℕ) (c : Circle) (phis : List Float) (i : ℕ) → Every (Of k) (arcFrom cs k c phis i)
+unfolding arcFrom between
+gap-named cs k c phis i =
+    let a = getD phis i nan in
+    let delta = gap a (getD phis ((i + 1) % length phis) nan) in
+    every-one (Of k) (not (collapsed delta) && owned k (pointAt c (a +ᶠ delta *ᶠ half64)) cs) (between k c a delta) refl
+
+-- the arcs of the member at k name k
+arcs-named : (cs : List Circle) (k : ℕ) (c : Circle) (phis : List Float) → Every (Of k) (arcsAt cs k c phis)
+unfolding arcsAt fullCircle
+arcs-named cs k c [] = every-one (Of k) (owned k (probe c) cs) (fullCircle k c) refl
+arcs-named cs k c (phi ∷ phis) =
+    every-upTo (Of k) (arcFrom cs k c (phi ∷ phis)) (length (phi ∷ phis)) (λ i h. gap-named cs k c (phi ∷ phis) i)
+
+rest-named : (cs : List Circle) (k n : ℕ) (ms : List Member) → k + length ms ≤ n → Every (Below n) (outlineFrom cs k ms)
+unfolding outlineFrom
+rest-named cs k n [] h = tt
+rest-named cs k n (m ∷ ms) h =
+    every-append (Below n) (arcsAt cs k (m .circle) (anglesOf m)) (outlineFrom cs (suc k) ms)
+    (every-map (arcsAt cs k (m .circle) (anglesOf m)) (λ arc e. omega (arith, e)) (arcs-named cs k (m .circle) (anglesOf m)))
+    (rest-named cs (suc k) n ms (omega arith))
+
+-- Every arc of the outline of a set names one of its members.
+pub outline-named : (ms : List Member) → Every (Below (length ms)) (outline ms)
+unfolding outline fullCircle
+outline-named [] = tt
+outline-named (m ∷ []) = (omega arith, tt)
+outline-named (m ∷ (m' ∷ ms)) = rest-named (circlesOf (m ∷ (m' ∷ ms))) 0 (length (m ∷ (m' ∷ ms))) (m ∷ (m' ∷ ms)) (omega arith)
+
+-- ---- heads
+
+pub every-at : {A : Type 0} (P : A → Type 0) (l : List A) (i : ℕ) (d : A) → i < length l → Every P l → P (getD l i d)
+every-at P [] i d h e = absurd (omega arith)
+every-at P (x ∷ l) zero d h e = e .0
+every-at P (x ∷ l) (suc i) d h e = every-at P l i d (omega arith) (e .1)
+
+-- the circles of the heads, by position
+abbrev pub own : List Circle → List ℕ → List Circle
+own circles heads = map (circleAt circles) heads
+
+module _ (circles : List Circle) (heads : List ℕ) (below : Every (λ j. j < length circles) heads) (arc : BoundaryArc) (at : arc .circle < length heads) where
+  -- the circle by position
+  pub has-own : ltb (arc .circle) (length (own circles heads)) ≡ true
+  has-own = lt-ltb (arc .circle) (length (own circles heads)) (rw (length-map heads (circleAt circles)) at)
+
+  -- the circle by head
+  pub has-head : ltb (numbered heads arc .circle) (length circles) ≡ true
+  unfolding numbered
+  has-head = lt-ltb (getD heads (arc .circle) 0) (length circles) (every-at (λ j. j < length circles) heads (arc .circle) 0 at below)
+
+  -- is the same
+  pub same-circle : getD (own circles heads) (arc .circle) noCircle ≡ getD circles (numbered heads arc .circle) noCircle
+  unfolding numbered
+  same-circle = getD-map (circleAt circles) heads (arc .circle) 0 noCircle at
+
+-- ---- folds
+
+-- Two folds, one over a mapped list, stay related if each step keeps them so.
+pub fold-related : {A B X Y : Type 0} (R : A → B → Type 0) (P : X → Type 0) (num : X → Y) (f : A → X → A) (f' : B → Y → B)
+    → ((a : A) (b : B) (x : X) → P x → R a b → R (f a x) (f' b (num x)))
+    → (l : List X) → Every P l → (a : A) (b : B) → R a b → R (foldl f a l) (foldl f' b (map num l))
+fold-related R P num f f' step [] h a b r = r
+fold-related R P num f f' step (x ∷ l) h a b r = fold-related R P num f f' step l (h .1) (f a x) (f' b (num x)) (step a b x (h .0) r)
