@@ -11,11 +11,11 @@ use Rattle.binary64.specs.Constants.{zero64, half64}
 use Rattle.geometry.specs.Floats.{_*ᶠ_}
 use Rattle.geometry.specs.declared.bounds.Bounds.{Bounds}
 use Rattle.geometry.specs.declared.circle.Circle.{Circle}
-use Rattle.outline.specs.declared.points.IntersectionPoint.{IntersectionPoint}
-use Rattle.outline.specs.Every.{Every, every-append, every-map}
-use Rattle.outline.specs.Outline.{Member, circlesOf, outline}
+use Rattle.boundary.specs.declared.points.IntersectionPoint.{IntersectionPoint}
+use Rattle.boundary.specs.Every.{Every, every-append, every-map}
+use Rattle.boundary.specs.Outline.{Member, circlesOf, outline}
 use Rattle.outline.specs.Area.{areaOf, addGradient, openArea, openGradient}
-use Rattle.outline.specs.Set.{headsOf, circleAt, membersOf, numbered, arcsHeld, regionArcs}
+use Rattle.boundary.specs.Set.{headsOf, circleAt, membersOf, numbered, arcsHeld, regionArcs}
 use Rattle.outline.specs.Counts.{heads-below}
 use Rattle.outline.proofs.Walking.{circles-of-members, members-many}
 use Rattle.clip.specs.Area.{emptyBox, addEdges, clippedAreaOf, clippedArea}

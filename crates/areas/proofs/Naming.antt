@@ -12,12 +12,12 @@ use lib.Ieee.{Float, nan}
 use Rattle.binary64.specs.Constants.{half64}
 use Rattle.geometry.specs.Floats.{_+ᶠ_, _*ᶠ_}
 use Rattle.geometry.specs.declared.circle.Circle.{Circle}
-use Rattle.outline.specs.declared.arcs.BoundaryArc.{BoundaryArc}
-use Rattle.outline.specs.Every.{Every, every-append, every-map, every-upTo}
-use Rattle.outline.specs.Outline.{Member, circlesOf, owned, pointAt, probe, gap, collapsed, fullCircle, between, arcFrom, arcsAt, anglesOf, outlineFrom, outline}
-use Rattle.outline.specs.Area.{noCircle}
-use Rattle.outline.specs.Set.{circleAt, numbered}
-use Rattle.clip.proofs.Spanning.{getD-map}
+use Rattle.boundary.specs.declared.arcs.BoundaryArc.{BoundaryArc}
+use Rattle.boundary.specs.Every.{Every, every-append, every-map, every-upTo}
+use Rattle.boundary.specs.Outline.{Member, circlesOf, owned, pointAt, probe, gap, collapsed, fullCircle, between, arcFrom, arcsAt, anglesOf, outlineFrom, outline}
+use Rattle.boundary.specs.Outline.{noCircle}
+use Rattle.boundary.specs.Set.{circleAt, numbered}
+use Rattle.inside.proofs.Spanning.{getD-map}
 
 -- ---- positions
 

@@ -12,8 +12,8 @@ use lib.Ieee.{Float, nan}
 use Rattle.binary64.specs.Constants.{zero64}
 use Rattle.masks.specs.Mask.{inSet}
 use Rattle.regions.specs.Row.{upTo}
-use Rattle.outline.specs.Every.{Every, every-append, every-map, every-upTo}
-use Rattle.outline.specs.Set.{headsOf}
+use Rattle.boundary.specs.Every.{Every, every-append, every-map, every-upTo}
+use Rattle.boundary.specs.Set.{headsOf}
 use Rattle.outline.specs.Counts.{heads-below}
 use Rattle.areas.specs.Scatter.{entriesOf, boxEntries, put, scatter, Scatters}
 

@@ -12,14 +12,15 @@ use Rattle.elementary.specs.Sine.{sine as sin, cosine as cos}
 use Rattle.geometry.specs.Floats.{_+ᶠ_, _-ᶠ_, _*ᶠ_}
 use Rattle.geometry.specs.declared.bounds.Bounds.{Bounds}
 use Rattle.geometry.specs.declared.circle.Circle.{Circle}
-use Rattle.outline.specs.declared.arcs.BoundaryArc.{BoundaryArc}
-use Rattle.outline.specs.Every.{Every}
-use Rattle.outline.specs.Area.{noCircle, addAt, subAt, arcSlopes, addSlopes, addGradient}
-use Rattle.outline.specs.Set.{numbered}
+use Rattle.boundary.specs.declared.arcs.BoundaryArc.{BoundaryArc}
+use Rattle.boundary.specs.Every.{Every}
+use Rattle.boundary.specs.Outline.{noCircle}
+use Rattle.outline.specs.Area.{addAt, subAt, arcSlopes, addSlopes, addGradient}
+use Rattle.boundary.specs.Set.{numbered}
 use Rattle.clip.specs.declared.edges.Edge.{Edge}
-use Rattle.clip.specs.Span.{Interval, horizontalSpan, verticalSpan}
-use Rattle.clip.specs.Breaks.{breaks}
-use Rattle.clip.specs.Parts.{overPairs, summed}
+use Rattle.inside.specs.Span.{Interval, horizontalSpan, verticalSpan}
+use Rattle.inside.specs.Breaks.{breaks}
+use Rattle.inside.specs.Parts.{overPairs, summed}
 use Rattle.clip.specs.Area.{emptyBox}
 use Rattle.clip.specs.Gradient.{WithGradient, with-gradient, subArcByDifferences, partSlopes, subArcWithGradient, addPartWithGradient, clippedArcIntegralWithGradient, addClippedArcWithGradient, addClippedArcsWithGradient, moved, edgeSlopes, addSpanWithGradient, bottomEdge, rightEdge, topEdge, leftEdge, addEdgesWithGradient, clippedWithGradient}
 use Rattle.areas.proofs.Naming.{own, Below, has-own, has-head, same-circle, fold-related}

@@ -6,12 +6,12 @@ use lib.ListN.{length}
 use lib.Ieee.{Float}
 use Rattle.geometry.specs.declared.bounds.Bounds.{Bounds}
 use Rattle.geometry.specs.declared.circle.Circle.{Circle}
-use Rattle.outline.specs.declared.arcs.BoundaryArc.{BoundaryArc}
-use Rattle.outline.specs.Every.{Every}
+use Rattle.boundary.specs.declared.arcs.BoundaryArc.{BoundaryArc}
+use Rattle.boundary.specs.Every.{Every}
 use Rattle.outline.specs.Area.{arcTerms, addArc, addArcs}
-use Rattle.outline.specs.Set.{numbered}
-use Rattle.clip.specs.Breaks.{breaks}
-use Rattle.clip.specs.Parts.{clippedArcIntegral}
+use Rattle.boundary.specs.Set.{numbered}
+use Rattle.inside.specs.Breaks.{breaks}
+use Rattle.inside.specs.Parts.{clippedArcIntegral}
 use Rattle.clip.specs.Area.{addClippedArc}
 use Rattle.areas.proofs.Naming.{own, Below, has-own, has-head, same-circle, fold-related}
 

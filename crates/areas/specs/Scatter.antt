@@ -11,10 +11,10 @@ use Rattle.binary64.specs.Constants.{zero64}
 use Rattle.masks.specs.Mask.{inSet}
 use Rattle.geometry.specs.declared.bounds.Bounds.{Bounds}
 use Rattle.geometry.specs.declared.circle.Circle.{Circle}
-use Rattle.outline.specs.declared.points.IntersectionPoint.{IntersectionPoint}
-use Rattle.outline.specs.Outline.{circlesOf, outline}
+use Rattle.boundary.specs.declared.points.IntersectionPoint.{IntersectionPoint}
+use Rattle.boundary.specs.Outline.{circlesOf, outline}
 use Rattle.outline.specs.Area.{areaOf, addGradient, openArea, openGradient}
-use Rattle.outline.specs.Set.{headsOf, circleAt, membersOf, arcsHeld, regionArcs}
+use Rattle.boundary.specs.Set.{headsOf, circleAt, membersOf, arcsHeld, regionArcs}
 use Rattle.clip.specs.Area.{clippedAreaOf, clippedArea}
 use Rattle.clip.specs.Gradient.{with-gradient, clippedWithGradient, clippedOnto, clippedGradient}
 

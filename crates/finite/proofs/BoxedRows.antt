@@ -30,7 +30,8 @@ use Rattle.areas.proofs.Open.{circles-length}
 use Rattle.areas.proofs.Boxed.{boxed-row, boxed-gradient-row}
 use Rattle.finite.specs.Open.{InDomain}
 use Rattle.finite.specs.Boxed.{BoxInDomain, GradientMost}
-use Rattle.finite.specs.BoxedRows.{ownCircles, HeadsInBoxFinite, PlanInBoxFinite, PlanRowFinite, PlanBoxFinite, TableInBoxFinite}
+use Rattle.areas.specs.Scatter.{circlesIn}
+use Rattle.finite.specs.BoxedRows.{HeadsInBoxFinite, PlanInBoxFinite, PlanRowFinite, PlanBoxFinite, TableInBoxFinite}
 use Rattle.finite.proofs.Every.{every-replicate}
 use Rattle.finite.proofs.Open.{region-short, region-few}
 use Rattle.finite.proofs.Rows.{circles-domain, members-domain, afresh-most}
@@ -101,8 +102,8 @@ heads-in-box-finite g h n S hn ground met =
     record {
       area = area-in-box-finite box (membersOfPlan h n S) b inside few;
       gradient = gradient-in-box-finite box (membersOfPlan h n S) b inside few;
-      numberedArea = clipped-area-finite box cs (ownCircles cs S) arcs b d own short few-arcs;
-      numberedGradient = clipped-gradient-finite box cs (ownCircles cs S) arcs 0 (replicate (gradientWidth n) zero64) b d own short few-arcs zeros (lit≤ tt);
+      numberedArea = clipped-area-finite box cs (circlesIn cs S) arcs b d own short few-arcs;
+      numberedGradient = clipped-gradient-finite box cs (circlesIn cs S) arcs 0 (replicate (gradientWidth n) zero64) b d own short few-arcs zeros (lit≤ tt);
     }
 
 -- The row in the box of any set of a taken plan's heads is finite.

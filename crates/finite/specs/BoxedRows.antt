@@ -24,23 +24,20 @@ use Rattle.geometry.specs.declared.circle.Circle.{Circle}
 use Rattle.outline.specs.Points.{collected}
 use Rattle.boundary.specs.Set.{headsOf, circleAt, regionArcs}
 use Rattle.areas.specs.Open.{circlesOfHeads, membersOfPlan}
+use Rattle.areas.specs.Scatter.{circlesIn}
 use Rattle.areas.specs.Boxed.{boxOf, clippedGeometry, clippedMethod, clippedGradientRow}
 use Rattle.clip.specs.Area.{clippedAreaOf, clippedArea}
 use Rattle.clip.specs.Gradient.{WithGradient, clippedWithGradient, clippedGradient}
 use Rattle.finite.specs.Boxed.{GradientMost}
 
--- the circles of the heads of S among all circles
-abbrev pub ownCircles : List Circle → ℕ → List Circle
-ownCircles cs S = map (circleAt cs) (headsOf (length cs) S)
-
 -- the area of row S of n heads in a box, from arcs under head numbers
 abbrev pub areaByHead : Bounds → (ℕ → Head) → ℕ → ℕ → Float
-areaByHead box h n S = let cs = circlesOfHeads h n in clippedAreaOf box cs (ownCircles cs S) (regionArcs cs (collected cs) S)
+areaByHead box h n S = let cs = circlesOfHeads h n in clippedAreaOf box cs (circlesIn cs S) (regionArcs cs (collected cs) S)
 
 -- with its gradient by head number: x, y and radius of each of the n heads in turn, then the box's four numbers, added up from zeros
 abbrev pub gradientByHead : Bounds → (ℕ → Head) → ℕ → ℕ → WithGradient
 gradientByHead box h n S =
-    let cs = circlesOfHeads h n in clippedWithGradient box cs (ownCircles cs S) (regionArcs cs (collected cs) S) (replicate (gradientWidth n) zero64)
+    let cs = circlesOfHeads h n in clippedWithGradient box cs (circlesIn cs S) (regionArcs cs (collected cs) S) (replicate (gradientWidth n) zero64)
 
 -- The numbers that the code works out for row S of n heads: the area is at most 41,197,685,760,000, and each entry of the gradient at
 -- most 31,490,604,288. By position in the set, and by head number.
