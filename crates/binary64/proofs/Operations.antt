@@ -1,7 +1,7 @@
 -- What +, -, * and / give in units: each is the `Result` of a signed fraction, and three laws say of every `Result` that it is `Rounded`, when it is
 -- finite, and how large it is. Then the magnitude and the sign of a product and a quotient. Rests on Units, Rounding and lib.Ieee.{Exact, Scale}.
 use mathlib.Core.Path.{_≡_, refl, sym, ap, ap₂, _∙_, subst}
-use Prim.Native.Nat.{ℕ, _+_, _-_, _*_, _/_, _^_, _≤_, _<_}
+use Prim.Native.Nat.{ℕ, _+_, _-_, _*_, _^_, _≤_, _<_}
 use native.Mathlib.Nat.{le-trans, le-of-eq, lt-of-le-of-lt, lt-of-lt-of-le, add-zero, zero-add, sub-eq-zero-of-le, mul-one, mul-assoc, mul-pos}
 use native.Mathlib.Omega.{arith}
 use mathlib.Core.Bool.{Bool, true, false, not, _&&_, cond, true≢false, false≢true}

@@ -1,8 +1,8 @@
 -- The arc of one gap, with the angles in an array; and the arcs of a member with angles.
-use mathlib.Core.Path.{_≡_, refl, sym, ap, _∙_}
-use mathlib.Core.Bool.{Bool, true, false, not, _&&_, cond}
-use mathlib.Core.List.{List, [], _∷_, _++_}
-use Prim.Native.Nat.{ℕ, zero, suc, _+_, _%_, _≤_, _<_}
+use mathlib.Core.Path.{_≡_, refl, sym}
+use mathlib.Core.Bool.{not, _&&_, cond}
+use mathlib.Core.List.{List, [], _∷_}
+use Prim.Native.Nat.{ℕ, _+_, _%_, _≤_, _<_}
 use native.Mathlib.Nat.{mod-lt}
 use native.Mathlib.Omega.{arith}
 use lib.ListN.{length, getD, take, length-take}
@@ -10,7 +10,6 @@ use lib.Seq.{getD-take}
 use lib.Ieee.{Float, nan}
 use Rattle.regions.specs.Row.{upTo}
 use Rattle.geometry.specs.declared.circle.Circle.{Circle}
-use Rattle.boundary.specs.declared.arcs.BoundaryArc.{BoundaryArc}
 use Rattle.binary64.specs.Constants.{half64}
 use Rattle.geometry.specs.Floats.{_+ᶠ_, _*ᶠ_}
 use Rattle.boundary.specs.Outline.{owned, gap, collapsed, pointAt, between, arcFrom, arcsAt}

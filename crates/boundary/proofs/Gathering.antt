@@ -10,7 +10,7 @@ use native.Mathlib.Omega.{arith}
 use borrow.Author.Tests.{lt-ltb, le-ltb, ltb-true, ltb-false, eqb-true, eqb-false}
 use lib.Count.{ones, trailingZeros}
 use lib.Dec.{eqb, ltb}
-use lib.ListN.{length, getD, take, set}
+use lib.ListN.{length, take, set}
 use lib.Seq.{take-suc-set, length-take-le}
 use Rattle.masks.specs.Mask.{inSet}
 use Rattle.masks.specs.Operations.{in-power}

@@ -2,13 +2,13 @@
 use mathlib.Core.Path.{_≡_, refl, sym, ap, _∙_}
 use mathlib.Core.Bool.{Bool, true, false, not, _&&_, cond}
 use mathlib.Core.List.{List, [], _∷_, _++_, append-assoc, append-nil}
-use Prim.Native.Nat.{ℕ, _+_, _≤_, _<_}
+use Prim.Native.Nat.{ℕ, _+_}
 use native.Mathlib.Omega.{arith}
 use lib.Ieee.{Float, lt}
-use Rattle.binary64.specs.Units.{Finite, plus, minus}
+use Rattle.binary64.specs.Units.{Finite}
 use Rattle.binary64.proofs.Units.{units-of-lt, units-of-not-lt, lt-of-units, not-lt-of-units}
 use Rattle.regions.specs.Row.{keep}
-use Rattle.boundary.specs.Every.{Every, every-map, every-both}
+use Rattle.boundary.specs.Every.{Every, every-both}
 use Rattle.boundary.specs.Sort.{insert, sortOnto, sorted, Ordered, level}
 
 -- a property of x and of every element of l

@@ -1,7 +1,7 @@
 -- The outline of a set: the arcs that go round what its heads water together. A set is the list of its members; an arc
 -- names its member by the position in that list.
 use Prim.Native.Nat.{ℕ, zero, suc, _+_, _%_}
-use mathlib.Core.Bool.{Bool, true, false, not, _&&_, _||_, cond}
+use mathlib.Core.Bool.{Bool, true, not, _&&_, _||_, cond}
 use mathlib.Core.List.{List, [], _∷_, _++_, map}
 use lib.Dec.{eqb, ltb}
 use lib.ListN.{length, getD}

@@ -2,7 +2,6 @@
 -- proofs/BoxedRows.antt. A bound is a whole number j: `Most j 1074 x` says that x is finite and |x| ≤ j.
 use mathlib.Core.Path.{_≡_}
 use mathlib.Core.Bool.{Bool}
-use mathlib.Core.List.{List, map}
 use Prim.Native.Nat.{ℕ, _^_, _≤_, _<_}
 use lib.Ieee.{Float}
 use lib.ListN.{length, replicate}
@@ -20,9 +19,8 @@ use Rattle.regions.specs.Row.{rowArea}
 use Rattle.regions.specs.Table.{headAt, afresh}
 use Rattle.geometry.specs.Rectangle.{area, bounds}
 use Rattle.geometry.specs.declared.bounds.Bounds.{Bounds}
-use Rattle.geometry.specs.declared.circle.Circle.{Circle}
 use Rattle.outline.specs.Points.{collected}
-use Rattle.boundary.specs.Set.{headsOf, circleAt, regionArcs}
+use Rattle.boundary.specs.Set.{regionArcs}
 use Rattle.areas.specs.Open.{circlesOfHeads, membersOfPlan}
 use Rattle.areas.specs.Scatter.{circlesIn}
 use Rattle.areas.specs.Boxed.{boxOf, clippedGeometry, clippedMethod, clippedGradientRow}

@@ -11,7 +11,7 @@ use lib.Ieee.{Float}
 use Rattle.geometry.specs.declared.circle.Circle.{Circle}
 use Rattle.geometry.specs.Floats.{_+ᶠ_, _-ᶠ_}
 use Rattle.boundary.specs.Outline.{noCircle}
-use Rattle.inside.specs.Span.{misses, halfChord, missed, raised, lowered, lowEnd, highEnd, open-between, horizontalSpan, swapped, seen, verticalSpan}
+use Rattle.inside.specs.Span.{misses, halfChord, missed, raised, lowered, lowEnd, highEnd, open-between, horizontalSpan, seen, verticalSpan}
 
 module _ (y lo hi : Float) (cs : List Circle) (i : ℕ) where
   -- the circle at i reaches the line: the ends move to its chord, and the rest go on

@@ -1,22 +1,14 @@
 -- The list of meeting points: its loops, and that ten circles have at most 90, at most 18 of them on each circle.
-use mathlib.Core.Path.{_≡_, refl, sym, ap, _∙_}
-use mathlib.Core.Bool.{Bool, true, false, cond, _&&_}
-use mathlib.Core.List.{List, [], _∷_, _++_, map}
-use Prim.Native.Nat.{ℕ, zero, suc, _+_, _-_, _*_, _≤_, _<_}
-use native.Mathlib.Nat.{mul-le-mul-right, le-trans}
+use mathlib.Core.Path.{_≡_, sym, ap, _∙_}
+use mathlib.Core.List.{List, [], _++_}
+use Prim.Native.Nat.{ℕ, suc, _+_, _-_, _≤_}
 use native.Mathlib.Numerals.{add-one}
 use native.Mathlib.Omega.{arith}
-use lib.ListN.{length, take, length-append, length-map}
-use lib.Seq.{take-all}
-use lib.Ieee.{Float}
+use lib.ListN.{take}
 use Rattle.regions.specs.Row.{upTo}
-use Rattle.geometry.specs.Circle.{intersectionPoints, identical, apart, crossing}
-use Rattle.geometry.specs.Meeting.{distinct}
-use Rattle.geometry.specs.Point.{distance}
-use Rattle.geometry.specs.declared.point.Point.{Point}
 use Rattle.geometry.specs.declared.circle.Circle.{Circle}
 use Rattle.boundary.specs.declared.points.IntersectionPoint.{IntersectionPoint}
-use Rattle.outline.specs.Points.{met, pairPoints, rowPoints, collected}
+use Rattle.outline.specs.Points.{pairPoints, rowPoints}
 use Rattle.outline.proofs.Listing.{pushed-on}
 
 -- the points of head i with one head more, pushed

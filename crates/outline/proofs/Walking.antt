@@ -1,7 +1,7 @@
 -- The members of a set one after another: laws for the loops that go through them, and how a set's lists make its members.
-use mathlib.Core.Path.{_≡_, refl, sym, ap, ap₂, _∙_}
+use mathlib.Core.Path.{_≡_, refl, sym, ap, _∙_}
 use mathlib.Core.List.{List, [], _∷_, _++_, map, map-append, append-assoc, append-nil}
-use Prim.Native.Nat.{ℕ, zero, suc, _+_, _≤_, _<_, min}
+use Prim.Native.Nat.{ℕ, zero, _+_, _≤_, _<_}
 use native.Mathlib.Numerals.{add-one}
 use native.Mathlib.Omega.{arith}
 use lib.ListN.{length, getD, take, drop, length-take, length-map, drop-of-length-le}
@@ -18,7 +18,7 @@ use Rattle.boundary.specs.Outline.{noCircle}
 use Rattle.outline.specs.Area.{addArc, addArcs, areaOf, openArea}
 use Rattle.outline.proofs.Summing.{addArcs-append}
 use Rattle.outline.proofs.Listing.{take-compose}
-use Rattle.boundary.specs.Set.{headsOf, pointsFor, pointsHeld, circleAt, memberAt, membersOf, membersWith, numbered, arcsHeld, regionArcs}
+use Rattle.boundary.specs.Set.{headsOf, pointsFor, circleAt, memberAt, membersOf, membersWith, numbered, arcsHeld, regionArcs}
 
 -- no more points than are held
 pub points-few : (points : List IntersectionPoint) (S j : ℕ) → length (pointsFor points S j) ≤ 32

@@ -1,15 +1,14 @@
 -- How many: ten circles have at most 90 meeting points, at most 18 of them counted at one head, and so at most 180 arcs in an
 -- outline. The room that the code has for points, angles and arcs is never short.
-use mathlib.Core.Path.{_≡_, refl, sym, ap, _∙_}
-use mathlib.Core.Bool.{Bool, true, false, cond, _&&_, _||_}
-use mathlib.Core.List.{List, [], _∷_, _++_, map, map-append}
-use mathlib.Core.Logic.{_⊎_, ⊎-elim, inl, inr}
+use mathlib.Core.Path.{_≡_, refl, ap, _∙_}
+use mathlib.Core.Bool.{Bool, true, false, cond}
+use mathlib.Core.List.{List, [], _∷_, _++_, map}
 use Prim.Native.Nat.{ℕ, zero, suc, _+_, _-_, _*_, _≤_, _<_}
 use native.Mathlib.Nat.{mul-le-mul-right}
 use native.Mathlib.Omega.{arith}
 use borrow.Author.Tests.{lt-ltb, le-ltb, ltb-true, ltb-false, eqb-true, eqb-false, ne-eqb}
 use lib.Dec.{eqb, ltb}
-use lib.ListN.{length, take, length-append, length-map}
+use lib.ListN.{length, length-append, length-map}
 use lib.Seq.{take-all}
 use lib.Ieee.{Float, lt}
 use Rattle.masks.specs.Mask.{inSet}
@@ -19,7 +18,6 @@ use Rattle.geometry.specs.Point.{distance}
 use Rattle.geometry.specs.declared.point.Point.{Point}
 use Rattle.geometry.specs.declared.circle.Circle.{Circle}
 use Rattle.boundary.specs.declared.points.IntersectionPoint.{IntersectionPoint}
-use Rattle.boundary.specs.declared.arcs.BoundaryArc.{BoundaryArc}
 use Rattle.boundary.specs.Every.{Every, every-map, every-upTo}
 use Rattle.boundary.specs.Sort.{insert, sortOnto, sorted}
 use Rattle.boundary.specs.Outline.{Member, circlesOf, angleAbout, owned, probe, fullCircle, arcFrom, arcsAt, anglesOf, outlineFrom, outline}

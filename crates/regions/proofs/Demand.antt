@@ -1,7 +1,7 @@
 -- Demand 3's two halves, as specs/Demand.antt states them.
 use Prim.Native.Nat.{ℕ, zero, suc, _≤_, _<_, _^_}
 use mathlib.Core.Path.{_≡_, refl, sym, ap, _∙_, subst}
-use mathlib.Core.Bool.{Bool, true, false, not, cond, _&&_, _||_, true≢false, or-true, and-false}
+use mathlib.Core.Bool.{true, false, not, _&&_, _||_, true≢false, or-true, and-false}
 use mathlib.Core.List.{List, [], _∷_}
 use mathlib.Core.Logic.{_⊎_, inl, inr}
 use native.Mathlib.Omega.{arith}
@@ -21,10 +21,10 @@ use Rattle.plan.specs.Book.{Entry, headOf, applied, entered, book, answers, app
 use Rattle.plan.specs.Checks.{editAnswer}
 use Rattle.plan.specs.Exactly.{HeadMet, Acceptable, AcceptableEdit, noHead, plan-taken, edit-taken}
 use Rattle.regions.specs.Row.{isSingle}
-use Rattle.regions.specs.Edit.{Row, absent, present, afreshRow, overlaps, meetsAny, met, reworked, editedRow}
+use Rattle.regions.specs.Edit.{Row, absent, present, overlaps, meetsAny, met, reworked, editedRow}
 use Rattle.regions.specs.Run as Run
 use Rattle.regions.specs.Table.{Method, Sheet, headAt, areaAt, afresh, metBy, edited, leaves, sheetStep, bookStep}
-use Rattle.regions.specs.Demand.{Faithful, AfreshRows, Ends, ListEndsAfresh, Reworks, EditReworksExactly, RefusedLeavesAll}
+use Rattle.regions.specs.Demand.{Faithful, AfreshRows, ListEndsAfresh, Reworks, EditReworksExactly, RefusedLeavesAll}
 use Rattle.masks.specs.Operations.{in-power}
 use Rattle.masks.specs.Gather.{in-gather}
 use Rattle.regions.proofs.Masks.{overlap-at, overlap-none, head-below}

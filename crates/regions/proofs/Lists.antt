@@ -1,9 +1,8 @@
 -- Laws of the list functions of specs/Row.antt: a loop that appends, and the elements that pass a test.
-use mathlib.Core.Path.{_≡_, refl, sym, ap, ap₂, _∙_}
+use mathlib.Core.Path.{_≡_, refl, ap, ap₂, _∙_}
 use mathlib.Core.Bool.{Bool, true, false, cond}
 use mathlib.Core.List.{List, [], _∷_, _++_, map}
 use Prim.Native.Nat.{ℕ, zero, suc, _+_, _<_}
-use native.Mathlib.Nat.{le-refl, le-suc, lt-of-lt-of-le}
 use native.Mathlib.Omega.{arith}
 use Rattle.regions.specs.Row.{upTo, keep}
 

@@ -1,7 +1,7 @@
 -- An edit of the afresh rows gives the afresh rows.
-use mathlib.Core.Path.{_≡_, refl, sym, ap, ap₂, _∙_}
+use mathlib.Core.Path.{_≡_, refl, sym, ap, _∙_}
 use mathlib.Core.Bool.{Bool, true, false, not, cond, _&&_, _||_, true≢false}
-use mathlib.Core.List.{List, [], _∷_}
+use mathlib.Core.List.{[], _∷_}
 use mathlib.Core.Logic.{_⊎_, inl, inr}
 use Prim.Native.Nat.{ℕ, zero, suc, _<_, _^_}
 use lib.Dec.{eqb}
@@ -11,7 +11,7 @@ use Rattle.heads.specs.declared.Head.{Head}
 use Rattle.heads.specs.Pair.{meetsOf}
 use Rattle.masks.specs.Mask.{inSet}
 use Rattle.masks.specs.Gather.{in-gather}
-use Rattle.regions.specs.Row.{Geometry, isSingle, members, rowArea}
+use Rattle.regions.specs.Row.{Geometry, isSingle, rowArea}
 use Rattle.regions.specs.Edit.{Row, absent, present, afreshRow, overlaps, meetsAny, met, reworked, editedRow}
 use Rattle.regions.proofs.Masks.{no-overlap, own-head, head-below}
 use Rattle.regions.proofs.Kept.{members-same}

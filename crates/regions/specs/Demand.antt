@@ -2,7 +2,7 @@
 -- proofs/Demand.antt proves both: `list-ends-afresh`, `edit-reworks-exactly`.
 use Prim.Native.Nat.{ℕ, _≤_, _<_, _^_}
 use mathlib.Core.Path.{_≡_}
-use mathlib.Core.Bool.{Bool, true, false}
+use mathlib.Core.Bool.{true, false}
 use mathlib.Core.List.{List, []}
 use mathlib.Core.Logic.{_⊎_}
 use lib.ListN.{length}
@@ -20,7 +20,7 @@ use Rattle.plan.specs.Exactly.{HeadMet}
 use Rattle.regions.specs.Row.{isSingle}
 use Rattle.regions.specs.Edit.{Row, present, absent}
 use Rattle.regions.specs.Run as Run
-use Rattle.regions.specs.Table.{Method, Sheet, headAt, areaAt, afresh, edited, sheetStep}
+use Rattle.regions.specs.Table.{Method, Sheet, headAt, areaAt, afresh, sheetStep}
 
 -- All that is asked of the geometry: two heads within the limits that do not meet, by the rule of whole numbers, have no
 -- meeting points, in both orders of the pair.

@@ -1,7 +1,7 @@
 -- One row of the table, worked out afresh, and after an edit of one head: demand 3's rule, which rows are worked out and
 -- which keep the number handed in. Over any geometry and any list of sets.
-use Prim.Native.Nat.{ℕ, zero, suc, _^_}
-use mathlib.Core.Bool.{Bool, true, false, not, _&&_, _||_, cond}
+use Prim.Native.Nat.{ℕ, zero, suc}
+use mathlib.Core.Bool.{Bool, false, not, _&&_, _||_, cond}
 use mathlib.Core.List.{List, [], _∷_}
 use lib.Dec.{eqb}
 use lib.Bits.{bitAnd}

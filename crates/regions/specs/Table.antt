@@ -2,7 +2,7 @@
 -- enter by the checks alone.
 use Prim.Native.Nat.{ℕ, _^_}
 use mathlib.Core.Bool.{Bool, cond}
-use mathlib.Core.List.{List, [], _∷_}
+use mathlib.Core.List.{[], _∷_}
 use lib.Dec.{ltb}
 use lib.Ieee.{Float}
 use lib.ListN.{getD}

@@ -1,11 +1,11 @@
 -- `ownership::owned` meets its contract. The invariant: the members from l on decide.
 use borrow.Author.Needs.{needs}
-use mathlib.Core.Path.{_≡_, refl, sym, _∙_, ap}
-use Prim.Native.Nat.{_+_, _-_, _≤_, _<_}
+use mathlib.Core.Path.{_≡_, refl, sym, _∙_}
+use Prim.Native.Nat.{_-_, _≤_, _<_}
 use native.Mathlib.Omega.{arith}
 use mathlib.Core.Bool.{true, false}
 use borrow.Author.Tests.{not-true, not-false}
-use lib.ListN.{getD, length, drop, take, length-take}
+use lib.ListN.{getD, length, drop, length-take}
 use lib.Seq.{getD-take}
 use Rattle.boundary.specs.Outline.{ownedFrom, owned, lets}
 use Rattle.boundary.specs.Outline.{noCircle}

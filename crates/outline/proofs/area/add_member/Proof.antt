@@ -1,12 +1,12 @@
 -- `area::add_member` meets its contract. The invariant: the sum over the gaps before i.
 use borrow.Author.Needs.{needs}
-use mathlib.Core.Path.{_≡_, refl, sym, _∙_, ap}
-use Prim.Native.Nat.{_+_, _-_, _≤_, _<_}
+use mathlib.Core.Path.{_≡_, refl, sym, _∙_}
+use Prim.Native.Nat.{_-_, _≤_, _<_}
 use native.Mathlib.Omega.{arith}
 use borrow.Author.Tests.{lt-ltb}
 use lib.ListN.{length}
 use Rattle.regions.specs.Row.{upTo}
-use Rattle.boundary.specs.Outline.{arcFrom, arcsAt}
+use Rattle.boundary.specs.Outline.{arcFrom}
 use Rattle.outline.specs.Area.{addArcs}
 use Rattle.boundary.specs.Lists.{angleList, circleList}
 use Rattle.boundary.proofs.Gaps.{none-of-length, arcs-of-gaps}

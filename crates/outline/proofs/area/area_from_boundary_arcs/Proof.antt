@@ -1,13 +1,12 @@
 -- `area::area_from_boundary_arcs` meets its contract. The invariant: the sum over the first i arcs.
-use mathlib.Core.Path.{_≡_, refl, sym, _∙_, ap}
-use Prim.Native.Nat.{_+_, _-_, _≤_, _<_}
+use mathlib.Core.Path.{_≡_, refl, sym, _∙_}
+use Prim.Native.Nat.{_-_, _≤_}
 use native.Mathlib.Omega.{arith}
 use lib.ListN.{length, take}
 use lib.Seq.{take-all}
 use Rattle.binary64.specs.Constants.{zero64}
 use Rattle.outline.specs.Area.{addArcs, areaOf}
 use Rattle.boundary.specs.Set.{noArc}
-use Rattle.boundary.specs.Lists.{arcList}
 use Rattle.boundary.proofs.Arrays.{length-of-values}
 use Rattle.outline.proofs.Summing.{addArcs-suc}
 use Rattle.outline.proofs.area.area_from_boundary_arcs.Statement.{statement}

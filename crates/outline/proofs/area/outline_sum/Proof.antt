@@ -1,9 +1,9 @@
 -- `area::outline_sum` meets its contract. The invariant: the members from k on, added to the sum, give the whole.
 use borrow.Author.Needs.{needs}
-use mathlib.Core.Path.{_≡_, refl, sym, _∙_, ap}
-use Prim.Native.Nat.{_+_, _-_, _≤_, _<_}
+use mathlib.Core.Path.{_≡_, refl, sym, _∙_}
+use Prim.Native.Nat.{_-_, _≤_, _<_}
 use native.Mathlib.Omega.{arith}
-use lib.ListN.{length, getD, take, drop, length-take}
+use lib.ListN.{length, drop, length-take}
 use lib.Seq.{getD-take}
 use Rattle.binary64.specs.Constants.{zero64}
 use Rattle.boundary.specs.Outline.{outlineFrom}

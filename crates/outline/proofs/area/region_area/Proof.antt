@@ -1,7 +1,7 @@
 -- `area::region_area` meets its contract: one member's whole circle, or the sum over all members.
-use mathlib.Core.Path.{_≡_, refl, sym, _∙_, ap}
+use mathlib.Core.Path.{sym, _∙_}
 use native.Mathlib.Omega.{arith}
-use lib.ListN.{length, take, getD}
+use lib.ListN.{take, getD}
 use lib.Seq.{getD-take}
 use Rattle.boundary.specs.Outline.{noCircle}
 use Rattle.boundary.specs.Set.{membersOf}

@@ -1,12 +1,11 @@
 -- `gradient::accumulate_region_overlap_gradient` meets its contract. The invariant: the first i arcs are added.
-use mathlib.Core.Path.{_≡_, refl, sym, _∙_, ap}
-use Prim.Native.Nat.{_+_, _-_, _≤_, _<_}
+use mathlib.Core.Path.{_≡_, refl, sym, _∙_}
+use Prim.Native.Nat.{_-_, _≤_}
 use native.Mathlib.Omega.{arith}
 use lib.ListN.{length, take}
 use lib.Seq.{take-all}
 use Rattle.outline.specs.Area.{addGradient}
 use Rattle.boundary.specs.Set.{noArc}
-use Rattle.boundary.specs.Lists.{arcList}
 use Rattle.boundary.proofs.Arrays.{length-of-values}
 use Rattle.outline.proofs.Summing.{addGradient-suc}
 use Rattle.outline.proofs.gradient.accumulate_region_overlap_gradient.Statement.{statement}

@@ -1,5 +1,5 @@
 -- `outline::push_candidate` meets its contract.
-use mathlib.Core.Path.{_≡_, refl, sym, ap}
+use mathlib.Core.Path.{_≡_}
 use lib.ListN.{length}
 use Rattle.boundary.proofs.Arrays.{length-of-values}
 use Rattle.outline.proofs.Listing.{pushed-none}

@@ -1,14 +1,13 @@
 -- `outline::push_member` meets its contract. The invariant: the arcs of the gaps before i are pushed.
 use borrow.Author.Needs.{needs}
-use mathlib.Core.Path.{_≡_, refl, sym, _∙_, ap}
-use mathlib.Core.List.{_++_, map, map-append}
+use mathlib.Core.Path.{_≡_, sym, _∙_}
+use mathlib.Core.List.{_++_, map}
 use Prim.Native.Nat.{_+_, _-_, _≤_, _<_}
 use native.Mathlib.Omega.{arith}
-use native.Mathlib.Numerals.{add-one}
 use borrow.Author.Tests.{lt-ltb}
 use lib.ListN.{length, take}
 use Rattle.regions.specs.Row.{upTo}
-use Rattle.boundary.specs.Outline.{arcFrom, arcsAt}
+use Rattle.boundary.specs.Outline.{arcFrom}
 use Rattle.boundary.specs.Set.{numbered, arcsHeld}
 use Rattle.boundary.specs.Lists.{angleList, circleList, headList, arcList}
 use Rattle.boundary.proofs.Arrays.{length-of-values}

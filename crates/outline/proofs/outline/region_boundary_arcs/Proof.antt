@@ -1,10 +1,9 @@
 -- `outline::region_boundary_arcs` meets its contract: one member's whole circle, or the arcs of all members.
-use mathlib.Core.Path.{_≡_, refl, sym, _∙_, ap}
+use mathlib.Core.Path.{sym, _∙_}
 use native.Mathlib.Omega.{arith}
-use lib.ListN.{length, take, getD}
+use lib.ListN.{take, getD}
 use lib.Seq.{getD-take}
 use Rattle.boundary.specs.Outline.{noCircle}
-use Rattle.boundary.specs.Set.{membersOf}
 use Rattle.boundary.specs.Lists.{pointList, headList, circleList}
 use Rattle.outline.proofs.Walking.{circles-of-members, members-many, members-are, arcs-one, arcs-other}
 use borrow.Author.Needs.{needs}
