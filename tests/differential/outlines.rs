@@ -232,7 +232,7 @@ fn open(tally: &mut Tally, case: &Case, mask: usize, theirs: &[BoundaryArc], ran
         unsafe { probe_overlap_gradient(case.ours, case.n, mask, ours.as_mut_ptr(), ours.len()) };
         tally.floats(name, &ours, &grad, input);
     }
-    tally.things("gradients", 2);
+    tally.things("gradient entries", 2 * 3 * case.n);
     tally.things("areas", 1);
 }
 
@@ -278,7 +278,7 @@ fn clipped(tally: &mut Tally, case: &Case, mask: usize, theirs: &[BoundaryArc]) 
     tally.float("area_and_gradient_from_clipped_arcs, ours from the members", summed, area, input);
     tally.floats("area_and_gradient_from_clipped_arcs, ours from the members", &by_heads(&own, mask, case.n), &grad, input);
     tally.things("areas", 2);
-    tally.things("gradients", 1);
+    tally.things("gradient entries", 3 * case.n + 4);
 }
 
 fn sets(tally: &mut Tally, case: &Case, random: &mut Random) {

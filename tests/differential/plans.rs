@@ -3,6 +3,7 @@
 // heads are identical (docs/DIFFERENCES.md).
 
 use crate::inputs::{triple, Head, Random, FURTHEST, LARGEST};
+use crate::ours::Ours;
 
 // The box by its centre and sides.
 #[derive(Clone, Copy)]
@@ -392,6 +393,61 @@ fn nearly_through_a_point(random: &mut Random) -> Plan {
     plan
 }
 
+// ---- out of the domain: a float of the plan meets a tolerance exactly, or misses it by a few floats
+
+fn near(random: &mut Random, v: f64) -> f64 {
+    (0..random.whole(0, 3)).fold(v, |v, _| if random.sign() > 0 { v.next_up() } else { v.next_down() })
+}
+
+// The box from its four sides; the last digits of three of them may be lost.
+fn between(x_min: f64, x_max: f64, y_min: f64, y_max: f64) -> Sides {
+    Sides { x: x_min + (x_max - x_min) / 2.0, y: y_min + (y_max - y_min) / 2.0, width: x_max - x_min, height: y_max - y_min }
+}
+
+// Concentric circles of which the larger one's edge is at the limit of coincidence with the smaller one's: 1 + eps times its
+// squared radius, where eps is 2e-7 / r, and a power of 2 for half of them.
+fn at_coincidence(random: &mut Random) -> Plan {
+    let r = if random.sign() > 0 { 2e-7 * (1u64 << random.whole(20, 26)) as f64 } else { random.whole(1, 40) as f64 };
+    let eps = 2e-7 / r;
+    let other = r * (1.0 + if random.sign() > 0 { eps } else { -eps }).our_root();
+    let (inner, outer) = (Head { x: 0.0, y: 0.0, r }, Head { x: 0.0, y: 0.0, r: near(random, other) });
+    let heads = if random.sign() > 0 { vec![inner, outer] } else { vec![outer, inner] };
+    Plan { heads, sides: small_sides(random) }
+}
+
+// A circle whose furthest point to one side is 1e-9 outside of the box.
+fn at_the_box(random: &mut Random) -> Plan {
+    let r = random.whole(1, 4) as f64;
+    let mut ends = [-2.0 * r, 2.0 * r, -2.0 * r, 2.0 * r];
+    let edge = (random.next() % 4) as usize;
+    ends[edge] = near(random, (r - 1e-9) * [-1.0, 1.0, -1.0, 1.0][edge]);
+    Plan { heads: vec![Head { x: 0.0, y: 0.0, r }], sides: between(ends[0], ends[1], ends[2], ends[3]) }
+}
+
+// An arc that ends 1e-12 before or after it crosses an edge: of a single, which begins at the angle 0, or of a lens.
+fn at_a_crossing(random: &mut Random) -> Plan {
+    let one = Head { x: 0.0, y: 0.0, r: 1.0 };
+    if random.sign() > 0 {
+        let y = near(random, -1e-12);
+        return Plan { heads: vec![one], sides: between(-3.0, 3.0, y, 3.0) };
+    }
+    // the lens of two unit circles, one to the right: its arc on the left one goes from -phi to phi
+    let x = random.whole(1, 15) as f64 / 8.0;
+    let phi = (x / 2.0).our_acos();
+    let y = (phi + 1e-12 * [-1.0, 1.0][(random.next() % 2) as usize]).our_sin() * random.sign() as f64;
+    let y = near(random, y);
+    let sides = if random.sign() > 0 { between(-3.0, 3.0, y, y + 4.0) } else { between(-3.0, 3.0, y - 4.0, y) };
+    Plan { heads: vec![one, Head { x, y: 0.0, r: 1.0 }], sides }
+}
+
+fn at_a_tolerance(random: &mut Random) -> Plan {
+    match random.whole(0, 3) {
+        0 | 1 => at_coincidence(random),
+        2 => at_the_box(random),
+        _ => at_a_crossing(random),
+    }
+}
+
 pub struct Category {
     pub name: &'static str,
     // how many of every hundred plans
@@ -399,7 +455,7 @@ pub struct Category {
     pub plan: fn(&mut Random) -> Plan,
 }
 
-pub const CATEGORIES: [Category; 22] = [
+pub const CATEGORIES: [Category; 23] = [
     Category { name: "through a point on an edge of the box, small heads", share: 8, plan: point_on_an_edge },
     Category { name: "through a point at a corner of the box, small heads", share: 8, plan: point_at_a_corner },
     Category { name: "through a point on an edge of the box, large heads", share: 6, plan: large_point_on_an_edge },
@@ -408,7 +464,7 @@ pub const CATEGORIES: [Category; 22] = [
     Category { name: "through a point at a corner of the box, small and large", share: 6, plan: mixed_point_at_a_corner },
     Category { name: "through two points, the box at one", share: 5, plan: through_two_points },
     Category { name: "random heads and box of the domain", share: 6, plan: any },
-    Category { name: "random heads and box, at most 12", share: 9, plan: small },
+    Category { name: "random heads and box, at most 12", share: 7, plan: small },
     Category { name: "touching, Pythagorean, the box at a touch", share: 7, plan: touching },
     Category { name: "touching at one point, the box there", share: 4, plan: touching_at_a_point },
     Category { name: "box touching a head or missing it by one", share: 5, plan: box_touching },
@@ -422,4 +478,5 @@ pub const CATEGORIES: [Category; 22] = [
     Category { name: "single heads", share: 2, plan: single },
     Category { name: "fractions", share: 3, plan: fractions },
     Category { name: "moved a little from a point or a touch", share: 2, plan: nearly_through_a_point },
+    Category { name: "at a tolerance exactly, or a few floats from it", share: 2, plan: at_a_tolerance },
 ];
