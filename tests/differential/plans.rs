@@ -404,14 +404,41 @@ fn between(x_min: f64, x_max: f64, y_min: f64, y_max: f64) -> Sides {
     Sides { x: x_min + (x_max - x_min) / 2.0, y: y_min + (y_max - y_min) / 2.0, width: x_max - x_min, height: y_max - y_min }
 }
 
-// Concentric circles of which the larger one's edge is at the limit of coincidence with the smaller one's: 1 + eps times its
-// squared radius, where eps is 2e-7 / r, and a power of 2 for half of them.
+// Concentric circles of which one's edge is at the limit of coincidence with the other's: 1 + eps or 1 - eps times its squared
+// radius. eps is 2e-7 / r, for a third of them a power of 2, but at least 1e-12, which is more for radii above 200000.
 fn at_coincidence(random: &mut Random) -> Plan {
-    let r = if random.sign() > 0 { 2e-7 * (1u64 << random.whole(20, 26)) as f64 } else { random.whole(1, 40) as f64 };
-    let eps = 2e-7 / r;
-    let other = r * (1.0 + if random.sign() > 0 { eps } else { -eps }).our_root();
-    let (inner, outer) = (Head { x: 0.0, y: 0.0, r }, Head { x: 0.0, y: 0.0, r: near(random, other) });
-    let heads = if random.sign() > 0 { vec![inner, outer] } else { vec![outer, inner] };
+    let r = match random.whole(0, 2) {
+        0 => 2e-7 * (1u64 << random.whole(20, 26)) as f64,
+        1 => random.whole(1, 40) as f64,
+        _ => random.whole(200001, 1000000) as f64,
+    };
+    let eps = f64::max(2e-7 / r, 1e-12);
+    let other = r * (1.0 + eps * random.sign() as f64).our_root();
+    let (one, two) = (Head { x: 0.0, y: 0.0, r }, Head { x: 0.0, y: 0.0, r: near(random, other) });
+    let heads = if random.sign() > 0 { vec![one, two] } else { vec![two, one] };
+    Plan { heads, sides: small_sides(random) }
+}
+
+// Three circles whose common part has an arc of the turn 1e-9 on the first: the others go through its ends, across it.
+fn at_a_gap(random: &mut Random) -> Plan {
+    let a = fraction(random, 6.0) - 3.0;
+    let (start, end) = ((a.our_cos(), a.our_sin()), ((a + 1e-9).our_cos(), (a + 1e-9).our_sin()));
+    let r = random.whole(2, 8) as f64 / 8.0;
+    let heads = vec![
+        Head { x: 0.0, y: 0.0, r: 1.0 },
+        Head { x: start.0 - r * start.1, y: start.1 + r * start.0, r: near(random, r) },
+        Head { x: end.0 + r * end.1, y: end.1 - r * end.0, r: near(random, r) },
+    ];
+    Plan { heads, sides: small_sides(random) }
+}
+
+// A circle that touches two larger ones from inside, at points that are the turn 1e-9 apart: all but that is one arc.
+fn at_a_full_turn(random: &mut Random) -> Plan {
+    let turn = 1e-9 + random.whole(-3, 3) as f64 * (f64::EPSILON * 2.0);
+    let (a, b) = (random.whole(1, 20) as f64, random.whole(1, 20) as f64);
+    let mut heads = vec![Head { x: 0.0, y: 0.0, r: 1.0 }, Head { x: -a, y: 0.0, r: a + 1.0 }, Head { x: -b, y: -b * turn, r: b + 1.0 }];
+    let first = (random.next() % 3) as usize;
+    heads.swap(0, first);
     Plan { heads, sides: small_sides(random) }
 }
 
@@ -441,9 +468,11 @@ fn at_a_crossing(random: &mut Random) -> Plan {
 }
 
 fn at_a_tolerance(random: &mut Random) -> Plan {
-    match random.whole(0, 3) {
-        0 | 1 => at_coincidence(random),
-        2 => at_the_box(random),
+    match random.whole(0, 7) {
+        0..=2 => at_coincidence(random),
+        3 => at_a_gap(random),
+        4 => at_a_full_turn(random),
+        5 => at_the_box(random),
         _ => at_a_crossing(random),
     }
 }
@@ -463,14 +492,14 @@ pub const CATEGORIES: [Category; 23] = [
     Category { name: "through a point on an edge of the box, small and large", share: 6, plan: mixed_point_on_an_edge },
     Category { name: "through a point at a corner of the box, small and large", share: 6, plan: mixed_point_at_a_corner },
     Category { name: "through two points, the box at one", share: 5, plan: through_two_points },
-    Category { name: "random heads and box of the domain", share: 6, plan: any },
+    Category { name: "random heads and box of the domain", share: 4, plan: any },
     Category { name: "random heads and box, at most 12", share: 7, plan: small },
     Category { name: "touching, Pythagorean, the box at a touch", share: 7, plan: touching },
     Category { name: "touching at one point, the box there", share: 4, plan: touching_at_a_point },
     Category { name: "box touching a head or missing it by one", share: 5, plan: box_touching },
-    Category { name: "concentric", share: 3, plan: concentric },
+    Category { name: "concentric", share: 2, plan: concentric },
     Category { name: "chains", share: 3, plan: chain },
-    Category { name: "radius 1 to 3 beside 20000, near the edge", share: 3, plan: one_beside_20000 },
+    Category { name: "radius 1 to 3 beside 20000, near the edge", share: 2, plan: one_beside_20000 },
     Category { name: "centres on a line", share: 3, plan: collinear },
     Category { name: "all overlapping", share: 2, plan: all_overlapping },
     Category { name: "a corner of the box inside a head", share: 2, plan: corner_inside },
@@ -478,5 +507,5 @@ pub const CATEGORIES: [Category; 23] = [
     Category { name: "single heads", share: 2, plan: single },
     Category { name: "fractions", share: 3, plan: fractions },
     Category { name: "moved a little from a point or a touch", share: 2, plan: nearly_through_a_point },
-    Category { name: "at a tolerance exactly, or a few floats from it", share: 2, plan: at_a_tolerance },
+    Category { name: "at a tolerance exactly, or a few floats from it", share: 6, plan: at_a_tolerance },
 ];
