@@ -436,7 +436,11 @@ fn at_a_gap(random: &mut Random) -> Plan {
 fn at_a_full_turn(random: &mut Random) -> Plan {
     let turn = 1e-9 + random.whole(-3, 3) as f64 * (f64::EPSILON * 2.0);
     let (a, b) = (random.whole(1, 20) as f64, random.whole(1, 20) as f64);
-    let mut heads = vec![Head { x: 0.0, y: 0.0, r: 1.0 }, Head { x: -a, y: 0.0, r: a + 1.0 }, Head { x: -b, y: -b * turn, r: b + 1.0 }];
+    let mut heads = vec![
+        Head { x: 0.0, y: 0.0, r: 1.0 },
+        Head { x: -a, y: 0.0, r: a + 1.0 },
+        Head { x: -b, y: -b * turn, r: b + 1.0 },
+    ];
     let first = (random.next() % 3) as usize;
     heads.swap(0, first);
     Plan { heads, sides: small_sides(random) }
