@@ -32,14 +32,14 @@ impl Random {
         low + (self.next() % (high - low + 1) as u64) as i64
     }
 
-    fn sign(&mut self) -> i64 {
+    pub fn sign(&mut self) -> i64 {
         if self.next() >> 63 == 0 { 1 } else { -1 }
     }
 }
 
 // Document 01: centres from -20000 to 20000, radii from 1 to 20000.
-const FURTHEST: i64 = 20000;
-const LARGEST: i64 = 20000;
+pub const FURTHEST: i64 = 20000;
+pub const LARGEST: i64 = 20000;
 
 fn head(x: i64, y: i64, r: i64) -> Head {
     Head { x: x as f64, y: y as f64, r: r as f64 }
@@ -65,7 +65,7 @@ fn small(random: &mut Random) -> (Head, Head) {
 }
 
 // Whole legs dx, dy and a whole distance of at most `most`, from a Pythagorean triple, the axes among them.
-fn triple(random: &mut Random, most: i64) -> (i64, i64, i64) {
+pub fn triple(random: &mut Random, most: i64) -> (i64, i64, i64) {
     loop {
         let (m, n) = (random.whole(1, 200), random.whole(0, 199));
         let d = m * m + n * n;

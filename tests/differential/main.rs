@@ -1,6 +1,7 @@
 // The differential run: the Rust's files as modules of this program, and our functions beside them.
-// `differential COUNT SEED` compares on about COUNT ordered pairs of circles; `differential list COUNT SEED` prints the Rust's
-// answers for so many. What is compared stands in a file of its own (pairs.rs), with the exports of crate `probe` that it calls.
+// `differential COUNT SEED PLANS` compares on about COUNT ordered pairs of circles and about PLANS plans; `differential list ..`
+// prints the Rust's answers for so many. What is compared stands in files of its own (pairs.rs, outlines.rs), with the exports of
+// crate `probe` that it calls.
 
 #[allow(dead_code)]
 mod constants;
@@ -41,20 +42,26 @@ mod stubs;
 
 mod inputs;
 mod ours;
+mod outlines;
 mod pairs;
+mod plans;
 mod tally;
 mod whole;
 
 fn main() {
     let words: Vec<String> = std::env::args().skip(1).collect();
-    let number = |i: usize| words.get(i).and_then(|w| w.parse().ok()).expect("a count and a seed");
-    if words[0] == "list" {
-        pairs::list(number(1), number(2));
+    let list = words[0] == "list";
+    let number = |i: usize| words.get(i + list as usize).and_then(|w| w.parse().ok()).expect("a count, a seed and a count");
+    let (count, seed, plans) = (number(0), number(1), number(2));
+    if list {
+        pairs::list(count, seed);
+        outlines::list(plans, seed);
         return;
     }
     whole::answers();
-    let mut tally = tally::Tally::new();
-    println!("seed {}", number(1));
-    pairs::compare(number(0), number(1), &mut tally);
+    let mut tally = tally::Tally::new(&[pairs::FUNCTIONS.as_slice(), outlines::FUNCTIONS.as_slice()].concat());
+    println!("seed {seed}");
+    pairs::compare(count, seed, &mut tally);
+    outlines::compare(plans, seed, &mut tally);
     tally.end();
 }

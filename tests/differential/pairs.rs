@@ -8,11 +8,11 @@ use crate::inputs::{Head, Random, CATEGORIES};
 use crate::tally::Tally;
 
 #[repr(C)]
-struct OurBounds {
-    x_min: f64,
-    x_max: f64,
-    y_min: f64,
-    y_max: f64,
+pub struct OurBounds {
+    pub x_min: f64,
+    pub x_max: f64,
+    pub y_min: f64,
+    pub y_max: f64,
 }
 
 // How many points, and their coordinates; an absent coordinate is +0.
@@ -37,11 +37,27 @@ extern "C" {
     fn probe_intersection_points(x1: f64, y1: f64, r1: f64, x2: f64, y2: f64, r2: f64) -> OurPoints;
 }
 
-fn circle(h: Head) -> Circle {
+pub const FUNCTIONS: [&str; 13] = [
+    "Rectangle area",
+    "Rectangle bounds",
+    "contains_point",
+    "intersection_points of identical circles: none, where the Rust has two NaN points",
+    "intersection_points, how many",
+    "intersection_points, a coordinate",
+    "distance",
+    "Circle area",
+    "contains",
+    "intersects",
+    "intersection_area",
+    "how many points, against whole numbers",
+    "contains, against whole numbers",
+];
+
+pub fn circle(h: Head) -> Circle {
     Circle::new(Point::new(h.x, h.y), h.r)
 }
 
-fn words(numbers: &[f64]) -> String {
+pub fn words(numbers: &[f64]) -> String {
     numbers.iter().map(|n| format!(" {:016X}", n.to_bits())).collect()
 }
 
@@ -96,7 +112,7 @@ fn by_whole_numbers(a: Head, b: Head) -> Option<(u64, u64)> {
 fn pair(tally: &mut Tally, a: Head, b: Head) {
     let input = || words(&[a.x, a.y, a.r, b.x, b.y, b.r]);
     let (first, second) = (circle(a), circle(b));
-    tally.pair();
+    tally.input();
     let d = first.center().distance(second.center());
     tally.float("distance", unsafe { probe_distance(a.x, a.y, b.x, b.y) }, d, input);
     tally.float("Circle area", unsafe { probe_circle_area(a.x, a.y, a.r) }, first.area(), input);
@@ -126,7 +142,7 @@ fn pair(tally: &mut Tally, a: Head, b: Head) {
 pub fn compare(count: u64, seed: u64, tally: &mut Tally) {
     for (i, category) in CATEGORIES.iter().enumerate() {
         let mut random = Random::of(seed, i);
-        tally.begin(category.name);
+        tally.begin(category.name, "pairs");
         for _ in 0..(count * category.share / 200).max(1) {
             let (a, b) = (category.pair)(&mut random);
             pair(tally, a, b);

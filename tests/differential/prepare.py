@@ -1,7 +1,8 @@
 #!/usr/bin/env python3
 """prepare.py SOURCES FOLDER: copies the Rust's files from SOURCES into FOLDER, where rustc builds them as modules of one
 program. Nothing is changed but the float methods that the Rust takes from the machine: each becomes a call of ours (ours.rs),
-counted, and another count than the one below is a failure, since a method that is missed would win over ours in silence."""
+counted, and another count than the one below is a failure, since a method that is missed would win over ours in silence; and a
+few private functions, which the run calls, get `pub(crate) ` before their name."""
 import pathlib
 import sys
 
@@ -32,6 +33,11 @@ CHANGED = {
     ],
 }
 
+# file: private functions that the run calls
+OPENED = {
+    "geometry/shapes/circle.rs": ["horizontal_edge_inside_interval", "vertical_edge_inside_interval"],
+}
+
 
 def changed(path: str, text: str) -> str:
     for theirs, ours, count in CHANGED[path]:
@@ -39,6 +45,11 @@ def changed(path: str, text: str) -> str:
         if found != count:
             sys.exit(f"{path}: {theirs} stands there {found} times and not {count}")
         text = text.replace(theirs, ours)
+    for name in OPENED.get(path, []):
+        private = f"\nfn {name}("
+        if text.count(private) != 1:
+            sys.exit(f"{path}: fn {name} stands there {text.count(private)} times and not once")
+        text = text.replace(private, f"\npub(crate) fn {name}(")
     # the trait that has our methods is brought in before the file's first `use`
     return text.replace("\nuse ", "\nuse crate::ours::Ours;\nuse ", 1)
 

@@ -14,6 +14,10 @@ use geometry::meeting::Meeting;
 use geometry::point::Point;
 use geometry::rectangle::Rectangle;
 
+pub mod clipped;
+pub mod lists;
+pub mod outlines;
+
 // How many points, and their coordinates; an absent coordinate is +0.
 #[repr(C)]
 pub struct Points {

@@ -1,0 +1,21 @@
+-- `lists::number_of_arcs` meets its contract.
+use mathlib.Core.Path.{_≡_, sym, _∙_}
+use native.Mathlib.Omega.{arith}
+use lib.ListN.{length}
+use Rattle.outline.proofs.Arrays.{length-of-values}
+use Rattle.probe.proofs.Held.{as-many, all-of-them}
+use Rattle.probe.proofs.lists.number_of_arcs.Statement.{statement}
+use Rattle.probe.proofs.lists.number_of_arcs.Tie as tie
+
+-- the array has 180 places
+long : (c : tie.Start) → length (c .args .list .all) ≡ 180
+long c = search length-of-values
+
+returns : tie.Need-returns
+returns c = let s = c .before .before in let l = s .args .list in as-many (l .all) (l .n) (omega (arith, long s))
+
+returns-2 : tie.Need-returns-2
+returns-2 c = let s = c .before .before in let l = s .args .list in sym (long s) ∙ all-of-them (l .all) (l .n) (omega (arith, long s))
+
+pub number-of-arcs-spec : {M : Type 1} → statement M
+number-of-arcs-spec = tie.close (tie.spec returns returns-2)

@@ -1,0 +1,126 @@
+// Exports of crate `clip`: spans of edges, areas and gradients in the box of a set of the first n_sets circles. Each works the
+// meeting points out anew.
+ghost use mathlib.Core.Path.{_≡_};
+ghost use Rattle.clip.specs.Area.{clippedAreaOf, clippedArea};
+ghost use Rattle.clip.specs.Gradient.{with-gradient, clippedWithGradient, clippedOnto};
+ghost use Rattle.clip.specs.Span.{horizontalSpan, verticalSpan};
+ghost use Rattle.probe.specs.Lists as spec;
+use crate::Extents;
+use crate::lists::Circles;
+use crate::lists::Ends;
+use crate::lists::bounds_of;
+use crate::lists::circles_of;
+use crate::lists::ends_of;
+use crate::outlines::arcs_of;
+use crate::outlines::points_of;
+use clip::area::area_from_clipped_arcs;
+use clip::area::clipped_region_area;
+use clip::gradient::area_and_gradient_from_clipped_arcs;
+use clip::gradient::clipped_region_area_and_gradient;
+use clip::span::horizontal_edge_inside_interval;
+use clip::span::vertical_edge_inside_interval;
+use outline::members::members_of;
+
+// The span of the edge at y from x_min to x_max.
+#[no_mangle]
+pub extern "C" fn probe_horizontal_span(
+    circles: Circles,
+    n_sets: usize,
+    mask: usize,
+    y: f64,
+    x_min: f64,
+    x_max: f64,
+) -> Ends
+    ensures { λ r. ⌜ r ≡ spec.endsOf (horizontalSpan y «x_min» «x_max» (spec.own (circles .numbers) «n_sets» mask)) ⌝ }
+{
+    let set = members_of(mask, circles_of(circles), n_sets);
+    ends_of(horizontal_edge_inside_interval(y, x_min, x_max, set))
+}
+
+// The span of the edge at x from y_min to y_max.
+#[no_mangle]
+pub extern "C" fn probe_vertical_span(
+    circles: Circles,
+    n_sets: usize,
+    mask: usize,
+    x: f64,
+    y_min: f64,
+    y_max: f64,
+) -> Ends
+    ensures { λ r. ⌜ r ≡ spec.endsOf (verticalSpan x «y_min» «y_max» (spec.own (circles .numbers) «n_sets» mask)) ⌝ }
+{
+    let set = members_of(mask, circles_of(circles), n_sets);
+    ends_of(vertical_edge_inside_interval(x, y_min, y_max, set))
+}
+
+// The area in the box, from the arcs.
+#[no_mangle]
+pub extern "C" fn probe_area_from_clipped_arcs(
+    circles: Circles,
+    n_sets: usize,
+    mask: usize,
+    sides: Extents,
+) -> f64
+    ensures { λ r. ⌜ r ≡ clippedAreaOf (spec.boundsOf sides) (spec.circles (circles .numbers) «n_sets») (spec.own (circles .numbers) «n_sets» mask) (spec.arcs (circles .numbers) «n_sets» mask) ⌝ }
+{
+    let arcs = arcs_of(circles, n_sets, mask);
+    area_from_clipped_arcs(arcs, circles_of(circles), bounds_of(sides), mask, n_sets)
+}
+
+// The same straight from the members of the set.
+#[no_mangle]
+pub extern "C" fn probe_clipped_region_area(
+    circles: Circles,
+    n_sets: usize,
+    mask: usize,
+    sides: Extents,
+) -> f64
+    ensures { λ r. ⌜ r ≡ clippedArea (spec.boundsOf sides) (spec.members (circles .numbers) «n_sets» mask) ⌝ }
+{
+    let points = points_of(circles, n_sets);
+    clipped_region_area(mask, circles_of(circles), points, n_sets, bounds_of(sides))
+}
+
+// The area in the box, from the arcs, and its gradient by head numbers, added to grad.
+#[no_mangle]
+pub extern "C" fn probe_area_and_gradient_from_clipped_arcs(
+    circles: Circles,
+    n_sets: usize,
+    mask: usize,
+    sides: Extents,
+    grad: &mut [f64],
+) -> f64
+    ensures { λ r. ⌜ with-gradient r (now (grad .exit)) ≡ clippedWithGradient (spec.boundsOf sides) (spec.circles (circles .numbers) «n_sets») (spec.own (circles .numbers) «n_sets» mask) (spec.arcs (circles .numbers) «n_sets» mask) (now (grad .entry)) ⌝ }
+{
+    let arcs = arcs_of(circles, n_sets, mask);
+    area_and_gradient_from_clipped_arcs(
+        arcs,
+        circles_of(circles),
+        bounds_of(sides),
+        mask,
+        n_sets,
+        grad,
+    )
+}
+
+// The same straight from the members of the set, the gradient by their positions.
+#[no_mangle]
+pub extern "C" fn probe_clipped_region_area_and_gradient(
+    circles: Circles,
+    n_sets: usize,
+    mask: usize,
+    sides: Extents,
+    grad: &mut [f64],
+) -> f64
+    ensures { λ r. ⌜ with-gradient r (now (grad .exit)) ≡ clippedOnto (spec.boundsOf sides) (spec.members (circles .numbers) «n_sets» mask) (now (grad .entry)) ⌝ }
+{
+    let points = points_of(circles, n_sets);
+    clipped_region_area_and_gradient(
+        mask,
+        circles_of(circles),
+        points,
+        n_sets,
+        bounds_of(sides),
+        grad,
+    )
+}
