@@ -62,7 +62,7 @@ pub(crate) fn no_plan() -> Plan {
     of_circles(0, circles)
 }
 
-// How many entries a gradient has for n circles.
+// Three numbers a circle, for n circles: so many a line H has after its number, and a gradient.
 pub(crate) fn entries(n: usize) -> usize
     ensures { λ r. ⌜ r ≤ 30 ⌝ }
 {
