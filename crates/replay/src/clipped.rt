@@ -97,7 +97,7 @@ fn same_with_gradient_straight(words: &[u64; 40], plan: Plan) -> bool {
     same(area, words[2]) && same_entries(&numbered, words, 3, entries(n) + 4)
 }
 
-// Whether the answers on a line about a plan in its box are ours.
+// Whether the answers on a line about a set in the box are ours.
 pub(crate) fn agrees(letter: u8, words: &[u64; 40], last: usize, plan: Plan) -> bool {
     match letter {
         b'S' => last == 5 && same_span(words, plan),

@@ -8,8 +8,10 @@ mod numbers;
 mod outlines;
 mod pair;
 mod plan;
+mod points;
 
 use libc::STDOUT_FILENO;
+use numbers::whole;
 use plan::Plan;
 
 // How far the list was read: the place of the number that is being read in its line, the lines
@@ -43,6 +45,17 @@ fn letter(word: u64) -> u8 {
     if word < 128 { word as u8 } else { 0 }
 }
 
+// Whether the line is about a set of the plan's heads and every answer on it is ours.
+fn agrees_on_set(letter: u8, words: &[u64; 40], last: usize, plan: Plan) -> bool {
+    if plan::is_set(whole(words[1]), plan.n) {
+        return match letter {
+            b'S' | b'K' | b'L' => plan.boxed && clipped::agrees(letter, words, last, plan),
+            _ => outlines::agrees(letter, words, last, plan),
+        };
+    }
+    false
+}
+
 // Whether every answer on the line that was read is ours, the plan being the one after the line.
 // `last` is the place of the line's last number.
 fn agrees(letter: u8, words: &[u64; 40], last: usize, plan: Plan) -> bool {
@@ -51,8 +64,8 @@ fn agrees(letter: u8, words: &[u64; 40], last: usize, plan: Plan) -> bool {
         b'W' => last == 2 && outlines::same_wrapped(words),
         b'H' => 0 < plan.n,
         b'X' => plan.boxed,
-        b'S' | b'K' | b'L' => plan.boxed && clipped::agrees(letter, words, last, plan),
-        _ => 0 < plan.n && outlines::agrees(letter, words, last, plan),
+        b'I' | b'Q' => 0 < plan.n && points::agrees(letter, words, last, plan),
+        _ => 0 < plan.n && agrees_on_set(letter, words, last, plan),
     }
 }
 

@@ -1,8 +1,6 @@
-// Lines on a plan's meeting points, on the outline of a set of its heads and on angles. A set stands
-// as a mask. The Rust's answers are
-//   I  the number of meeting points (place 1)
-//   Q  the k-th (1) of them: x, y (2, 3), the two circles (4, 5) and the adopters as a mask (6)
-//   N  of a set (1) the number of arcs of its outline (2)
+// Lines on the outline of a set of a plan's heads, and on angles. A set stands as a mask. The Rust's
+// answers are
+//   N  of a set (place 1) the number of arcs of its outline (2)
 //   T  of a set (1) the k-th (2) arc: its head (3), start, end and length (4 to 6)
 //   R  of a set (1) the open area (2), which we work out from the arcs and straight from the members
 //   G  of a set (1) the gradient of that area onto zeros, by head numbers (from 2 on)
@@ -26,22 +24,6 @@ pub(crate) fn arcs_of(words: &[u64; 40], plan: Plan) -> Arcs {
     let circles = plan.circles;
     let points = plan.points;
     region_boundary_arcs(whole(words[1]), circles, points, plan.n)
-}
-
-fn same_point(words: &[u64; 40], plan: Plan) -> bool {
-    let k = whole(words[1]);
-    let points = plan.points;
-    if k < points.n {
-        if k < 90 {
-            let q = points.all[k];
-            return same(q.point.x, words[2])
-                && same(q.point.y, words[3])
-                && q.first == whole(words[4])
-                && q.second == whole(words[5])
-                && q.adopters == whole(words[6]);
-        }
-    }
-    false
 }
 
 fn same_arc(words: &[u64; 40], arcs: Arcs) -> bool {
@@ -81,11 +63,9 @@ pub(crate) fn same_wrapped(words: &[u64; 40]) -> bool {
     same(wrap_angle(float(words[1])), words[2])
 }
 
-// Whether the answers on a line about the outlines of a plan are ours.
+// Whether the answers on a line about the outline of a set are ours.
 pub(crate) fn agrees(letter: u8, words: &[u64; 40], last: usize, plan: Plan) -> bool {
     match letter {
-        b'I' => last == 1 && plan.points.n == whole(words[1]),
-        b'Q' => last == 6 && same_point(words, plan),
         b'N' => last == 2 && arcs_of(words, plan).n == whole(words[2]),
         b'T' => last == 6 && same_arc(words, arcs_of(words, plan)),
         b'R' => last == 2 && same_area(words, plan),

@@ -17,8 +17,16 @@ fn is_yes(answer: bool, word: u64) -> bool {
 
 fn same_meeting(m: Meeting, words: &[u64; 40]) -> bool {
     match m {
-        Meeting::None => words[18] == 0,
-        Meeting::One(x, y) => words[18] == 1 && same(x, words[14]) && same(y, words[15]),
+        Meeting::None => {
+            words[18] == 0 && words[14] == 0 && words[15] == 0 && words[16] == 0 && words[17] == 0
+        }
+        Meeting::One(x, y) => {
+            words[18] == 1
+                && same(x, words[14])
+                && same(y, words[15])
+                && words[16] == 0
+                && words[17] == 0
+        }
         Meeting::Two(x, y, u, v) => {
             words[18] == 2
                 && same(x, words[14])

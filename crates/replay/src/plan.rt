@@ -69,6 +69,11 @@ pub(crate) fn entries(n: usize) -> usize
     if n <= 10 { n * 3 } else { 0 }
 }
 
+// Whether a mask is of heads of a plan of n.
+pub(crate) fn is_set(mask: usize, n: usize) -> bool {
+    if n <= 10 { mask >> n == 0 } else { false }
+}
+
 // The plan that a line H begins: no plan, if the line is malformed.
 fn begun(words: &[u64; 40], last: usize) -> Plan {
     let n = whole(words[1]);
