@@ -7,12 +7,12 @@ mod gradients;
 mod numbers;
 mod outlines;
 mod pair;
-mod plan;
+mod plans;
 mod points;
 
 use libc::STDOUT_FILENO;
 use numbers::whole;
-use plan::Plan;
+use plans::Plan;
 
 // How far the list was read: the place of the number that is being read in its line, the lines
 // read, and those of them on which an answer differs.
@@ -47,7 +47,7 @@ fn letter(word: u64) -> u8 {
 
 // Whether the line is about a set of the plan's heads and every answer on it is ours.
 fn agrees_on_set(letter: u8, words: &[u64; 40], last: usize, plan: Plan) -> bool {
-    if plan::is_set(whole(words[1]), plan.n) {
+    if plans::is_set(whole(words[1]), plan.n) {
         return match letter {
             b'S' | b'K' | b'L' => plan.boxed && clipped::agrees(letter, words, last, plan),
             _ => outlines::agrees(letter, words, last, plan),
@@ -134,7 +134,7 @@ fn fed_all(
         if b == b'\n' {
             let letter = letter(words[0]);
             count(counts, letter);
-            plan = plan::after(letter, words, r.at, plan);
+            plan = plans::after(letter, words, r.at, plan);
             r = line_ended(words, letter, r, plan);
         } else {
             r = fed(words, r, b);
@@ -194,7 +194,7 @@ fn main() {
         lines: 0,
         differing: 0,
     };
-    let mut plan = plan::no_plan();
+    let mut plan = plans::no_plan();
     // A proved loop has to end: it counts down from a number that no list uses up.
     let mut turns = u64::MAX;
     while 0 < turns {

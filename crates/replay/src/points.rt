@@ -3,7 +3,7 @@
 //   Q  the k-th (1) of them: x, y (2, 3), the two circles (4, 5) and the adopters as a mask (6)
 use crate::numbers::same;
 use crate::numbers::whole;
-use crate::plan::Plan;
+use crate::plans::Plan;
 
 fn same_point(words: &[u64; 40], plan: Plan) -> bool {
     let k = whole(words[1]);
