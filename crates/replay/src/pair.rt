@@ -4,35 +4,29 @@
 // y_min, y_max (10 to 13); the coordinates of the meeting points (14 to 17), +0 where there is none,
 // and their number (18); then 1 for yes: the first contains the second (19), contains the second's
 // centre (20), intersects the second (21); and the area that the two share (22).
+use crate::numbers::float;
+use crate::numbers::same;
 use geometry::circle::Circle;
 use geometry::meeting::Meeting;
 use geometry::point::Point;
 use geometry::rectangle::Rectangle;
 
-// The finite f64 with these bits. The list has no other.
-fn float(bits: u64) -> f64 {
-    if (bits >> 52) % 2048 < 2047 {
-        return f64::from_bits(bits);
-    }
-    0.0
-}
-
-// Whether x has these bits.
-fn same(x: f64, bits: u64) -> bool {
-    if x == x {
-        return f64::to_bits(x) == bits;
-    }
-    false
-}
-
 fn is_yes(answer: bool, word: u64) -> bool {
     if answer { word == 1 } else { word == 0 }
 }
 
-fn same_meeting(m: Meeting, words: &[u64; 32]) -> bool {
+fn same_meeting(m: Meeting, words: &[u64; 40]) -> bool {
     match m {
-        Meeting::None => words[18] == 0,
-        Meeting::One(x, y) => words[18] == 1 && same(x, words[14]) && same(y, words[15]),
+        Meeting::None => {
+            words[18] == 0 && words[14] == 0 && words[15] == 0 && words[16] == 0 && words[17] == 0
+        }
+        Meeting::One(x, y) => {
+            words[18] == 1
+                && same(x, words[14])
+                && same(y, words[15])
+                && words[16] == 0
+                && words[17] == 0
+        }
         Meeting::Two(x, y, u, v) => {
             words[18] == 2
                 && same(x, words[14])
@@ -43,7 +37,7 @@ fn same_meeting(m: Meeting, words: &[u64; 32]) -> bool {
     }
 }
 
-fn same_box(b: Rectangle, words: &[u64; 32]) -> bool {
+fn same_box(b: Rectangle, words: &[u64; 40]) -> bool {
     let bounds = b.bounds();
     same(b.area(), words[9])
         && same(bounds.x_min, words[10])
@@ -52,7 +46,7 @@ fn same_box(b: Rectangle, words: &[u64; 32]) -> bool {
         && same(bounds.y_max, words[13])
 }
 
-pub(crate) fn agrees(words: &[u64; 32]) -> bool {
+pub(crate) fn agrees(words: &[u64; 40]) -> bool {
     let p = Point::new(float(words[1]), float(words[2]));
     let q = Point::new(float(words[4]), float(words[5]));
     let a = Circle::new(p, float(words[3]));

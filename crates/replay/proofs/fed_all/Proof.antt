@@ -5,16 +5,31 @@ use Rattle.replay.proofs.fed_all.Statement.{statement}
 use Rattle.replay.proofs.fed_all.Tie as tie
 
 abbrev Inv-loop : tie.InvT-loop
-Inv-loop words₀ bytes r₀ i₀ i-end words r i = i ≤ i-end
+Inv-loop words₀ counts₀ bytes r₀ plan₀ i₀ i-end words counts r plan i = i ≤ i-end
 
 abbrev μ-loop : tie.MeasureT-loop
-μ-loop words₀ bytes r₀ i₀ i-end words r i = i-end - i
+μ-loop words₀ counts₀ bytes r₀ plan₀ i₀ i-end words counts r plan i = i-end - i
 
 loop-holds : tie.Need-loop-holds Inv-loop μ-loop
 loop-holds c = search needs
 
-shared-slice-read-fed : tie.Need-shared-slice-read-fed Inv-loop μ-loop
-shared-slice-read-fed c = search needs
+shared-slice-read-b : tie.Need-shared-slice-read-b Inv-loop μ-loop
+shared-slice-read-b c = search needs
+
+element-copy-out-letter : tie.Need-element-copy-out-letter Inv-loop μ-loop
+element-copy-out-letter c = search needs
+
+letter-requires : tie.Need-letter-requires Inv-loop μ-loop
+letter-requires c κs = search needs
+
+count-requires : tie.Need-count-requires Inv-loop μ-loop
+count-requires c κs = search needs
+
+after-requires : tie.Need-after-requires Inv-loop μ-loop
+after-requires c κs = search needs
+
+line-ended-requires : tie.Need-line-ended-requires Inv-loop μ-loop
+line-ended-requires c κs = search needs
 
 fed-requires : tie.Need-fed-requires Inv-loop μ-loop
 fed-requires c κs = search needs
@@ -38,7 +53,12 @@ fed-all-spec =
     Inv-loop
     μ-loop
     loop-holds
-    shared-slice-read-fed
+    shared-slice-read-b
+    element-copy-out-letter
+    letter-requires
+    count-requires
+    after-requires
+    line-ended-requires
     fed-requires
     add-i
     loop-less

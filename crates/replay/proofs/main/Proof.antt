@@ -4,10 +4,13 @@ use Rattle.replay.proofs.main.Statement.{statement}
 use Rattle.replay.proofs.main.Tie as tie
 
 abbrev Inv-loop : tie.InvT-loop
-Inv-loop words₀ r₀ turns₀ words r turns = Unit
+Inv-loop words₀ counts₀ r₀ plan₀ turns₀ words counts r plan turns = Unit
 
 abbrev μ-loop : tie.MeasureT-loop
-μ-loop words₀ r₀ turns₀ words r turns = turns
+μ-loop words₀ counts₀ r₀ plan₀ turns₀ words counts r plan turns = turns
+
+no-plan-requires : tie.Need-no-plan-requires Inv-loop μ-loop
+no-plan-requires c κs = search needs
 
 loop-holds : tie.Need-loop-holds Inv-loop μ-loop
 loop-holds c = tt
@@ -24,6 +27,9 @@ loop-less c = search needs
 loop-again : tie.Need-loop-again Inv-loop μ-loop
 loop-again c = tt
 
+print-counts-requires : tie.Need-print-counts-requires Inv-loop μ-loop
+print-counts-requires c κs = search needs
+
 print-sums-requires : tie.Need-print-sums-requires Inv-loop μ-loop
 print-sums-requires c κs = search needs
 
@@ -36,10 +42,12 @@ main-spec =
     (tie.spec
     Inv-loop
     μ-loop
+    no-plan-requires
     loop-holds
     next-part-requires
     sub-turns
     loop-less
     loop-again
+    print-counts-requires
     print-sums-requires
     returns)

@@ -1,4 +1,4 @@
--- `replay::pair::float` is safe: a pattern whose exponent's field is not all ones is no NaN's.
+-- `replay::numbers::float` is safe: a pattern whose exponent's field is not all ones is no NaN's.
 use borrow.Author.Needs.{needs}
 use native.Mathlib.Omega.{arith}
 use borrow.Author.Tests.{ne-eqb}
@@ -6,8 +6,8 @@ use Prim.Native.Nat.{ℕ, _%_, _/_, _^_, _<_}
 use mathlib.Core.Bool.{not}
 use lib.Dec.{T}
 use lib.Ieee.{binary64, nanBits}
-use Rattle.replay.proofs.pair.float.Statement.{statement}
-use Rattle.replay.proofs.pair.float.Tie as tie
+use Rattle.replay.proofs.numbers.float.Statement.{statement}
+use Rattle.replay.proofs.numbers.float.Tie as tie
 
 no-nan : (b : ℕ) → b / 2 ^ 52 % 2048 < 2047 → T (not (nanBits binary64 b))
 unfolding nanBits

@@ -1,0 +1,21 @@
+// Numbers as the list has them: whole ones, and finite f64s by their bits.
+
+pub(crate) fn whole(word: u64) -> usize {
+    word as usize
+}
+
+// The finite f64 with these bits. The list has no other.
+pub(crate) fn float(bits: u64) -> f64 {
+    if (bits >> 52) % 2048 < 2047 {
+        return f64::from_bits(bits);
+    }
+    0.0
+}
+
+// Whether x has these bits.
+pub(crate) fn same(x: f64, bits: u64) -> bool {
+    if x == x {
+        return f64::to_bits(x) == bits;
+    }
+    false
+}
