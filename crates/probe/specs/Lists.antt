@@ -12,12 +12,12 @@ use Rattle.geometry.specs.Circle.{around}
 use Rattle.geometry.specs.Bounds.{extents}
 use Rattle.geometry.specs.declared.bounds.Bounds.{Bounds}
 use Rattle.geometry.specs.declared.circle.Circle.{Circle}
-use Rattle.outline.specs.declared.points.IntersectionPoint.{IntersectionPoint}
-use Rattle.outline.specs.declared.arcs.BoundaryArc.{BoundaryArc}
-use Rattle.outline.specs.Outline.{Member}
+use Rattle.boundary.specs.declared.points.IntersectionPoint.{IntersectionPoint}
+use Rattle.boundary.specs.declared.arcs.BoundaryArc.{BoundaryArc}
+use Rattle.boundary.specs.Outline.{Member}
 use Rattle.outline.specs.Points.{collected}
-use Rattle.outline.specs.Set.{noPoint, noArc, circleAt, headsOf, membersOf, regionArcs}
-use Rattle.clip.specs.Span.{Interval}
+use Rattle.boundary.specs.Set.{noPoint, noArc, circleAt, headsOf, membersOf, regionArcs}
+use Rattle.inside.specs.Span.{Interval}
 use Rattle.probe.specs.declared.Extents.{Extents}
 use Rattle.probe.specs.declared.lists.Met.{Met}
 use Rattle.probe.specs.declared.lists.Arc.{Arc}

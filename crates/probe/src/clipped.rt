@@ -3,7 +3,7 @@
 ghost use mathlib.Core.Path.{_≡_};
 ghost use Rattle.clip.specs.Area.{clippedAreaOf, clippedArea};
 ghost use Rattle.clip.specs.Gradient.{with-gradient, clippedWithGradient, clippedOnto};
-ghost use Rattle.clip.specs.Span.{horizontalSpan, verticalSpan};
+ghost use Rattle.inside.specs.Span.{horizontalSpan, verticalSpan};
 ghost use Rattle.probe.specs.Lists as spec;
 use crate::Extents;
 use crate::lists::Circles;
@@ -13,13 +13,13 @@ use crate::lists::circles_of;
 use crate::lists::ends_of;
 use crate::outlines::arcs_of;
 use crate::outlines::points_of;
+use boundary::members::members_of;
 use clip::area::area_from_clipped_arcs;
 use clip::area::clipped_region_area;
 use clip::gradient::area_and_gradient_from_clipped_arcs;
 use clip::gradient::clipped_region_area_and_gradient;
-use clip::span::horizontal_edge_inside_interval;
-use clip::span::vertical_edge_inside_interval;
-use outline::members::members_of;
+use inside::span::horizontal_edge_inside_interval;
+use inside::span::vertical_edge_inside_interval;
 
 // The span of the edge at y from x_min to x_max.
 #[no_mangle]

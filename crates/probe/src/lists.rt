@@ -2,16 +2,16 @@
 ghost use mathlib.Core.Path.{_≡_};
 ghost use Prim.Native.Nat.{_<_};
 ghost use lib.ListN.{length};
-ghost use Rattle.clip.specs.Span.{spans};
-ghost use Rattle.outline.specs.Lists.{pointList, arcList};
+ghost use Rattle.inside.specs.Span.{spans};
+ghost use Rattle.boundary.specs.Lists.{pointList, arcList};
 ghost use Rattle.probe.specs.Lists as spec;
 use crate::Extents;
-use clip::span::Span;
+use boundary::arcs::Arcs;
+use boundary::points::Intersections;
 use geometry::bounds::Bounds;
 use geometry::circle::Circle;
 use geometry::point::Point;
-use outline::arcs::Arcs;
-use outline::points::Intersections;
+use inside::span::Span;
 
 // Ten circles: x, y and radius of each in turn.
 #[repr(C)]

@@ -3,8 +3,8 @@
 ghost use mathlib.Core.Path.{_≡_};
 ghost use lib.ListN.{length, take};
 ghost use Rattle.outline.specs.Area.{areaOf, openArea, addGradient};
-ghost use Rattle.outline.specs.Lists.{pointList, arcList};
-ghost use Rattle.outline.specs.Outline.{wrapAngle};
+ghost use Rattle.boundary.specs.Lists.{pointList, arcList};
+ghost use Rattle.boundary.specs.Outline.{wrapAngle};
 ghost use Rattle.probe.specs.Lists as spec;
 use crate::lists::Arc;
 use crate::lists::Circles;
@@ -14,14 +14,14 @@ use crate::lists::circles_of;
 use crate::lists::number_of_arcs;
 use crate::lists::number_of_points;
 use crate::lists::point_at;
-use outline::angles::wrap_angle;
-use outline::arcs::Arcs;
+use boundary::angles::wrap_angle;
+use boundary::arcs::Arcs;
+use boundary::points::Intersections;
 use outline::area::area_from_boundary_arcs;
 use outline::area::region_area;
 use outline::collect::collect_intersections;
 use outline::gradient::accumulate_region_overlap_gradient;
 use outline::outline::region_boundary_arcs;
-use outline::points::Intersections;
 
 #[no_mangle]
 pub extern "C" fn probe_wrap_angle(x: f64) -> f64

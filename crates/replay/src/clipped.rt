@@ -14,16 +14,16 @@ use crate::numbers::whole;
 use crate::outlines::arcs_of;
 use crate::plans::Plan;
 use crate::plans::entries;
+use boundary::members::Members;
+use boundary::members::members_of;
 use clip::area::area_from_clipped_arcs;
 use clip::area::clipped_region_area;
 use clip::gradient::area_and_gradient_from_clipped_arcs;
 use clip::gradient::clipped_region_area_and_gradient;
-use clip::span::Span;
-use clip::span::horizontal_edge_inside_interval;
-use clip::span::vertical_edge_inside_interval;
 use geometry::bounds::Bounds;
-use outline::members::Members;
-use outline::members::members_of;
+use inside::span::Span;
+use inside::span::horizontal_edge_inside_interval;
+use inside::span::vertical_edge_inside_interval;
 
 fn members(words: &[u64; 40], plan: Plan) -> Members {
     let circles = plan.circles;

@@ -4,11 +4,11 @@
 ghost use Prim.Native.Nat.{_≤_};
 use crate::numbers::float;
 use crate::numbers::whole;
+use boundary::points::Intersections;
 use geometry::bounds::Bounds;
 use geometry::circle::Circle;
 use geometry::point::Point;
 use outline::collect::collect_intersections;
-use outline::points::Intersections;
 
 // The first n circles, their meeting points, and the box, where it is given. Of no plan n is 0.
 pub struct Plan {

@@ -4,8 +4,8 @@ use native.Mathlib.Omega.{arith}
 use borrow.Author.Needs.{needs}
 use lib.ListN.{length}
 use lib.Seq.{getD-take}
-use Rattle.outline.specs.Set.{noArc}
-use Rattle.outline.proofs.Arrays.{length-of-values}
+use Rattle.boundary.specs.Set.{noArc}
+use Rattle.boundary.proofs.Arrays.{length-of-values}
 use Rattle.probe.specs.Lists.{arcAt}
 use Rattle.probe.proofs.Held.{none-past, none-beyond, one-there}
 use Rattle.probe.proofs.lists.arc_at.Statement.{statement}

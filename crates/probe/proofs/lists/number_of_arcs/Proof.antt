@@ -2,7 +2,7 @@
 use mathlib.Core.Path.{_≡_, sym, _∙_}
 use native.Mathlib.Omega.{arith}
 use lib.ListN.{length}
-use Rattle.outline.proofs.Arrays.{length-of-values}
+use Rattle.boundary.proofs.Arrays.{length-of-values}
 use Rattle.probe.proofs.Held.{as-many, all-of-them}
 use Rattle.probe.proofs.lists.number_of_arcs.Statement.{statement}
 use Rattle.probe.proofs.lists.number_of_arcs.Tie as tie
