@@ -7,7 +7,7 @@ use mathlib.Core.List.{List, [], _∷_}
 use native.Mathlib.Decide.{ℕ-discrete}
 use native.Mathlib.Omega.{arith}
 use lib.Dec.{eqb, ltb}
-use lib.IntN.{ℤ, pos, negℤ}
+use lib.IntN.{ℤ}
 use lib.ListN.{length, getD, set, length-set}
 use lib.Seq.{getD-set-same, getD-set-other}
 use lib.Signed.{leZ-yes}
@@ -19,13 +19,9 @@ use Rattle.plan.specs.declared.Item.{Item}
 use Rattle.plan.specs.declared.Item.the-variants.{Count, Map, Coordinate, Side, Radius, HeadNumber}
 use Rattle.plan.specs.declared.Plan.{Plan}
 use Rattle.plan.specs.Table.{holds, refusalOf}
-use Rattle.plan.specs.Exactly.{Within, Met, holds-exactly, HeadMet, noHead, Acceptable, AcceptableEdit, bit}
+use Rattle.plan.specs.Exactly.{Satisfied, holds-exactly, HeadWithin, GroundWithin, noHead, Acceptable, AcceptableEdit, bit}
 use Rattle.plan.specs.Book.{headOf, withHead, applied}
 use Rattle.file.specs.File.{Got, got, stop, Part, followed, _>>=_, _>>_, give, after, number, require, Layout, groundLayout, headLayout, groundItem, putGround, headItem, putHead, field, fields, entry, heads, planPart, editPart, editTo, File, ends, givesPlan, givesEdit, thenEdit, edits, thenEdits, readFile, missingGround, missingHead, noHeads}
-
--- a box within document 01's limits
-abbrev pub GroundMet : Ground → Type 0
-GroundMet g = Within (negℤ (pos 20000)) (pos 20000) (g .x) × Within (negℤ (pos 20000)) (pos 20000) (g .y) × Within (pos 1) (pos 40000) (g .width) × Within (pos 1) (pos 40000) (g .height)
 
 -- what is read has P
 module _ {A : Type 0} where
@@ -42,126 +38,126 @@ any : {A : Type 0} (g : Got A) → Gives (λ a. Unit {0}) g
 any (got a at s) = tt
 any (stop r at) = tt
 
--- a check that is passed has its condition met
-required : (item : Item) (from at : ℕ) (s : List ℕ) → Gives (λ u. Met item) (require item from at s)
+-- a check that is passed has its condition satisfied
+required : (item : Item) (from at : ℕ) (s : List ℕ) → Gives (λ u. Satisfied item) (require item from at s)
 required item from at s = go (holds item) refl
   where
-    go : (t : Bool) → holds item ≡ t → Gives (λ u. Met item) (cond t (got (tt {0}) at s) (stop (refusalOf item) from))
+    go : (t : Bool) → holds item ≡ t → Gives (λ u. Satisfied item) (cond t (got (tt {0}) at s) (stop (refusalOf item) from))
     go true e = holds-exactly item .0 e
     go false e = tt
 
-module _ {A : Type 0} (l : Layout A) (P : A → Type 0) (put-met : (i : ℕ) (z : ℤ) (v : A) → Met (l .item i z) → P v → P (l .put i z v)) where
-  field-met : (i : ℕ) (v : A) (at : ℕ) (s : List ℕ) → P v → Gives P (field l i v at s)
-  field-met i v at s h =
+module _ {A : Type 0} (l : Layout A) (P : A → Type 0) (put-within : (i : ℕ) (z : ℤ) (v : A) → Satisfied (l .item i z) → P v → P (l .put i z v)) where
+  field-within : (i : ℕ) (v : A) (at : ℕ) (s : List ℕ) → P v → Gives P (field l i v at s)
+  field-within i v at s h =
       gives-followed (λ z. Unit {0}) P (λ z. require (l .item i z) at >> give (l .put i z v)) (number at s) (any (number at s))
-      (λ z at′ s′ u. gives-followed (λ u. Met (l .item i z)) P (λ u. give (l .put i z v)) (require (l .item i z) at at′ s′) (required (l .item i z) at at′ s′) (λ u at″ s″ met. put-met i z v met h))
+      (λ z at′ s′ u. gives-followed (λ u. Satisfied (l .item i z)) P (λ u. give (l .put i z v)) (require (l .item i z) at at′ s′) (required (l .item i z) at at′ s′) (λ u at″ s″ satisfied. put-within i z v satisfied h))
 
-  fields-met : (left i map : ℕ) (v : A) (at : ℕ) (s : List ℕ) → P v → Gives P (fields l left i map v at s)
+  fields-within : (left i map : ℕ) (v : A) (at : ℕ) (s : List ℕ) → P v → Gives P (fields l left i map v at s)
   unfolding fields
-  fields-met zero i map v at s h = h
-  fields-met (suc left) i map v at s h =
+  fields-within zero i map v at s h = h
+  fields-within (suc left) i map v at s h =
       gives-followed P P (fields l left (suc i) map) (cond (eqb (bit map i) 1) (field l i v) (give v) at s) (go (eqb (bit map i) 1))
-      (λ w at′ s′ k. fields-met left (suc i) map w at′ s′ k)
+      (λ w at′ s′ k. fields-within left (suc i) map w at′ s′ k)
     where
       go : (t : Bool) → Gives P (cond t (field l i v) (give v) at s)
-      go true = field-met i v at s h
+      go true = field-within i v at s h
       go false = h
 
-  entry-met : (v : A) (at : ℕ) (s : List ℕ) → P v → Gives P (entry l v at s)
-  entry-met v at [] h = tt
-  entry-met v at (b ∷ s) h =
+  entry-within : (v : A) (at : ℕ) (s : List ℕ) → P v → Gives P (entry l v at s)
+  entry-within v at [] h = tt
+  entry-within v at (b ∷ s) h =
       gives-followed (λ u. Unit {0}) P (λ u. fields l (l .count) 0 b v) (require (Map (l .count) b) at _ s) (any (require (Map (l .count) b) at _ s))
-      (λ u at′ s′ k. fields-met (l .count) 0 b v at′ s′ h)
+      (λ u at′ s′ k. fields-within (l .count) 0 b v at′ s′ h)
 
 -- ---- box and head
 
-pick-met : {A : Type 0} (P : A → Type 0) (t : Bool) (v w : A) → (t ≡ true → P v) → (t ≡ false → P w) → P (cond t v w)
-pick-met P true v w f g = f refl
-pick-met P false v w f g = g refl
+either : {A : Type 0} (P : A → Type 0) (t : Bool) (v w : A) → (t ≡ true → P v) → (t ≡ false → P w) → P (cond t v w)
+either P true v w f g = f refl
+either P false v w f g = g refl
 
 -- a field below 2 is a coordinate, and one from 2 on the other item
-low-field : (i : ℕ) (z : ℤ) (other : Item) → i < 2 → Met (cond (ltb i 2) (Coordinate z) other) → Met (Coordinate z)
-low-field i z other lt met = subst (λ t. Met (cond t (Coordinate z) other)) (lt-ltb i 2 lt) met
+low-field : (i : ℕ) (z : ℤ) (other : Item) → i < 2 → Satisfied (cond (ltb i 2) (Coordinate z) other) → Satisfied (Coordinate z)
+low-field i z other lt satisfied = subst (λ t. Satisfied (cond t (Coordinate z) other)) (lt-ltb i 2 lt) satisfied
 
-high-field : (i : ℕ) (z : ℤ) (other : Item) → 2 ≤ i → Met (cond (ltb i 2) (Coordinate z) other) → Met other
-high-field i z other le met = subst (λ t. Met (cond t (Coordinate z) other)) (le-ltb i 2 le) met
+high-field : (i : ℕ) (z : ℤ) (other : Item) → 2 ≤ i → Satisfied (cond (ltb i 2) (Coordinate z) other) → Satisfied other
+high-field i z other le satisfied = subst (λ t. Satisfied (cond t (Coordinate z) other)) (le-ltb i 2 le) satisfied
 
-put-ground-met : (i : ℕ) (z : ℤ) (g : Ground) → Met (groundItem i z) → GroundMet g → GroundMet (putGround i z g)
-put-ground-met i z g met h =
-    pick-met GroundMet (eqb i 0) _ _ (λ e. (low-field i z (Side z) (omega (arith, eqb-true i 0 e)) met, h .1, h .2, h .3))
+put-ground-within : (i : ℕ) (z : ℤ) (g : Ground) → Satisfied (groundItem i z) → GroundWithin g → GroundWithin (putGround i z g)
+put-ground-within i z g satisfied h =
+    either GroundWithin (eqb i 0) _ _ (λ e. (low-field i z (Side z) (omega (arith, eqb-true i 0 e)) satisfied, h .1, h .2, h .3))
     (λ ne.
-    pick-met GroundMet (eqb i 1) _ _ (λ e. (h .0, low-field i z (Side z) (omega (arith, eqb-true i 1 e)) met, h .2, h .3))
+    either GroundWithin (eqb i 1) _ _ (λ e. (h .0, low-field i z (Side z) (omega (arith, eqb-true i 1 e)) satisfied, h .2, h .3))
     (λ ne′.
     let zero′ = eqb-false i 0 ne in
     let one′ = eqb-false i 1 ne′ in
-    let side = high-field i z (Side z) (omega (arith, zero′, one′)) met in
-    pick-met GroundMet (eqb i 2) _ _ (λ e. (h .0, h .1, side, h .3)) (λ ne″. (h .0, h .1, h .2, side))))
+    let side = high-field i z (Side z) (omega (arith, zero′, one′)) satisfied in
+    either GroundWithin (eqb i 2) _ _ (λ e. (h .0, h .1, side, h .3)) (λ ne″. (h .0, h .1, h .2, side))))
 
-put-head-met : (i : ℕ) (z : ℤ) (h : Head) → Met (headItem i z) → HeadMet h → HeadMet (putHead i z h)
-put-head-met i z h met ok =
-    pick-met HeadMet (eqb i 0) _ _ (λ e. (low-field i z (Radius z) (omega (arith, eqb-true i 0 e)) met, ok .1, ok .2))
+put-head-within : (i : ℕ) (z : ℤ) (h : Head) → Satisfied (headItem i z) → HeadWithin h → HeadWithin (putHead i z h)
+put-head-within i z h satisfied ok =
+    either HeadWithin (eqb i 0) _ _ (λ e. (low-field i z (Radius z) (omega (arith, eqb-true i 0 e)) satisfied, ok .1, ok .2))
     (λ ne.
-    pick-met HeadMet (eqb i 1) _ _ (λ e. (ok .0, low-field i z (Radius z) (omega (arith, eqb-true i 1 e)) met, ok .2))
+    either HeadWithin (eqb i 1) _ _ (λ e. (ok .0, low-field i z (Radius z) (omega (arith, eqb-true i 1 e)) satisfied, ok .2))
     (λ ne′.
     let zero′ = eqb-false i 0 ne in
     let one′ = eqb-false i 1 ne′ in
-    (ok .0, ok .1, high-field i z (Radius z) (omega (arith, zero′, one′)) met)))
+    (ok .0, ok .1, high-field i z (Radius z) (omega (arith, zero′, one′)) satisfied)))
 
-missing-ground-met : GroundMet missingGround
-missing-ground-met =
+missing-ground-within : GroundWithin missingGround
+missing-ground-within =
     ((leZ-yes tt, leZ-yes tt), (leZ-yes tt, leZ-yes tt), (leZ-yes tt, leZ-yes tt), (leZ-yes tt, leZ-yes tt))
 
-missing-head-met : HeadMet missingHead
-missing-head-met = ((leZ-yes tt, leZ-yes tt), (leZ-yes tt, leZ-yes tt), (leZ-yes tt, leZ-yes tt))
+missing-head-within : HeadWithin missingHead
+missing-head-within = ((leZ-yes tt, leZ-yes tt), (leZ-yes tt, leZ-yes tt), (leZ-yes tt, leZ-yes tt))
 
 -- ---- the plan
 
 -- a plan whose heads below i are within the limits
 pub record Upto (i : ℕ) (p : Plan) : Type 0 where
   pub count : p .n ≤ 10
-  pub ground : GroundMet (p .ground)
+  pub ground : GroundWithin (p .ground)
   pub room : length (p .heads) ≡ 10
-  pub heads : (j : ℕ) → j < i → HeadMet (getD (p .heads) j noHead)
+  pub heads : (j : ℕ) → j < i → HeadWithin (getD (p .heads) j noHead)
 
 -- another head k: the heads below i are within the limits if that head is, and the others are
-with-head-met : (i k : ℕ) (p : Plan) (h : Head) {m : ℕ} → k < 10 → Upto m p → HeadMet h → ((j : ℕ) → j < i → (j ≡ k → ⊥) → j < m) → Upto i (withHead p k h)
-with-head-met i k p h lt upto met others =
+with-head-within : (i k : ℕ) (p : Plan) (h : Head) {m : ℕ} → k < 10 → Upto m p → HeadWithin h → ((j : ℕ) → j < i → (j ≡ k → ⊥) → j < m) → Upto i (withHead p k h)
+with-head-within i k p h lt upto within others =
     record {
       count = upto .count;
       ground = upto .ground;
       room = length-set (p .heads) k h ∙ upto .room;
       heads = λ j le.
-          elim (ℕ-discrete j k) as (λ d. HeadMet (getD (set (p .heads) k h) j noHead)) [
+          elim (ℕ-discrete j k) as (λ d. HeadWithin (getD (set (p .heads) k h) j noHead)) [
             | yes same ↦
                 let here : getD (set (p .heads) k h) j noHead ≡ h = rw same (getD-set-same (p .heads) k h noHead (omega (arith, upto .room))) in
-                subst HeadMet (sym here) met
+                subst HeadWithin (sym here) within
             | no other ↦
-                subst HeadMet (sym (getD-set-other (p .heads) k j h noHead other)) (upto .heads j (others j le other))
+                subst HeadWithin (sym (getD-set-other (p .heads) k j h noHead other)) (upto .heads j (others j le other))
           ];
     }
 
-heads-met : (left i : ℕ) (before : Head) (p : Plan) (at : ℕ) (s : List ℕ) → left + i ≡ p .n → Upto i p → HeadMet before → Gives (λ q. Upto (q .n) q) (heads left i before p at s)
+heads-within : (left i : ℕ) (before : Head) (p : Plan) (at : ℕ) (s : List ℕ) → left + i ≡ p .n → Upto i p → HeadWithin before → Gives (λ q. Upto (q .n) q) (heads left i before p at s)
 unfolding heads
-heads-met zero i before p at s all upto met =
+heads-within zero i before p at s all upto within =
     let same : i ≡ p .n = omega arith in
     subst (λ n. Upto n p) same upto
-heads-met (suc left) i before p at s all upto met =
-    gives-followed HeadMet (λ q. Upto (q .n) q) (λ h. heads left (suc i) h (withHead p i h)) (entry headLayout before at s)
-    (entry-met headLayout HeadMet put-head-met before at s met)
-    (λ h at′ s′ ok. heads-met left (suc i) h (withHead p i h) at′ s′ (omega arith) (with-head-met (suc i) i p h (omega (arith, upto .count)) upto ok (λ j lt other. omega arith)) ok)
+heads-within (suc left) i before p at s all upto within =
+    gives-followed HeadWithin (λ q. Upto (q .n) q) (λ h. heads left (suc i) h (withHead p i h)) (entry headLayout before at s)
+    (entry-within headLayout HeadWithin put-head-within before at s within)
+    (λ h at′ s′ ok. heads-within left (suc i) h (withHead p i h) at′ s′ (omega arith) (with-head-within (suc i) i p h (omega (arith, upto .count)) upto ok (λ j lt other. omega arith)) ok)
 
-no-heads-met : (g : Ground) (n : ℕ) → n ≤ 10 → GroundMet g → Upto 0 (noHeads g n)
-no-heads-met g n le ok = record { count = le; ground = ok; room = refl; heads = λ j lt. absurd (omega arith) }
+no-heads-within : (g : Ground) (n : ℕ) → n ≤ 10 → GroundWithin g → Upto 0 (noHeads g n)
+no-heads-within g n le ok = record { count = le; ground = ok; room = refl; heads = λ j lt. absurd (omega arith) }
 
-plan-met : (at : ℕ) (s : List ℕ) → Gives (λ p. Upto (p .n) p) (planPart at s)
-plan-met at [] = tt
-plan-met at (n ∷ s) =
-    gives-followed (λ u. Met (Count n)) (λ p. Upto (p .n) p) (λ u. entry groundLayout missingGround >>= λ g. heads n 0 missingHead (noHeads g n))
+plan-within : (at : ℕ) (s : List ℕ) → Gives (λ p. Upto (p .n) p) (planPart at s)
+plan-within at [] = tt
+plan-within at (n ∷ s) =
+    gives-followed (λ u. Satisfied (Count n)) (λ p. Upto (p .n) p) (λ u. entry groundLayout missingGround >>= λ g. heads n 0 missingHead (noHeads g n))
     (require (Count n) at (after at) s) (required (Count n) at (after at) s)
     (λ u at′ s′ few.
-    gives-followed GroundMet (λ p. Upto (p .n) p) (λ g. heads n 0 missingHead (noHeads g n)) (entry groundLayout missingGround at′ s′)
-    (entry-met groundLayout GroundMet put-ground-met missingGround at′ s′ missing-ground-met)
-    (λ g at″ s″ ok. heads-met n 0 missingHead (noHeads g n) at″ s″ (omega arith) (no-heads-met g n few ok) missing-head-met))
+    gives-followed GroundWithin (λ p. Upto (p .n) p) (λ g. heads n 0 missingHead (noHeads g n)) (entry groundLayout missingGround at′ s′)
+    (entry-within groundLayout GroundWithin put-ground-within missingGround at′ s′ missing-ground-within)
+    (λ g at″ s″ ok. heads-within n 0 missingHead (noHeads g n) at″ s″ (omega arith) (no-heads-within g n few ok) missing-head-within))
 
 acceptable : (p : Plan) → Upto (p .n) p → Acceptable p
 acceptable p upto =
@@ -176,43 +172,43 @@ acceptable p upto =
 
 -- ---- the edits
 
-edit-met : (p : Plan) (at b : ℕ) (s : List ℕ) → Upto (p .n) p → Gives (AcceptableEdit (p .n)) (editPart p at (b ∷ s))
-edit-met p at b s upto =
-    gives-followed (λ u. Met (HeadNumber b (p .n))) (AcceptableEdit (p .n)) (λ u. entry headLayout (getD (p .heads) b noHead) >>= λ h. give (editTo b h))
+edit-within : (p : Plan) (at b : ℕ) (s : List ℕ) → Upto (p .n) p → Gives (AcceptableEdit (p .n)) (editPart p at (b ∷ s))
+edit-within p at b s upto =
+    gives-followed (λ u. Satisfied (HeadNumber b (p .n))) (AcceptableEdit (p .n)) (λ u. entry headLayout (getD (p .heads) b noHead) >>= λ h. give (editTo b h))
     (require (HeadNumber b (p .n)) at (after at) s) (required (HeadNumber b (p .n)) at (after at) s)
     (λ u at′ s′ below.
-    gives-followed HeadMet (AcceptableEdit (p .n)) (λ h. give (editTo b h)) (entry headLayout (getD (p .heads) b noHead) at′ s′)
-    (entry-met headLayout HeadMet put-head-met (getD (p .heads) b noHead) at′ s′ (upto .heads b below))
+    gives-followed HeadWithin (AcceptableEdit (p .n)) (λ h. give (editTo b h)) (entry headLayout (getD (p .heads) b noHead) at′ s′)
+    (entry-within headLayout HeadWithin put-head-within (getD (p .heads) b noHead) at′ s′ (upto .heads b below))
     (λ h at″ s″ ok. record { head = below; x = ok .0; y = ok .1; radius = ok .2 }))
 
 -- each edit is within the limits, on the plan that the edits before it left
-abbrev pub EditsMet : Plan → File → Type 0
-EditsMet p (ends a) = Unit {0}
-EditsMet p (givesPlan q f) = ⊥
-EditsMet p (givesEdit e f) = AcceptableEdit (p .n) e × EditsMet (applied p e) f
+abbrev pub EditsWithin : Plan → File → Type 0
+EditsWithin p (ends a) = Unit {0}
+EditsWithin p (givesPlan q f) = ⊥
+EditsWithin p (givesEdit e f) = AcceptableEdit (p .n) e × EditsWithin (applied p e) f
 
 -- the plan is within the limits, and has room for ten heads; then the edits are
-abbrev pub FileMet : File → Type 0
-FileMet (ends a) = Unit {0}
-FileMet (givesPlan p f) = Acceptable p × (length (p .heads) ≡ 10) × EditsMet p f
-FileMet (givesEdit e f) = ⊥
+abbrev pub FileWithin : File → Type 0
+FileWithin (ends a) = Unit {0}
+FileWithin (givesPlan p f) = Acceptable p × (length (p .heads) ≡ 10) × EditsWithin p f
+FileWithin (givesEdit e f) = ⊥
 
-edits-met : (most : ℕ) (p : Plan) (at : ℕ) (s : List ℕ) → Upto (p .n) p → EditsMet p (edits most p at s)
+edits-within : (most : ℕ) (p : Plan) (at : ℕ) (s : List ℕ) → Upto (p .n) p → EditsWithin p (edits most p at s)
 unfolding edits
-edits-met zero p at s upto = tt
-edits-met (suc most) p at [] upto = tt
-edits-met (suc most) p at (b ∷ s) upto = go (editPart p at (b ∷ s)) (edit-met p at b s upto) (edits-met most)
+edits-within zero p at s upto = tt
+edits-within (suc most) p at [] upto = tt
+edits-within (suc most) p at (b ∷ s) upto = go (editPart p at (b ∷ s)) (edit-within p at b s upto) (edits-within most)
   where
-    go : (g : Got Edit) → Gives (AcceptableEdit (p .n)) g → ((q : Plan) (at : ℕ) (s : List ℕ) → Upto (q .n) q → EditsMet q (edits most q at s)) → EditsMet p (thenEdit (λ e. edits most (applied p e)) g)
+    go : (g : Got Edit) → Gives (AcceptableEdit (p .n)) g → ((q : Plan) (at : ℕ) (s : List ℕ) → Upto (q .n) q → EditsWithin q (edits most q at s)) → EditsWithin p (thenEdit (λ e. edits most (applied p e)) g)
     go (got e at s) ok rest =
-        (ok, rest (applied p e) at s (with-head-met (p .n) (e .head) p (headOf e) (omega (arith, upto .count, ok .head)) upto (ok .x, ok .y, ok .radius) (λ j lt other. lt)))
+        (ok, rest (applied p e) at s (with-head-within (p .n) (e .head) p (headOf e) (omega (arith, upto .count, ok .head)) upto (ok .x, ok .y, ok .radius) (λ j lt other. lt)))
     go (stop r at) ok rest = tt
 
 -- what a plan file hands out is within document 01's limits
-pub file-sound : (s : List ℕ) → FileMet (readFile s)
+pub file-sound : (s : List ℕ) → FileWithin (readFile s)
 unfolding readFile
-file-sound s = go (planPart 0 s) (plan-met 0 s)
+file-sound s = go (planPart 0 s) (plan-within 0 s)
   where
-    go : (g : Got Plan) → Gives (λ p. Upto (p .n) p) g → FileMet (thenEdits (length s) g)
-    go (got p at t) ok = (acceptable p ok, ok .room, edits-met (length s) p at t ok)
+    go : (g : Got Plan) → Gives (λ p. Upto (p .n) p) g → FileWithin (thenEdits (length s) g)
+    go (got p at t) ok = (acceptable p ok, ok .room, edits-within (length s) p at t ok)
     go (stop r at) ok = tt

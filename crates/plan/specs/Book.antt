@@ -15,7 +15,7 @@ use Rattle.plan.specs.declared.Lent.{Lent}
 use Rattle.plan.specs.declared.Needed.{Needed}
 use Rattle.plan.specs.declared.Plan.{Plan}
 use Rattle.plan.specs.Checks.{editAnswer}
-use Rattle.plan.specs.Exactly.{Acceptable, AcceptableEdit, HeadMet, noHead, edit-taken}
+use Rattle.plan.specs.Exactly.{Acceptable, AcceptableEdit, HeadWithin, noHead, edit-taken}
 
 -- the head that an edit asks for
 abbrev pub headOf : Edit → Head
@@ -83,14 +83,14 @@ applied-acceptable p e long ok edit =
       width = ok .width;
       height = ok .height;
       heads = λ i lt.
-          elim (ℕ-discrete i (e .head)) as (λ d. HeadMet (getD (set (p .heads) (e .head) (headOf e)) i noHead)) [
+          elim (ℕ-discrete i (e .head)) as (λ d. HeadWithin (getD (set (p .heads) (e .head) (headOf e)) i noHead)) [
             | yes same ↦
                 let room : e .head < length (p .heads) = omega (arith, ok .count, edit .head) in
                 let here : getD (set (p .heads) (e .head) (headOf e)) i noHead ≡ headOf e =
                 rw same (getD-set-same (p .heads) (e .head) (headOf e) noHead room) in
-                subst HeadMet (sym here) (edit .x, edit .y, edit .radius)
+                subst HeadWithin (sym here) (edit .x, edit .y, edit .radius)
             | no other ↦
-                subst HeadMet (sym (getD-set-other (p .heads) (e .head) i (headOf e) noHead other)) (ok .heads i lt)
+                subst HeadWithin (sym (getD-set-other (p .heads) (e .head) i (headOf e) noHead other)) (ok .heads i lt)
           ];
     }
 

@@ -16,10 +16,11 @@ use lib.Pow.{pow-pos, pow-mono, shr-shr}
 use lib.Signed.{_≤ℤ_, leZ, leZ-yes}
 use borrow.Author.Tests.{ltb-true, leb-true, lt-ltb, le-leb}
 use Rattle.heads.specs.declared.Head.{Head}
-use Rattle.heads.specs.Limits.{within}
+use Rattle.heads.specs.Limits.{within, positionInLimits, radiusInLimits, inLimits}
 use Rattle.plan.specs.declared.Answer.{Answer}
 use Rattle.plan.specs.declared.Answer.the-variants.{Taken, Refused}
 use Rattle.plan.specs.declared.Edit.{Edit}
+use Rattle.plan.specs.declared.Ground.{Ground}
 use Rattle.plan.specs.declared.Item.{Item}
 use Rattle.plan.specs.declared.Item.the-variants.{Count, Map, Coordinate, Side, Radius, HeadNumber, Tables}
 use Rattle.plan.specs.declared.Lent.{Lent}
@@ -39,14 +40,14 @@ abbrev pub Within : ℤ → ℤ → ℤ → Type 0
 Within low high z = (low ≤ℤ z) × (z ≤ℤ high)
 
 -- the condition of an item; of a map: no bit without a field stands
-abbrev pub Met : Item → Type 0
-Met (Count n) = n ≤ 10
-Met (Map fields map) = (i : ℕ) → fields ≤ i → bit map i ≡ 0
-Met (Coordinate z) = Within (negℤ (pos 20000)) (pos 20000) z
-Met (Side z) = Within (pos 1) (pos 40000) z
-Met (Radius z) = Within (pos 1) (pos 20000) z
-Met (HeadNumber head n) = head < n
-Met (Tables needed lent) = (needed .rows ≤ lent .rows) × (needed .rows * needed .width ≤ lent .gradients)
+abbrev pub Satisfied : Item → Type 0
+Satisfied (Count n) = n ≤ 10
+Satisfied (Map fields map) = (i : ℕ) → fields ≤ i → bit map i ≡ 0
+Satisfied (Coordinate z) = Within (negℤ (pos 20000)) (pos 20000) z
+Satisfied (Side z) = Within (pos 1) (pos 40000) z
+Satisfied (Radius z) = Within (pos 1) (pos 20000) z
+Satisfied (HeadNumber head n) = head < n
+Satisfied (Tables needed lent) = (needed .rows ≤ lent .rows) × (needed .rows * needed .width ≤ lent .gradients)
 
 -- ---- the map byte: one law over the number of fields
 
@@ -87,8 +88,8 @@ within-exactly low high z =
       (λ h. both .1 (at-least .1 (h .0 .le), at-most .1 (h .1 .le))),
     )
 
--- an item holds exactly if its condition is met
-pub holds-exactly : (item : Item) → (holds item ≡ true) ↔ Met item
+-- an item holds exactly if its condition is satisfied
+pub holds-exactly : (item : Item) → (holds item ≡ true) ↔ Satisfied item
 holds-exactly (Count n) = (leb-true n 10, le-leb n 10)
 holds-exactly (Map fields map) = (
   (λ e. map-exactly fields map .0 (ltb-true map (2 ^ fields) e)),
@@ -104,15 +105,15 @@ holds-exactly (Tables needed lent) =
 
 -- ---- the first failed check
 
--- every item's condition is met
-abbrev pub AllMet : List Item → Type 0
-AllMet [] = Unit {0}
-AllMet (item ∷ items) = Met item × AllMet items
+-- every item's condition is satisfied
+abbrev pub AllSatisfied : List Item → Type 0
+AllSatisfied [] = Unit {0}
+AllSatisfied (item ∷ items) = Satisfied item × AllSatisfied items
 
--- the first item whose condition is not met is one of number k
-abbrev pub FirstUnmet : ℕ → List Item → Type 0
-FirstUnmet k [] = ⊥
-FirstUnmet k (item ∷ items) = (¬ Met item × (numberOf (refusalOf item) ≡ k)) ⊎ (Met item × FirstUnmet k items)
+-- the first item whose condition is not satisfied is one of number k
+abbrev pub FirstUnsatisfied : ℕ → List Item → Type 0
+FirstUnsatisfied k [] = ⊥
+FirstUnsatisfied k (item ∷ items) = (¬ Satisfied item × (numberOf (refusalOf item) ≡ k)) ⊎ (Satisfied item × FirstUnsatisfied k items)
 
 -- the number of an answer, 0 where it is taken
 abbrev pub answerNumber : Answer → ℕ
@@ -120,56 +121,56 @@ answerNumber Taken = 0
 answerNumber (Refused r at) = numberOf r
 
 module _ (item : Item) where
-  met : holds item ≡ true → Met item
-  met e = holds-exactly item .0 e
+  satisfied : holds item ≡ true → Satisfied item
+  satisfied e = holds-exactly item .0 e
 
-  unmet : holds item ≡ false → ¬ Met item
-  unmet e h = false≢true (sym e ∙ holds-exactly item .1 h)
+  unsatisfied : holds item ≡ false → ¬ Satisfied item
+  unsatisfied e h = false≢true (sym e ∙ holds-exactly item .1 h)
 
-  answer-met : (items : List Item) → holds item ≡ true → firstFailed (item ∷ items) ≡ firstFailed items
-  answer-met items e = rw e
+  answer-satisfied : (items : List Item) → holds item ≡ true → firstFailed (item ∷ items) ≡ firstFailed items
+  answer-satisfied items e = rw e
 
-  answer-unmet : (items : List Item) → holds item ≡ false → firstFailed (item ∷ items) ≡ Refused (refusalOf item) 0
-  answer-unmet items e = rw e
+  answer-unsatisfied : (items : List Item) → holds item ≡ false → firstFailed (item ∷ items) ≡ Refused (refusalOf item) 0
+  answer-unsatisfied items e = rw e
 
-  taken-step : (items : List Item) (b : Bool) → holds item ≡ b → ((firstFailed items ≡ Taken) ↔ AllMet items) → (firstFailed (item ∷ items) ≡ Taken) ↔ AllMet (item ∷ items)
+  taken-step : (items : List Item) (b : Bool) → holds item ≡ b → ((firstFailed items ≡ Taken) ↔ AllSatisfied items) → (firstFailed (item ∷ items) ≡ Taken) ↔ AllSatisfied (item ∷ items)
   taken-step items true e rest =
-      ((λ p. (met e, rest .0 (sym (answer-met items e) ∙ p))), (λ h. answer-met items e ∙ rest .1 (h .1)))
+      ((λ p. (satisfied e, rest .0 (sym (answer-satisfied items e) ∙ p))), (λ h. answer-satisfied items e ∙ rest .1 (h .1)))
   taken-step items false e rest =
-      ((λ p. let z : _≡_ {A = ℕ} 0 1 = cc (answer-unmet items e) in absurd (omega arith)), (λ h. absurd (unmet e (h .0))))
+      ((λ p. let z : _≡_ {A = ℕ} 0 1 = cc (answer-unsatisfied items e) in absurd (omega arith)), (λ h. absurd (unsatisfied e (h .0))))
 
-  number-step : (items : List Item) (k : ℕ) (b : Bool) → holds item ≡ b → ((answerNumber (firstFailed items) ≡ k) ↔ FirstUnmet k items) → (answerNumber (firstFailed (item ∷ items)) ≡ k) ↔ FirstUnmet k (item ∷ items)
+  number-step : (items : List Item) (k : ℕ) (b : Bool) → holds item ≡ b → ((answerNumber (firstFailed items) ≡ k) ↔ FirstUnsatisfied k items) → (answerNumber (firstFailed (item ∷ items)) ≡ k) ↔ FirstUnsatisfied k (item ∷ items)
   number-step items k true e rest = (
-    (λ p. inr (met e, rest .0 (sym (ap answerNumber (answer-met items e)) ∙ p))),
-    ⊎-elim (λ u. absurd (u .0 (met e))) (λ u. ap answerNumber (answer-met items e) ∙ rest .1 (u .1)),
+    (λ p. inr (satisfied e, rest .0 (sym (ap answerNumber (answer-satisfied items e)) ∙ p))),
+    ⊎-elim (λ u. absurd (u .0 (satisfied e))) (λ u. ap answerNumber (answer-satisfied items e) ∙ rest .1 (u .1)),
   )
   number-step items k false e rest = (
-    (λ p. inl (unmet e, sym (ap answerNumber (answer-unmet items e)) ∙ p)),
-    ⊎-elim (λ u. ap answerNumber (answer-unmet items e) ∙ u .1) (λ u. absurd (unmet e (u .0))),
+    (λ p. inl (unsatisfied e, sym (ap answerNumber (answer-unsatisfied items e)) ∙ p)),
+    ⊎-elim (λ u. ap answerNumber (answer-unsatisfied items e) ∙ u .1) (λ u. absurd (unsatisfied e (u .0))),
   )
 
--- taken exactly if every condition is met
-pub taken-exactly : (items : List Item) → (firstFailed items ≡ Taken) ↔ AllMet items
+-- taken exactly if every condition is satisfied
+pub taken-exactly : (items : List Item) → (firstFailed items ≡ Taken) ↔ AllSatisfied items
 taken-exactly [] = ((λ e. tt), (λ h. refl))
 taken-exactly (item ∷ items) = taken-step item items (holds item) refl (taken-exactly items)
 
--- a number is given exactly if the first condition that is not met is one of that number
-pub number-exactly : (items : List Item) (k : ℕ) → 0 < k → (answerNumber (firstFailed items) ≡ k) ↔ FirstUnmet k items
+-- a number is given exactly if the first condition that is not satisfied is one of that number
+pub number-exactly : (items : List Item) (k : ℕ) → 0 < k → (answerNumber (firstFailed items) ≡ k) ↔ FirstUnsatisfied k items
 number-exactly [] k h = ((λ e. let z : 0 < 0 = subst (λ n. 0 < n) (sym e) h in omega arith), (λ u. absurd u))
 number-exactly (item ∷ items) k h = number-step item items k (holds item) refl (number-exactly items k h)
 
 -- ---- lists of items, one after the other
 
-met-append : (s t : List Item) → AllMet (s ++ t) ↔ (AllMet s × AllMet t)
-met-append [] t = ((λ h. (tt, h)), (λ h. h .1))
-met-append (item ∷ s) t =
-    let rest = met-append s t in
+satisfied-append : (s t : List Item) → AllSatisfied (s ++ t) ↔ (AllSatisfied s × AllSatisfied t)
+satisfied-append [] t = ((λ h. (tt, h)), (λ h. h .1))
+satisfied-append (item ∷ s) t =
+    let rest = satisfied-append s t in
     ((λ h. ((h .0, rest .0 (h .1) .0), rest .0 (h .1) .1)), (λ h. (h .0 .0, rest .1 (h .0 .1, h .1))))
 
-unmet-append : (k : ℕ) (s t : List Item) → FirstUnmet k (s ++ t) ↔ (FirstUnmet k s ⊎ (AllMet s × FirstUnmet k t))
-unmet-append k [] t = ((λ u. inr (tt, u)), ⊎-elim (λ u. absurd u) (λ u. u .1))
-unmet-append k (item ∷ s) t =
-    let rest = unmet-append k s t in (
+unsatisfied-append : (k : ℕ) (s t : List Item) → FirstUnsatisfied k (s ++ t) ↔ (FirstUnsatisfied k s ⊎ (AllSatisfied s × FirstUnsatisfied k t))
+unsatisfied-append k [] t = ((λ u. inr (tt, u)), ⊎-elim (λ u. absurd u) (λ u. u .1))
+unsatisfied-append k (item ∷ s) t =
+    let rest = unsatisfied-append k s t in (
       ⊎-elim (λ u. inl (inl u)) (λ u. ⊎-elim (λ v. inl (inr (u .0, v))) (λ v. inr ((u .0, v .0), v .1)) (rest .0 (u .1))),
       ⊎-elim (⊎-elim (λ u. inl u) (λ u. inr (u .0, rest .1 (inl (u .1))))) (λ u. inr (u .0 .0, rest .1 (inr (u .0 .1, u .1)))),
     )
@@ -179,7 +180,7 @@ abbrev Free : ℕ → List Item → Type 0
 Free k [] = Unit {0}
 Free k (item ∷ items) = (numberOf (refusalOf item) ≡ k → ⊥) × Free k items
 
-free : (k : ℕ) (items : List Item) → Free k items → FirstUnmet k items → ⊥
+free : (k : ℕ) (items : List Item) → Free k items → FirstUnsatisfied k items → ⊥
 free k [] f u = u
 free k (item ∷ items) f u = ⊎-elim (λ v. f .0 (v .1)) (λ v. free k items (f .1) (v .1)) u
 
@@ -195,8 +196,22 @@ free-heads k f g (h ∷ hs) = (f, (f, (g, free-heads k f g hs)))
 -- ---- when a plan and an edit are taken
 
 -- a head within document 01's limits
-abbrev pub HeadMet : Head → Type 0
-HeadMet h = Within (negℤ (pos 20000)) (pos 20000) (h .x) × Within (negℤ (pos 20000)) (pos 20000) (h .y) × Within (pos 1) (pos 20000) (h .radius)
+abbrev pub HeadWithin : Head → Type 0
+HeadWithin h = Within (negℤ (pos 20000)) (pos 20000) (h .x) × Within (negℤ (pos 20000)) (pos 20000) (h .y) × Within (pos 1) (pos 20000) (h .radius)
+
+-- which is one that passes the test of `heads`
+pub within-limits : (h : Head) → HeadWithin h → T (inLimits h)
+within-limits h ok =
+    let inner = and-exactly (positionInLimits (h .y)) (radiusInLimits (h .radius)) in
+    let outer = and-exactly (positionInLimits (h .x)) (positionInLimits (h .y) && radiusInLimits (h .radius)) in
+    let position : (z : ℤ) → Within (negℤ (pos 20000)) (pos 20000) z → positionInLimits z ≡ true =
+    λ z w. within-exactly (negℤ (pos 20000)) (pos 20000) z .1 w in
+    let radius = within-exactly (pos 1) (pos 20000) (h .radius) .1 (ok .2) in
+    T-exactly (inLimits h) .0 (outer .1 (position (h .x) (ok .0), inner .1 (position (h .y) (ok .1), radius)))
+
+-- a box within document 01's limits
+abbrev pub GroundWithin : Ground → Type 0
+GroundWithin g = Within (negℤ (pos 20000)) (pos 20000) (g .x) × Within (negℤ (pos 20000)) (pos 20000) (g .y) × Within (pos 1) (pos 40000) (g .width) × Within (pos 1) (pos 40000) (g .height)
 
 -- the all-zero head
 abbrev pub noHead : Head
@@ -209,7 +224,7 @@ pub record Acceptable (p : Plan) : Type 0 where
   pub y : Within (negℤ (pos 20000)) (pos 20000) (p .ground .y)
   pub width : Within (pos 1) (pos 40000) (p .ground .width)
   pub height : Within (pos 1) (pos 40000) (p .ground .height)
-  pub heads : (i : ℕ) → i < p .n → HeadMet (getD (p .heads) i noHead)
+  pub heads : (i : ℕ) → i < p .n → HeadWithin (getD (p .heads) i noHead)
 
 -- an edit of a plan of n heads within document 01's limits
 pub record AcceptableEdit (n : ℕ) (e : Edit) : Type 0 where
@@ -218,21 +233,21 @@ pub record AcceptableEdit (n : ℕ) (e : Edit) : Type 0 where
   pub y : Within (negℤ (pos 20000)) (pos 20000) (e .y)
   pub radius : Within (pos 1) (pos 20000) (e .radius)
 
-heads-met : (n : ℕ) (hs : List Head) → n ≤ length hs → AllMet (headsItems (take n hs)) ↔ ((i : ℕ) → i < n → HeadMet (getD hs i noHead))
+heads-satisfied : (n : ℕ) (hs : List Head) → n ≤ length hs → AllSatisfied (headsItems (take n hs)) ↔ ((i : ℕ) → i < n → HeadWithin (getD hs i noHead))
 unfolding headsItems
-heads-met zero hs h = ((λ a i lt. absurd (omega arith)), (λ f. tt))
-heads-met (suc n) [] h = absurd (omega arith)
-heads-met (suc n) (head ∷ hs) h =
-    let rest = heads-met n hs (omega arith) in (
+heads-satisfied zero hs h = ((λ a i lt. absurd (omega arith)), (λ f. tt))
+heads-satisfied (suc n) [] h = absurd (omega arith)
+heads-satisfied (suc n) (head ∷ hs) h =
+    let rest = heads-satisfied n hs (omega arith) in (
       (λ a. elim [ zero ↦ λ lt. (a .0, a .1 .0, a .1 .1 .0) | suc i ↦ λ lt. rest .0 (a .1 .1 .1) i (omega arith) ]),
       (λ f.
           let first = f 0 (omega arith) in
           (first .0, (first .1, (first .2, rest .1 (λ i lt. f (suc i) (omega arith)))))),
     )
 
-plan-met : (p : Plan) → length (p .heads) ≡ 10 → AllMet (planItems p) ↔ Acceptable p
+plan-satisfied : (p : Plan) → length (p .heads) ≡ 10 → AllSatisfied (planItems p) ↔ Acceptable p
 unfolding planItems
-plan-met p long = (
+plan-satisfied p long = (
   (λ a.
       record {
         count = a .0;
@@ -240,15 +255,15 @@ plan-met p long = (
         y = a .1 .1 .0;
         width = a .1 .1 .1 .0;
         height = a .1 .1 .1 .1 .0;
-        heads = heads-met (p .n) (p .heads) (omega arith) .0 (a .1 .1 .1 .1 .1);
+        heads = heads-satisfied (p .n) (p .heads) (omega arith) .0 (a .1 .1 .1 .1 .1);
       }),
   (λ q.
-      let rest = heads-met (p .n) (p .heads) (omega arith) .1 (q .heads) in
+      let rest = heads-satisfied (p .n) (p .heads) (omega arith) .1 (q .heads) in
       (q .count, (q .x, (q .y, (q .width, (q .height, rest)))))),
 )
 
-edit-met : (n : ℕ) (e : Edit) → AllMet (editItems n e) ↔ AcceptableEdit n e
-edit-met n e = (
+edit-satisfied : (n : ℕ) (e : Edit) → AllSatisfied (editItems n e) ↔ AcceptableEdit n e
+edit-satisfied n e = (
   (λ a. record { head = a .0; x = a .1 .0; y = a .1 .1 .0; radius = a .1 .1 .1 .0 }),
   (λ q. (q .head, (q .x, (q .y, (q .radius, tt))))),
 )
@@ -258,7 +273,7 @@ pub plan-taken : (p : Plan) → length (p .heads) ≡ 10 → (planAnswer p ≡ T
 unfolding planAnswer
 plan-taken p long =
     let taken = taken-exactly (planItems p) in
-    let limits = plan-met p long in
+    let limits = plan-satisfied p long in
     ((λ q. limits .0 (taken .0 q)), (λ q. taken .1 (limits .1 q)))
 
 -- what an edit is checked for, in reading order
@@ -266,14 +281,14 @@ editCall : Plan → Edit → Needed → Lent → List Item
 editCall p e needed lent = planItems p ++ (editItems (p .n) e ++ (Tables needed lent ∷ []))
 
 -- an edit is taken exactly if the plan and the edit are within the limits and the tables are long enough
-pub edit-taken : (p : Plan) (e : Edit) (needed : Needed) (lent : Lent) → length (p .heads) ≡ 10 → (editAnswer p e needed lent ≡ Taken) ↔ (Acceptable p × AcceptableEdit (p .n) e × Met (Tables needed lent))
+pub edit-taken : (p : Plan) (e : Edit) (needed : Needed) (lent : Lent) → length (p .heads) ≡ 10 → (editAnswer p e needed lent ≡ Taken) ↔ (Acceptable p × AcceptableEdit (p .n) e × Satisfied (Tables needed lent))
 unfolding editAnswer editCall
 edit-taken p e needed lent long =
     let taken = taken-exactly (editCall p e needed lent) in
-    let parts = met-append (planItems p) (editItems (p .n) e ++ (Tables needed lent ∷ [])) in
-    let after = met-append (editItems (p .n) e) (Tables needed lent ∷ []) in
-    let limits = plan-met p long in
-    let edits = edit-met (p .n) e in (
+    let parts = satisfied-append (planItems p) (editItems (p .n) e ++ (Tables needed lent ∷ [])) in
+    let after = satisfied-append (editItems (p .n) e) (Tables needed lent ∷ []) in
+    let limits = plan-satisfied p long in
+    let edits = edit-satisfied (p .n) e in (
       (λ q.
           let all = parts .0 (taken .0 q) in
           let late = after .0 (all .1) in
@@ -298,7 +313,7 @@ free-plan k p two four five = (two, free-fields k p four five)
 abbrev pub TooShort : Needed → Lent → Type 0
 TooShort needed lent = (lent .rows < needed .rows) ⊎ (lent .gradients < needed .rows * needed .width)
 
-short : (needed : Needed) (lent : Lent) → ¬ Met (Tables needed lent) ↔ TooShort needed lent
+short : (needed : Needed) (lent : Lent) → ¬ Satisfied (Tables needed lent) ↔ TooShort needed lent
 short needed lent = (
   (λ h.
       elim (decLe (needed .rows) (lent .rows)) as (λ d. TooShort needed lent) [
@@ -309,11 +324,11 @@ short needed lent = (
             ]
         | no few ↦ inl (omega arith)
       ]),
-  ⊎-elim (λ few met. omega arith) (λ few met. omega arith),
+  ⊎-elim (λ few enough. omega arith) (λ few enough. omega arith),
 )
 
 module _ (p : Plan) (e : Edit) (needed : Needed) (lent : Lent) (long : length (p .heads) ≡ 10) where
-  given : (k : ℕ) → 0 < k → (answerNumber (editAnswer p e needed lent) ≡ k) ↔ FirstUnmet k (editCall p e needed lent)
+  given : (k : ℕ) → 0 < k → (answerNumber (editAnswer p e needed lent) ≡ k) ↔ FirstUnsatisfied k (editCall p e needed lent)
   unfolding editAnswer editCall
   given k h = number-exactly (editCall p e needed lent) k h
 
@@ -337,15 +352,15 @@ module _ (p : Plan) (e : Edit) (needed : Needed) (lent : Lent) (long : length (p
   pub three-never : answerNumber (editAnswer p e needed lent) ≡ 3 → ⊥
   three-never = never 3 (omega arith) (free-plan 3 p (omega arith) (omega arith) (omega arith)) (omega arith)
 
-  field-number : (k : ℕ) → 0 < k → (2 ≡ k → ⊥) → (6 ≡ k → ⊥) → (7 ≡ k → ⊥) → (answerNumber (editAnswer p e needed lent) ≡ k) ↔ (((p .n ≤ 10) × FirstUnmet k (fields p)) ⊎ (Acceptable p × (e .head < p .n) × FirstUnmet k (fieldItems (e .x) (e .y) (e .radius))))
+  field-number : (k : ℕ) → 0 < k → (2 ≡ k → ⊥) → (6 ≡ k → ⊥) → (7 ≡ k → ⊥) → (answerNumber (editAnswer p e needed lent) ≡ k) ↔ (((p .n ≤ 10) × FirstUnsatisfied k (fields p)) ⊎ (Acceptable p × (e .head < p .n) × FirstUnsatisfied k (fieldItems (e .x) (e .y) (e .radius))))
   unfolding editCall planItems
   field-number k h two six seven =
       let is = given k h in
       let tables = Tables needed lent ∷ [] in
       let edit = fieldItems (e .x) (e .y) (e .radius) in
-      let parts = unmet-append k (planItems p) (editItems (p .n) e ++ tables) in
-      let after = unmet-append k edit tables in
-      let limits = plan-met p long in (
+      let parts = unsatisfied-append k (planItems p) (editItems (p .n) e ++ tables) in
+      let after = unsatisfied-append k edit tables in
+      let limits = plan-satisfied p long in (
         (λ q.
             ⊎-elim (⊎-elim (λ u. absurd (two (u .1))) (λ u. inl u))
             (λ u.
@@ -358,11 +373,11 @@ module _ (p : Plan) (e : Edit) (needed : Needed) (lent : Lent) (long : length (p
       )
 
   -- 4: of the fields in reading order the first outside its limits is an x or a y, in the plan or, after it, in the edit
-  pub four-exactly : (answerNumber (editAnswer p e needed lent) ≡ 4) ↔ (((p .n ≤ 10) × FirstUnmet 4 (fields p)) ⊎ (Acceptable p × (e .head < p .n) × FirstUnmet 4 (fieldItems (e .x) (e .y) (e .radius))))
+  pub four-exactly : (answerNumber (editAnswer p e needed lent) ≡ 4) ↔ (((p .n ≤ 10) × FirstUnsatisfied 4 (fields p)) ⊎ (Acceptable p × (e .head < p .n) × FirstUnsatisfied 4 (fieldItems (e .x) (e .y) (e .radius))))
   four-exactly = field-number 4 (omega arith) (omega arith) (omega arith) (omega arith)
 
   -- 5: likewise a side or a radius
-  pub five-exactly : (answerNumber (editAnswer p e needed lent) ≡ 5) ↔ (((p .n ≤ 10) × FirstUnmet 5 (fields p)) ⊎ (Acceptable p × (e .head < p .n) × FirstUnmet 5 (fieldItems (e .x) (e .y) (e .radius))))
+  pub five-exactly : (answerNumber (editAnswer p e needed lent) ≡ 5) ↔ (((p .n ≤ 10) × FirstUnsatisfied 5 (fields p)) ⊎ (Acceptable p × (e .head < p .n) × FirstUnsatisfied 5 (fieldItems (e .x) (e .y) (e .radius))))
   five-exactly = field-number 5 (omega arith) (omega arith) (omega arith) (omega arith)
 
   -- 6: the plan is within the limits, and the head number is not below n
@@ -370,9 +385,9 @@ module _ (p : Plan) (e : Edit) (needed : Needed) (lent : Lent) (long : length (p
   unfolding editCall
   six-exactly =
       let is = given 6 (omega arith) in
-      let parts = unmet-append 6 (planItems p) (editItems (p .n) e ++ (Tables needed lent ∷ [])) in
+      let parts = unsatisfied-append 6 (planItems p) (editItems (p .n) e ++ (Tables needed lent ∷ [])) in
       let plan = free-plan 6 p (omega arith) (omega arith) (omega arith) in
-      let limits = plan-met p long in (
+      let limits = plan-satisfied p long in (
         (λ q.
             ⊎-elim (λ u. absurd (free 6 (planItems p) plan u))
             (λ u. (limits .0 (u .0), ⊎-elim (λ v. omega arith) (λ v. absurd (free 6 (fieldItems (e .x) (e .y) (e .radius) ++ (Tables needed lent ∷ [])) (omega arith) (v .1))) (u .1)))
@@ -386,11 +401,11 @@ module _ (p : Plan) (e : Edit) (needed : Needed) (lent : Lent) (long : length (p
   seven-exactly =
       let is = given 7 (omega arith) in
       let tables = Tables needed lent ∷ [] in
-      let parts = unmet-append 7 (planItems p) (editItems (p .n) e ++ tables) in
-      let after = unmet-append 7 (editItems (p .n) e) tables in
+      let parts = unsatisfied-append 7 (planItems p) (editItems (p .n) e ++ tables) in
+      let after = unsatisfied-append 7 (editItems (p .n) e) tables in
       let plan = free-plan 7 p (omega arith) (omega arith) (omega arith) in
-      let limits = plan-met p long in
-      let edits = edit-met (p .n) e in (
+      let limits = plan-satisfied p long in
+      let edits = edit-satisfied (p .n) e in (
         (λ q.
             ⊎-elim (λ u. absurd (free 7 (planItems p) plan u))
             (λ u.
@@ -404,7 +419,7 @@ module _ (p : Plan) (e : Edit) (needed : Needed) (lent : Lent) (long : length (p
 -- ---- the same for a plan alone, and for a plan with lent tables
 
 -- a plan alone: 2 if n is above 10, and otherwise the number of the first field outside its limits
-pub plan-number : (p : Plan) (k : ℕ) → 0 < k → (answerNumber (planAnswer p) ≡ k) ↔ (((10 < p .n) × (2 ≡ k)) ⊎ ((p .n ≤ 10) × FirstUnmet k (fields p)))
+pub plan-number : (p : Plan) (k : ℕ) → 0 < k → (answerNumber (planAnswer p) ≡ k) ↔ (((10 < p .n) × (2 ≡ k)) ⊎ ((p .n ≤ 10) × FirstUnsatisfied k (fields p)))
 unfolding planAnswer planItems
 plan-number p k h =
     let is = number-exactly (planItems p) k h in (
@@ -418,9 +433,9 @@ unfolding callAnswer
 call-seven p needed lent long =
     let tables = Tables needed lent ∷ [] in
     let is = number-exactly (planItems p ++ tables) 7 (omega arith) in
-    let parts = unmet-append 7 (planItems p) tables in
+    let parts = unsatisfied-append 7 (planItems p) tables in
     let plan = free-plan 7 p (omega arith) (omega arith) (omega arith) in
-    let limits = plan-met p long in (
+    let limits = plan-satisfied p long in (
       (λ q.
           ⊎-elim (λ u. absurd (free 7 (planItems p) plan u))
           (λ u. (limits .0 (u .0), ⊎-elim (λ w. short needed lent .0 (w .0)) (λ w. absurd (w .1)) (u .1)))
@@ -434,16 +449,16 @@ call-number p needed lent k h seven =
     let tables = Tables needed lent ∷ [] in
     let is = number-exactly (planItems p ++ tables) k h in
     let alone = number-exactly (planItems p) k h in
-    let parts = unmet-append k (planItems p) tables in (
+    let parts = unsatisfied-append k (planItems p) tables in (
       (λ q. ⊎-elim (λ u. alone .1 u) (λ u. ⊎-elim (λ w. absurd (seven (w .1))) (λ w. absurd (w .1)) (u .1)) (parts .0 (is .0 q))),
       (λ q. is .1 (parts .1 (inl (alone .0 q)))),
     )
 
 -- a plan with lent tables is taken exactly if it is within the limits and the tables are long enough
-pub call-taken : (p : Plan) (needed : Needed) (lent : Lent) → length (p .heads) ≡ 10 → (callAnswer p needed lent ≡ Taken) ↔ (Acceptable p × Met (Tables needed lent))
+pub call-taken : (p : Plan) (needed : Needed) (lent : Lent) → length (p .heads) ≡ 10 → (callAnswer p needed lent ≡ Taken) ↔ (Acceptable p × Satisfied (Tables needed lent))
 unfolding callAnswer
 call-taken p needed lent long =
     let taken = taken-exactly (planItems p ++ (Tables needed lent ∷ [])) in
-    let parts = met-append (planItems p) (Tables needed lent ∷ []) in
-    let limits = plan-met p long in
+    let parts = satisfied-append (planItems p) (Tables needed lent ∷ []) in
+    let limits = plan-satisfied p long in
     ((λ q. let all = parts .0 (taken .0 q) in (limits .0 (all .0), all .1 .0)), (λ q. taken .1 (parts .1 (limits .1 (q .0), (q .1, tt)))))
