@@ -1,1 +1,4 @@
 pub mod Reading
+pub mod Same
+pub mod Offsets
+pub mod Sound

@@ -1,22 +1,22 @@
--- Steps of the reader in the form that the code has them: the next field whose bit stands, what comes after a field, and the fold
--- over a slice.
+-- Steps of the reader in the form that the code has them: the next field whose bit stands, what comes after a field, the fold
+-- over a slice, and the fold over pieces.
 use Prim.Native.Nat.{ℕ, suc, _+_, _-_, _≤_, _<_}
-use mathlib.Core.Path.{_≡_, ap, _∙_}
+use mathlib.Core.Path.{_≡_, refl, ap, _∙_}
 use mathlib.Core.Bool.{cond}
 use native.Mathlib.Omega.{arith}
-use mathlib.Core.List.{List}
+use mathlib.Core.List.{List, [], _∷_}
 use Rattle.plan.specs.declared.Plan.{Plan}
 use lib.ListN.{length, drop, getD, drop-of-length-le}
 use lib.Seq.{drop-cons}
 use native.Mathlib.Numerals.{add-one}
-use Rattle.plan.specs.Exactly.{bit}
+use Rattle.plan.specs.Limits.{bit}
 use Rattle.file.specs.declared.reader.Reader.{Reader}
 use Rattle.file.specs.declared.reader.Stage.{Stage}
 use Rattle.file.specs.declared.reader.Stage.the-variants.{AtByte3}
 use Rattle.file.specs.File.{signed32}
 use Rattle.file.specs.declared.reader.Target.{Target}
 use Rattle.file.specs.declared.reader.Target.the-variants.{TheBox, HeadAt, EditOf}
-use Rattle.file.specs.Reader.{nextField, countOf, toHead, fieldAt, completedAt, completed, sought, steppedAt, stepped, finishedAt, finished, fed, checkedOr, itemOf, valued}
+use Rattle.file.specs.Reader.{nextField, countOf, toHead, fieldAt, completedAt, completed, sought, steppedAt, stepped, finishedAt, finished, fed, hand, handedOver, checkedOr, itemOf, valued, FedAppend, HandedAppend}
 use lib.Dec.{eqb}
 use lib.IntN.{ℤ}
 use borrow.Author.Tests.{lt-ltb, le-ltb, eq-eqb, ne-eqb}
@@ -93,3 +93,15 @@ fed-next r s i h = rw (drop-cons s i 0 h, add-one)
 pub fed-past : (r : Reader) (s : List ℕ) (i : ℕ) → length s ≤ i → fed r (drop i s) ≡ r
 unfolding fed
 fed-past r s i h = rw (drop-of-length-le s h)
+
+-- ---- feeding in pieces changes nothing
+
+pub fed-append : FedAppend
+unfolding fed
+fed-append r [] t = refl
+fed-append r (b ∷ s) t = fed-append (stepped r b) s t
+
+pub handed-append : HandedAppend
+unfolding fed handedOver
+handed-append r [] t f = refl
+handed-append r (b ∷ s) t f = ap (hand (stepped r b)) (handed-append (stepped r b) s t f)

@@ -19,7 +19,7 @@ use Rattle.plan.specs.declared.Plan.{Plan}
 use Rattle.plan.specs.declared.Refusal.{Refusal}
 use Rattle.plan.specs.declared.Refusal.the-variants.{Ended}
 use Rattle.plan.specs.Table.{holds, refusalOf}
-use Rattle.plan.specs.Exactly.{bit, noHead}
+use Rattle.plan.specs.Limits.{bit, noHead}
 use Rattle.plan.specs.Book.{withHead, applied}
 
 -- ---- reading

@@ -1,6 +1,6 @@
 -- The reader of a plan file, byte by byte: a state, a step on one byte, and the fold of the step over the bytes.
 use Prim.Native.Nat.{ℕ, zero, suc, _+_, _-_}
-use mathlib.Core.Path.{_≡_, refl, ap}
+use mathlib.Core.Path.{_≡_}
 use mathlib.Core.Bool.{cond}
 use mathlib.Core.List.{List, [], _∷_, _++_}
 use lib.Dec.{eqb, ltb}
@@ -21,7 +21,7 @@ use Rattle.file.specs.declared.reader.Stage.the-variants.{AtCount, AtMap
 use Rattle.file.specs.declared.reader.Target.{Target}
 use Rattle.file.specs.declared.reader.Target.the-variants.{TheBox, HeadAt, EditOf}
 use Rattle.plan.specs.Table.{examined}
-use Rattle.plan.specs.Exactly.{bit, noHead}
+use Rattle.plan.specs.Limits.{bit, noHead}
 use Rattle.plan.specs.Book.{withHead}
 use Rattle.file.specs.File.{File, ends, givesPlan, givesEdit, after, signed32, groundItem, putGround, headItem, putHead, missingGround, missingHead, noHeads, editTo}
 
@@ -252,14 +252,10 @@ handedOver r (b ∷ s) f = hand (stepped r b) (handedOver (stepped r b) s f)
 abbrev pub said : Reader → List ℕ → File
 said r s = handedOver r s (ends (finished (fed r s)))
 
--- ---- feeding in pieces changes nothing
+-- ---- feeding in pieces changes nothing: `fed-append` and `handed-append`, `proofs/Reading.antt`
 
-pub fed-append : (r : Reader) (s t : List ℕ) → fed r (s ++ t) ≡ fed (fed r s) t
-unfolding fed
-fed-append r [] t = refl
-fed-append r (b ∷ s) t = fed-append (stepped r b) s t
+abbrev pub FedAppend : Type 0
+FedAppend = (r : Reader) (s t : List ℕ) → fed r (s ++ t) ≡ fed (fed r s) t
 
-pub handed-append : (r : Reader) (s t : List ℕ) (f : File) → handedOver r (s ++ t) f ≡ handedOver r s (handedOver (fed r s) t f)
-unfolding fed handedOver
-handed-append r [] t f = refl
-handed-append r (b ∷ s) t f = ap (hand (stepped r b)) (handed-append (stepped r b) s t f)
+abbrev pub HandedAppend : Type 0
+HandedAppend = (r : Reader) (s t : List ℕ) (f : File) → handedOver r (s ++ t) f ≡ handedOver r s (handedOver (fed r s) t f)

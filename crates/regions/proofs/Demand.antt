@@ -17,9 +17,11 @@ use Rattle.plan.specs.declared.Answer.the-variants.{Taken, Refused}
 use Rattle.plan.specs.declared.Edit.{Edit}
 use Rattle.plan.specs.declared.Needed.{Needed}
 use Rattle.plan.specs.declared.Plan.{Plan}
-use Rattle.plan.specs.Book.{Entry, headOf, applied, entered, book, answers, applied-acceptable}
+use Rattle.plan.specs.Book.{Entry, headOf, applied, entered, book, answers}
 use Rattle.plan.specs.Checks.{editAnswer}
-use Rattle.plan.specs.Exactly.{HeadWithin, Acceptable, AcceptableEdit, noHead, plan-taken, edit-taken}
+use Rattle.plan.specs.Limits.{HeadWithin, Acceptable, AcceptableEdit, noHead}
+use Rattle.plan.proofs.Exactly.{plan-taken, edit-taken}
+use Rattle.plan.proofs.Keeps.{applied-acceptable}
 use Rattle.regions.specs.Row.{isSingle}
 use Rattle.regions.specs.Edit.{Row, absent, present, afreshRow, overlaps, meetsAny, met, reworked, editedRow}
 use Rattle.regions.specs.Run as Run

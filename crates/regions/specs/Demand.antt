@@ -16,7 +16,7 @@ use Rattle.plan.specs.declared.Needed.{Needed}
 use Rattle.plan.specs.declared.Plan.{Plan}
 use Rattle.plan.specs.Book.{Entry, headOf, applied, book, answers}
 use Rattle.plan.specs.Checks.{planAnswer}
-use Rattle.plan.specs.Exactly.{HeadWithin}
+use Rattle.plan.specs.Limits.{HeadWithin}
 use Rattle.regions.specs.Row.{isSingle}
 use Rattle.regions.specs.Edit.{Row, present, absent}
 use Rattle.regions.specs.Run as Run

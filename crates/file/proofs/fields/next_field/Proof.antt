@@ -1,4 +1,4 @@
--- `plan::fields::next_field` meets its contract. Assumes nothing.
+-- `file::fields::next_field` meets its contract. Assumes nothing.
 use Prim.Native.Nat.{_-_}
 use mathlib.Core.Path.{_≡_, refl, sym, _∙_}
 use native.Mathlib.Omega.{arith}
