@@ -9,7 +9,7 @@ use Rattle.plan.specs.declared.Plan.{Plan}
 use lib.ListN.{length, drop, getD, drop-of-length-le}
 use lib.Seq.{drop-cons}
 use native.Mathlib.Numerals.{add-one}
-use Rattle.plan.specs.Limits.{bit}
+use Rattle.masks.specs.Mask.{bit}
 use Rattle.file.specs.declared.reader.Reader.{Reader}
 use Rattle.file.specs.declared.reader.Stage.{Stage}
 use Rattle.file.specs.declared.reader.Stage.the-variants.{AtByte3}

@@ -19,7 +19,8 @@ use Rattle.plan.specs.declared.Item.{Item}
 use Rattle.plan.specs.declared.Item.the-variants.{Count, Map, Coordinate, Side, Radius, HeadNumber}
 use Rattle.plan.specs.declared.Plan.{Plan}
 use Rattle.plan.specs.Table.{holds, refusalOf}
-use Rattle.plan.specs.Limits.{HeadWithin, GroundWithin, noHead, Acceptable, AcceptableEdit, bit}
+use Rattle.masks.specs.Mask.{bit}
+use Rattle.plan.specs.Limits.{HeadWithin, GroundWithin, noHead, Acceptable, AcceptableEdit}
 use Rattle.plan.specs.Exactly.{Satisfied}
 use Rattle.plan.proofs.Exactly.{holds-exactly}
 use Rattle.plan.specs.Book.{headOf, withHead, applied}
