@@ -17,9 +17,11 @@ use Rattle.plan.specs.declared.Answer.the-variants.{Taken, Refused}
 use Rattle.plan.specs.declared.Edit.{Edit}
 use Rattle.plan.specs.declared.Needed.{Needed}
 use Rattle.plan.specs.declared.Plan.{Plan}
-use Rattle.plan.specs.Book.{Entry, headOf, applied, entered, book, answers, applied-acceptable}
+use Rattle.plan.specs.Book.{Entry, headOf, applied, entered, book, answers}
 use Rattle.plan.specs.Checks.{editAnswer}
-use Rattle.plan.specs.Exactly.{HeadMet, Acceptable, AcceptableEdit, noHead, plan-taken, edit-taken}
+use Rattle.plan.specs.Limits.{HeadWithin, Acceptable, AcceptableEdit, noHead}
+use Rattle.plan.proofs.Exactly.{plan-taken, edit-taken}
+use Rattle.plan.proofs.Keeps.{applied-acceptable}
 use Rattle.regions.specs.Row.{isSingle}
 use Rattle.regions.specs.Edit.{Row, absent, present, overlaps, meetsAny, met, reworked, editedRow}
 use Rattle.regions.specs.Run as Run
@@ -56,12 +58,12 @@ edit-afresh m f p e ten ok oke rows fresh S hS =
     small : e .head < 10
     small = let a = ok .count in let b = oke .head in omega arith
 
-    edit-met : HeadMet (headOf e)
-    edit-met = (oke .x, oke .y, oke .radius)
+    edit-within : HeadWithin (headOf e)
+    edit-within = (oke .x, oke .y, oke .radius)
 
-    one : (v : Head) → (v ≡ headAt p (e .head)) ⊎ (v ≡ headAt (applied p e) (e .head)) → HeadMet v
-    one v (inl q) = subst HeadMet (sym q) (ok .heads (e .head) (oke .head))
-    one v (inr q) = subst HeadMet (sym (q ∙ head-edited p e ten small)) edit-met
+    one : (v : Head) → (v ≡ headAt p (e .head)) ⊎ (v ≡ headAt (applied p e) (e .head)) → HeadWithin v
+    one v (inl q) = subst HeadWithin (sym q) (ok .heads (e .head) (oke .head))
+    one v (inr q) = subst HeadWithin (sym (q ∙ head-edited p e ten small)) edit-within
 
     apart : (j : ℕ) → j < p .n → (v : Head) → (v ≡ headAt p (e .head)) ⊎ (v ≡ headAt (applied p e) (e .head)) → meetsOf v (headAt p j) ≡ false
         → (m .geometry (p .ground) .meeting v (headAt p j) ≡ []) × (m .geometry (p .ground) .meeting (headAt p j) v ≡ [])

@@ -16,7 +16,7 @@ use Rattle.plan.specs.declared.Needed.{Needed}
 use Rattle.plan.specs.declared.Plan.{Plan}
 use Rattle.plan.specs.Book.{Entry, headOf, applied, book, answers}
 use Rattle.plan.specs.Checks.{planAnswer}
-use Rattle.plan.specs.Exactly.{HeadMet}
+use Rattle.plan.specs.Limits.{HeadWithin}
 use Rattle.regions.specs.Row.{isSingle}
 use Rattle.regions.specs.Edit.{Row, present, absent}
 use Rattle.regions.specs.Run as Run
@@ -25,7 +25,7 @@ use Rattle.regions.specs.Table.{Method, Sheet, headAt, areaAt, afresh, s
 -- All that is asked of the geometry: two heads within the limits that do not meet, by the rule of whole numbers, have no
 -- meeting points, in both orders of the pair.
 pub record Faithful (m : Method) : Type 0 where
-  pub apart : (g : Ground) (a b : Head) → HeadMet a → HeadMet b → meetsOf a b ≡ false
+  pub apart : (g : Ground) (a b : Head) → HeadWithin a → HeadWithin b → meetsOf a b ≡ false
       → (m .geometry g .meeting a b ≡ []) × (m .geometry g .meeting b a ≡ [])
 
 -- rows 0 to 2^n - 1 of a table are the plan's afresh rows, in every byte and bit

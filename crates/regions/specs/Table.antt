@@ -15,7 +15,7 @@ use Rattle.plan.specs.declared.Needed.{Needed}
 use Rattle.plan.specs.declared.Plan.{Plan}
 use Rattle.plan.specs.Book.{Entry, headOf, applied, entered}
 use Rattle.plan.specs.Checks.{editAnswer}
-use Rattle.plan.specs.Exactly.{noHead}
+use Rattle.plan.specs.Limits.{noHead}
 use Rattle.regions.specs.Row.{Geometry, rowArea}
 use Rattle.regions.specs.Edit.{Row, afreshRow, met, editedRow}
 use Rattle.regions.specs.Run.{Step}
