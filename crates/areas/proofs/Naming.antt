@@ -3,7 +3,7 @@
 use mathlib.Core.Path.{_≡_, refl}
 use mathlib.Core.Bool.{Bool, true, false, not, _&&_, cond}
 use mathlib.Core.List.{List, [], _∷_, map, foldl}
-use Prim.Native.Nat.{ℕ, zero, suc, _+_, _%_, _≤_, _<_}
+use Prim.Native.Nat.{ℕ, suc, _+_, _%_, _≤_, _<_}
 use native.Mathlib.Omega.{arith}
 use borrow.Author.Tests.{lt-ltb}
 use lib.Dec.{ltb}
@@ -13,7 +13,7 @@ use Rattle.binary64.specs.Constants.{half64}
 use Rattle.geometry.specs.Floats.{_+ᶠ_, _*ᶠ_}
 use Rattle.geometry.specs.declared.circle.Circle.{Circle}
 use Rattle.boundary.specs.declared.arcs.BoundaryArc.{BoundaryArc}
-use Rattle.boundary.specs.Every.{Every, every-append, every-map, every-upTo}
+use Rattle.boundary.specs.Every.{Every, every-append, every-map, every-upTo, every-at}
 use Rattle.boundary.specs.Outline.{Member, circlesOf, owned, pointAt, probe, gap, collapsed, fullCircle, between, arcFrom, arcsAt, anglesOf, outlineFrom, outline}
 use Rattle.boundary.specs.Outline.{noCircle}
 use Rattle.boundary.specs.Set.{circleAt, numbered}
@@ -63,11 +63,6 @@ outline-named (m ∷ []) = (omega arith, tt)
 outline-named (m ∷ (m' ∷ ms)) = rest-named (circlesOf (m ∷ (m' ∷ ms))) 0 (length (m ∷ (m' ∷ ms))) (m ∷ (m' ∷ ms)) (omega arith)
 
 -- ---- heads
-
-pub every-at : {A : Type 0} (P : A → Type 0) (l : List A) (i : ℕ) (d : A) → i < length l → Every P l → P (getD l i d)
-every-at P [] i d h e = absurd (omega arith)
-every-at P (x ∷ l) zero d h e = e .0
-every-at P (x ∷ l) (suc i) d h e = every-at P l i d (omega arith) (e .1)
 
 -- the circles of the heads, by position
 abbrev pub own : List Circle → List ℕ → List Circle

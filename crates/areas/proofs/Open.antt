@@ -9,11 +9,8 @@ use native.Mathlib.Nat.{lt-of-lt-of-le}
 use native.Mathlib.Omega.{arith}
 use borrow.Author.Tests.{eqb-true}
 use lib.Count.{ones}
-use lib.Dec.{T, eqb}
-use lib.Ieee.Fits.{and-i}
-use lib.Signed.{leZ}
+use lib.Dec.{eqb}
 use lib.Ieee.{Float}
-use lib.IntN.{ℤ, pos, negℤ}
 use lib.ListN.{length, replicate, length-append, length-map, List·getD-append}
 use lib.Pow.{pow-mono}
 use lib.Seq.{getD-at}
@@ -31,9 +28,8 @@ use Rattle.regions.specs.Demand.{Faithful, AfreshRows, Ends}
 use Rattle.regions.specs.Table.{Method}
 use Rattle.regions.proofs.Demand.{list-ends-afresh, edit-reworks-exactly, refused-leaves-all}
 use Rattle.plan.specs.Book.{Entry}
+use Rattle.plan.proofs.Exactly.{within-limits}
 use Rattle.plan.specs.Checks.{planAnswer}
-use Rattle.plan.specs.Exactly.{Within, HeadMet}
-use Rattle.heads.specs.Limits.{inLimits, positionInLimits, radiusInLimits}
 use Rattle.exact.proofs.Theorem.{no-points-unless-met}
 use Rattle.plan.specs.declared.Answer.the-variants.{Taken}
 use Rattle.plan.specs.declared.Ground.{Ground}
@@ -261,18 +257,6 @@ unfolding openGradientRow openGradient
 open-gradient-row h n S hn hS =
     rw (as-many h n S)
     (of-row (λ cs arcs. addGradient cs (replicate (3 * length (map memberOf (Row.members openGeometry h n S))) zero64) arcs) h n S hn hS)
-
--- a head within the limits as `plan` says it is one within the limits as `heads` says it
-within-test : (low high z : ℤ) → Within low high z → T (leZ low z && leZ z high)
-within-test low high z w = and-i (leZ low z) (leZ z high) (w .0 .le) (w .1 .le)
-
-pub within-limits : (h : Head) → HeadMet h → T (inLimits h)
-within-limits h m =
-    and-i (positionInLimits (h .x)) (positionInLimits (h .y) && radiusInLimits (h .radius))
-    (within-test (negℤ (pos 20000)) (pos 20000) (h .x) (m .0))
-    (and-i (positionInLimits (h .y)) (radiusInLimits (h .radius))
-    (within-test (negℤ (pos 20000)) (pos 20000) (h .y) (m .1))
-    (within-test (pos 1) (pos 20000) (h .radius) (m .2)))
 
 -- The geometry of open rows is faithful: heads that do not meet by whole numbers have no meeting points.
 pub open-faithful : (box : Ground → Float) (sets : Plan → ℕ → Bool) → Faithful (openMethod box sets)

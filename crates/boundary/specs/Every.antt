@@ -2,6 +2,7 @@
 use mathlib.Core.List.{List, [], _∷_, _++_}
 use Prim.Native.Nat.{ℕ, zero, suc, _<_}
 use native.Mathlib.Omega.{arith}
+use lib.ListN.{length, getD}
 use Rattle.regions.specs.Row.{upTo}
 
 -- P holds of every element
@@ -25,3 +26,9 @@ pub every-upTo : {A : Type 0} (P : A → Type 0) (f : ℕ → List A) (m : ℕ) 
 unfolding upTo
 every-upTo P f zero h = tt
 every-upTo P f (suc m) h = every-append P (upTo f m) (f m) (every-upTo P f m (λ i k. h i (omega arith))) (h m (omega arith))
+
+-- one element
+pub every-at : {A : Type 0} (P : A → Type 0) (l : List A) (i : ℕ) (d : A) → i < length l → Every P l → P (getD l i d)
+every-at P [] i d h e = absurd (omega arith)
+every-at P (x ∷ l) zero d h e = e .0
+every-at P (x ∷ l) (suc i) d h e = every-at P l i d (omega arith) (e .1)

@@ -21,7 +21,7 @@ use Rattle.geometry.specs.Floats.{_+ᶠ_, _-ᶠ_, _*ᶠ_, _/ᶠ_, _≤ᶠ_}
 use Rattle.geometry.specs.declared.bounds.Bounds.{Bounds}
 use Rattle.geometry.specs.declared.circle.Circle.{Circle}
 use Rattle.boundary.specs.declared.arcs.BoundaryArc.{BoundaryArc}
-use Rattle.boundary.specs.Every.{Every, every-append}
+use Rattle.boundary.specs.Every.{Every, every-append, every-at}
 use Rattle.outline.specs.Counts.{sorted-length}
 use Rattle.boundary.specs.Outline.{circlesOf, outline}
 use Rattle.boundary.specs.Outline.{noCircle}
@@ -31,7 +31,7 @@ use Rattle.clip.specs.Area.{emptyBox, addClippedArc, addClippedArcs, clippedAre
 use Rattle.finite.specs.Open.{InDomain}
 use Rattle.finite.specs.Arcs.{ShortArc}
 use Rattle.finite.specs.Boxed.{ArcFinite, ArcsFinite, ClippedAreaFinite, AreaInBoxFinite}
-use Rattle.finite.proofs.Every.{every-at, keep-every, keep-few, sorted-every}
+use Rattle.finite.proofs.Every.{keep-every, keep-few, sorted-every}
 use Rattle.finite.proofs.Folds.{fold-after, pairs-after}
 use Rattle.finite.proofs.Promises.{sine-most, cosine-most, arccosine-most, arcsine-most}
 use Rattle.finite.proofs.Open.{outline-short}

@@ -1,20 +1,19 @@
 -- The rows in the box of heads within the limits, and so of a taken plan, are finite. Rests on proofs/Boxed.antt and
 -- proofs/Slopes.antt: the box of such a plan is of the domain, as are the circles of its heads.
 use mathlib.Core.Path.{refl, subst}
-use Prim.Native.Nat.{ℕ, _≤_, suc-le-suc}
-use native.Mathlib.Nat.{le-trans}
-use lib.Dec.{leb→le, lit≤}
+use Prim.Native.Nat.{_≤_}
+use lib.Dec.{lit≤}
 use lib.Ieee.{binary64, ofInt, ofBits}
-use lib.IntN.{ℤ, pos, negsuc, natAbs, negℤ}
+use lib.IntN.{ℤ, pos}
 use lib.ListN.{replicate}
 use Rattle.binary64.specs.Units.{mag, pow2}
 use Rattle.binary64.specs.Constants.{zero64, two64}
 use Rattle.binary64.specs.Magnitude.{Most, Least}
 use Rattle.binary64.proofs.Magnitude.{literal-least, most-weaken, most-zero, add-most, sub-most, mul-most, div-most}
-use Rattle.binary64.proofs.Whole.{ofInt-most}
 use Rattle.plan.specs.declared.Ground.{Ground}
-use Rattle.plan.specs.Exactly.{Within, plan-taken}
-use Rattle.file.specs.Sound.{GroundMet}
+use Rattle.plan.specs.Limits.{Within}
+use Rattle.plan.proofs.Exactly.{plan-taken}
+use Rattle.plan.specs.Limits.{GroundWithin}
 use Rattle.plan.specs.Table.{gradientWidth}
 use Rattle.regions.specs.Table.{headAt, areaAt}
 use Rattle.geometry.specs.Floats.{_/ᶠ_}
@@ -32,6 +31,7 @@ use Rattle.finite.specs.Open.{InDomain}
 use Rattle.finite.specs.Boxed.{BoxInDomain, GradientMost}
 use Rattle.areas.specs.Scatter.{circlesIn}
 use Rattle.finite.specs.BoxedRows.{HeadsInBoxFinite, PlanInBoxFinite, PlanRowFinite, PlanBoxFinite, TableInBoxFinite}
+use Rattle.finite.proofs.Limits.{position-most, side-most}
 use Rattle.finite.proofs.Every.{every-replicate}
 use Rattle.finite.proofs.Open.{region-short, region-few}
 use Rattle.finite.proofs.Rows.{circles-domain, members-domain, afresh-most}
@@ -39,22 +39,6 @@ use Rattle.finite.proofs.Boxed.{clipped-area-finite, area-in-box-finite
 use Rattle.finite.proofs.Slopes.{clipped-gradient-finite, gradient-in-box-finite}
 
 -- ---- the box
-
--- a whole number between two limits is no larger than both
-within-size : (low high z : ℤ) (j : ℕ) → natAbs low ≤ j → natAbs high ≤ j → Within low high z → natAbs z ≤ j
-within-size low (pos m) (pos n) j hl hh w = le-trans (leb→le n m (w .1 .le)) hh
-within-size low (negsuc m) (pos n) j hl hh w = absurd (w .1 .le)
-within-size (negsuc m) high (negsuc n) j hl hh w = le-trans (suc-le-suc (leb→le n m (w .0 .le))) hl
-within-size (pos m) high (negsuc n) j hl hh w = absurd (w .0 .le)
-
-float-most : (z : ℤ) (j : ℕ) → j ≤ 40000 → natAbs z ≤ j → Most j 1074 (ofInt binary64 z)
-float-most z j few h = ofInt-most z (le-trans h (le-trans few (lit≤ tt))) h
-
-position-most : (z : ℤ) → Within (negℤ (pos 20000)) (pos 20000) z → Most 20000 1074 (ofInt binary64 z)
-position-most z w = float-most z 20000 (lit≤ tt) (within-size (negℤ (pos 20000)) (pos 20000) z 20000 (lit≤ tt) (lit≤ tt) w)
-
-side-most : (z : ℤ) → Within (pos 1) (pos 40000) z → Most 40000 1074 (ofInt binary64 z)
-side-most z w = float-most z 40000 (lit≤ tt) (within-size (pos 1) (pos 40000) z 40000 (lit≤ tt) (lit≤ tt) w)
 
 two-least : Least 2 1074 two64
 unfolding ofBits mag pow2
@@ -64,7 +48,7 @@ half-side-most : (z : ℤ) → Within (pos 1) (pos 40000) z → Most 20000 1074 
 half-side-most z w = div-most (side-most z w) two-least 20000 1074 refl (lit≤ tt) (lit≤ tt) (lit≤ tt) (lit≤ tt)
 
 -- the box within the limits is a box of the domain
-box-domain : (g : Ground) → GroundMet g → BoxInDomain (bounds (boxOf g))
+box-domain : (g : Ground) → GroundWithin g → BoxInDomain (bounds (boxOf g))
 unfolding boxOf
 box-domain g m =
     let x = position-most (g .x) (m .0) in
@@ -78,7 +62,7 @@ box-domain g m =
       y-max = add-most y high (lit≤ tt) (lit≤ tt);
     }
 
-box-area-most : (g : Ground) → GroundMet g → Most 1600000000 1074 (area (boxOf g))
+box-area-most : (g : Ground) → GroundWithin g → Most 1600000000 1074 (area (boxOf g))
 unfolding boxOf
 box-area-most g m = mul-most (side-most (g .width) (m .2)) (side-most (g .height) (m .3)) 1074 refl (lit≤ tt) (lit≤ tt)
 

@@ -1,10 +1,10 @@
--- Laws of a property that holds of every element of a list: reading and writing one, sorting, keeping some, mapping,
+-- More laws of a property that holds of every element of a list: writing one, sorting, keeping some, mapping,
 -- repeating and cutting off. They know nothing of numbers.
 use mathlib.Core.Bool.{Bool, true, false, cond}
 use mathlib.Core.List.{List, [], _∷_, map}
 use Prim.Native.Nat.{ℕ, zero, suc, _<_}
 use native.Mathlib.Omega.{arith}
-use lib.ListN.{length, getD, set, replicate, take}
+use lib.ListN.{length, set, replicate, take}
 use lib.Ieee.{Float}
 use Rattle.regions.specs.Row.{keep}
 use Rattle.boundary.specs.Every.{Every}
@@ -13,11 +13,6 @@ use Rattle.boundary.proofs.Ordering.{insert-every}
 pub use Rattle.outline.specs.Counts.{keep-length as keep-few}
 
 -- ---- one element
-
-pub every-at : {A : Type 0} (P : A → Type 0) (l : List A) (i : ℕ) (d : A) → i < length l → Every P l → P (getD l i d)
-every-at P [] i d h e = absurd (omega arith)
-every-at P (x ∷ l) zero d h e = e .0
-every-at P (x ∷ l) (suc i) d h e = every-at P l i d (omega arith) (e .1)
 
 pub every-set : {A : Type 0} (P : A → Type 0) (l : List A) (i : ℕ) (v : A) → Every P l → (i < length l → P v) → Every P (set l i v)
 every-set P [] i v e h = tt

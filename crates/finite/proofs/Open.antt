@@ -27,14 +27,14 @@ use Rattle.geometry.specs.declared.point.Point.{Point}
 use Rattle.geometry.specs.declared.circle.Circle.{Circle}
 use Rattle.boundary.specs.declared.arcs.BoundaryArc.{BoundaryArc}
 use Rattle.boundary.specs.declared.points.IntersectionPoint.{IntersectionPoint}
-use Rattle.boundary.specs.Every.{Every, every-append, every-map, every-upTo}
+use Rattle.boundary.specs.Every.{Every, every-append, every-map, every-upTo, every-at}
 use Rattle.boundary.specs.Outline.{Member, circlesOf, angleAbout, wrapAngle, gap, collapsed, owned, pointAt, probe, fullCircle, between, arcFrom, arcsAt, anglesOf, outlineFrom, outline}
 use Rattle.boundary.specs.Outline.{noCircle}
 use Rattle.outline.specs.Area.{arcTerms, addArc, addArcs, areaOf, openArea, addAt, subAt, arcSlopes, addSlopes, addGradient, openGradient}
 use Rattle.boundary.specs.Set.{headsOf, membersOf, numbered, arcsHeld, regionArcs}
 use Rattle.finite.specs.Arcs.{ShortArc, OutlineShort, OutlineEnds}
 use Rattle.finite.specs.Open.{InDomain, ArcsAreaFinite, ArcsGradientFinite, AreaFinite, GradientFinite, RegionAreaFinite, RegionGradientFinite}
-use Rattle.finite.proofs.Every.{every-at, every-set, sorted-every, every-mapped, every-replicate, every-take}
+use Rattle.finite.proofs.Every.{every-set, sorted-every, every-mapped, every-replicate, every-take}
 use Rattle.finite.proofs.Promises.{sine-most, cosine-most, arctangent-most}
 
 -- ---- angles

@@ -3,18 +3,16 @@
 use mathlib.Core.Path.{sym}
 use mathlib.Core.Bool.{Bool, true, false, cond}
 use mathlib.Core.List.{List, [], _∷_}
-use Prim.Native.Nat.{ℕ, zero, suc, _*_, _≤_, _<_, suc-le-suc}
-use native.Mathlib.Nat.{le-trans}
-use lib.Dec.{leb→le, lit≤}
-use lib.Ieee.{Float, binary64, ofInt}
-use lib.IntN.{ℤ, pos, negsuc, natAbs, negℤ}
+use Prim.Native.Nat.{ℕ, zero, suc, _*_, _<_}
+use lib.Ieee.{Float}
+use lib.IntN.{pos}
 use lib.ListN.{length}
 use Rattle.binary64.specs.Magnitude.{Most}
 use Rattle.binary64.specs.Constants.{zero64-is}
 use Rattle.binary64.proofs.Magnitude.{most-zero}
-use Rattle.binary64.proofs.Whole.{ofInt-most}
 use Rattle.heads.specs.declared.Head.{Head}
-use Rattle.plan.specs.Exactly.{Within, HeadMet, plan-taken}
+use Rattle.plan.specs.Limits.{HeadWithin}
+use Rattle.plan.proofs.Exactly.{plan-taken}
 use Rattle.regions.specs.Edit.{absent, present, afreshRow}
 use Rattle.regions.specs.Table.{areaAt, headAt}
 use Rattle.exact.specs.Circle.{circleOf}
@@ -25,38 +23,28 @@ use Rattle.boundary.specs.Outline.{circlesOf}
 use Rattle.boundary.specs.Set.{headsOf, circleAt, membersOf}
 use Rattle.outline.specs.Points.{collected}
 use Rattle.outline.specs.Counts.{heads-below, outline-few}
-use Rattle.boundary.specs.Every.{Every, every-map, every-upTo}
+use Rattle.boundary.specs.Every.{Every, every-map, every-upTo, every-at}
 use Rattle.outline.proofs.Walking.{circles-of-members}
 use Rattle.areas.specs.Open.{circlesOfHeads, openMethod}
 use Rattle.areas.proofs.Open.{circles-length, open-row}
 use Rattle.finite.specs.Open.{InDomain}
 use Rattle.finite.specs.Rows.{HeadsFinite, PlanFinite, TableFinite}
-use Rattle.finite.proofs.Every.{every-at, every-mapped}
+use Rattle.finite.proofs.Limits.{position-most, radius-most}
+use Rattle.finite.proofs.Every.{every-mapped}
 use Rattle.finite.proofs.Open.{area-finite, gradient-finite, region-gradient-finite}
 
 -- ---- circles of heads
 
-float-most : (z : ℤ) → natAbs z ≤ 20000 → Most 20000 1074 (ofInt binary64 z)
-float-most z h = ofInt-most z (le-trans h (lit≤ tt)) h
-
-position-size : (z : ℤ) → Within (negℤ (pos 20000)) (pos 20000) z → natAbs z ≤ 20000
-position-size (pos n) w = leb→le n 20000 (w .1 .le)
-position-size (negsuc n) w = suc-le-suc (leb→le n 19999 (w .0 .le))
-
-radius-size : (z : ℤ) → Within (pos 1) (pos 20000) z → natAbs z ≤ 20000
-radius-size (pos n) w = leb→le n 20000 (w .1 .le)
-radius-size (negsuc n) w = absurd (w .0 .le)
-
 -- the circle of a head within the limits is a circle of the domain
-circle-domain : (h : Head) → HeadMet h → InDomain (circleOf h)
+circle-domain : (h : Head) → HeadWithin h → InDomain (circleOf h)
 circle-domain h m =
     record {
-      x = float-most (h .x) (position-size (h .x) (m .0));
-      y = float-most (h .y) (position-size (h .y) (m .1));
-      r = float-most (h .radius) (radius-size (h .radius) (m .2));
+      x = position-most (h .x) (m .0);
+      y = position-most (h .y) (m .1);
+      r = radius-most (h .radius) (m .2);
     }
 
-pub circles-domain : (h : ℕ → Head) (n : ℕ) → ((i : ℕ) → i < n → HeadMet (h i)) → Every InDomain (circlesOfHeads h n)
+pub circles-domain : (h : ℕ → Head) (n : ℕ) → ((i : ℕ) → i < n → HeadWithin (h i)) → Every InDomain (circlesOfHeads h n)
 unfolding circlesOfHeads
 circles-domain h n met = every-upTo InDomain (λ i. circleOf (h i) ∷ []) n (λ i g. (circle-domain (h i) (met i g), tt))
 

@@ -18,7 +18,7 @@ use Rattle.geometry.specs.Floats.{_+ᶠ_, _-ᶠ_, _*ᶠ_, _/ᶠ_}
 use Rattle.geometry.specs.declared.bounds.Bounds.{Bounds}
 use Rattle.geometry.specs.declared.circle.Circle.{Circle}
 use Rattle.boundary.specs.declared.arcs.BoundaryArc.{BoundaryArc}
-use Rattle.boundary.specs.Every.{Every, every-map}
+use Rattle.boundary.specs.Every.{Every, every-map, every-at}
 use Rattle.boundary.specs.Outline.{circlesOf, outline}
 use Rattle.boundary.specs.Outline.{noCircle}
 use Rattle.outline.specs.Area.{addAt, subAt}
@@ -31,7 +31,7 @@ use Rattle.clip.specs.Gradient.{WithGradient, with-gradient, subArcByDifference
 use Rattle.finite.specs.Arcs.{ShortArc}
 use Rattle.finite.specs.Open.{InDomain}
 use Rattle.finite.specs.Boxed.{BoxInDomain, GradientMost, ClippedGradientFinite, GradientInBoxFinite}
-use Rattle.finite.proofs.Every.{every-at, every-replicate}
+use Rattle.finite.proofs.Every.{every-replicate}
 use Rattle.finite.proofs.Folds.{fold-after, pairs-after}
 use Rattle.finite.proofs.Open.{entry-add, entry-sub, outline-short}
 use Rattle.finite.proofs.Edges.{OneShort, edges-short}

@@ -12,8 +12,8 @@ use Rattle.plan.specs.declared.Answer.the-variants.{Taken}
 use Rattle.plan.specs.declared.Ground.{Ground}
 use Rattle.plan.specs.declared.Plan.{Plan}
 use Rattle.plan.specs.Checks.{planAnswer}
-use Rattle.plan.specs.Exactly.{HeadMet}
-use Rattle.file.specs.Sound.{GroundMet}
+use Rattle.plan.specs.Limits.{HeadWithin}
+use Rattle.plan.specs.Limits.{GroundWithin}
 use Rattle.plan.specs.Table.{gradientWidth}
 use Rattle.regions.specs.Row.{rowArea}
 use Rattle.regions.specs.Table.{headAt, afresh}
@@ -48,7 +48,7 @@ pub record BoxedRowFinite (box : Bounds) (h : ℕ → Head) (n S : ℕ) : Type 0
 -- A box and at most ten heads, all within the limits: the row of any set of the heads, the empty set too.
 abbrev pub HeadsInBoxFinite : Type 0
 HeadsInBoxFinite =
-    (g : Ground) (h : ℕ → Head) (n S : ℕ) → n ≤ 10 → GroundMet g → ((i : ℕ) → i < n → HeadMet (h i)) → BoxedRowFinite (bounds (boxOf g)) h n S
+    (g : Ground) (h : ℕ → Head) (n S : ℕ) → n ≤ 10 → GroundWithin g → ((i : ℕ) → i < n → HeadWithin (h i)) → BoxedRowFinite (bounds (boxOf g)) h n S
 
 -- A plan that is taken: the row of any set of its heads.
 abbrev pub PlanInBoxFinite : Type 0

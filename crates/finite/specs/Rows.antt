@@ -13,18 +13,18 @@ use Rattle.plan.specs.declared.Answer.the-variants.{Taken}
 use Rattle.plan.specs.declared.Ground.{Ground}
 use Rattle.plan.specs.declared.Plan.{Plan}
 use Rattle.plan.specs.Checks.{planAnswer}
-use Rattle.plan.specs.Exactly.{HeadMet}
+use Rattle.plan.specs.Limits.{HeadWithin}
 use Rattle.regions.specs.Row.{rowArea}
 use Rattle.regions.specs.Table.{headAt, afresh}
 use Rattle.outline.specs.Area.{addGradient, openGradient}
 use Rattle.boundary.specs.Every.{Every}
 use Rattle.outline.specs.Points.{collected}
-use Rattle.boundary.specs.Set.{membersOf, regionArcs}
-use Rattle.areas.specs.Open.{circlesOfHeads, openGeometry, openMethod}
+use Rattle.boundary.specs.Set.{regionArcs}
+use Rattle.areas.specs.Open.{circlesOfHeads, membersOfPlan, openGeometry, openMethod}
 
 -- the gradient of row S of n heads by position in the set: x, y and radius of each of its heads in turn
 abbrev pub rowGradient : (ℕ → Head) → ℕ → ℕ → List Float
-rowGradient h n S = let cs = circlesOfHeads h n in openGradient (membersOf cs (collected cs) S)
+rowGradient h n S = openGradient (membersOfPlan h n S)
 
 -- and by head number: x, y and radius of each of the n heads in turn, added up from zeros
 abbrev pub rowGradientByHead : (ℕ → Head) → ℕ → ℕ → List Float
@@ -38,7 +38,7 @@ pub record OpenRowFinite (h : ℕ → Head) (n S : ℕ) : Type 0 where
 
 -- At most ten heads, all within the limits: the row of any set of them, the empty set too.
 abbrev pub HeadsFinite : Type 0
-HeadsFinite = (h : ℕ → Head) (n S : ℕ) → n ≤ 10 → S < 2 ^ n → ((i : ℕ) → i < n → HeadMet (h i)) → OpenRowFinite h n S
+HeadsFinite = (h : ℕ → Head) (n S : ℕ) → n ≤ 10 → S < 2 ^ n → ((i : ℕ) → i < n → HeadWithin (h i)) → OpenRowFinite h n S
 
 -- A plan that is taken: the row of any set of its heads.
 abbrev pub PlanFinite : Type 0
