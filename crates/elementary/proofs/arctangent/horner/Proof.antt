@@ -1,6 +1,7 @@
 -- `horner` meets its contract: each step is one of the definition's, and its result is no more than its coefficient.
-use Rattle.series.specs.Kernel as kernel
 use borrow.Author.Needs.{needs}
+use Rattle.cells.specs.Arc.{firstArc, arcs}
+use Rattle.elementary.proofs.fixed.Horner.{Value, next}
 use Rattle.elementary.proofs.arctangent.horner.Statement.{statement}
 use Rattle.elementary.proofs.arctangent.horner.Tie as tie
 
@@ -41,8 +42,20 @@ step-requires-11 : tie.Need-step-requires-11
 step-requires-11 c κs = search needs
 
 returns : tie.Need-returns
-unfolding kernel.horner
-returns c = (cc, c .step11 .ensures .1)
+returns c =
+    let v : Value firstArc arcs (c .before .before .before .before .before .before .before .before .before .before .before .before .args .z) (c .step11 .result) =
+    next (c .step11 .ensures .0)
+    (next (c .before .step10 .ensures .0)
+    (next (c .before .before .step9 .ensures .0)
+    (next (c .before .before .before .step8 .ensures .0)
+    (next (c .before .before .before .before .step7 .ensures .0)
+    (next (c .before .before .before .before .before .step6 .ensures .0)
+    (next (c .before .before .before .before .before .before .step5 .ensures .0)
+    (next (c .before .before .before .before .before .before .before .step4 .ensures .0)
+    (next (c .before .before .before .before .before .before .before .before .step3 .ensures .0)
+    (next (c .before .before .before .before .before .before .before .before .before .step2 .ensures .0)
+    (next (c .before .before .before .before .before .before .before .before .before .before .step .ensures .0) (record { is = c .before .before .before .before .before .before .before .before .before .before .before .later-half .ensures .0 }))))))))))) in
+    (v .is, c .step11 .ensures .1)
 
 pub horner-spec : {M : Type 1} → statement M
 horner-spec =

@@ -1,7 +1,7 @@
 -- `later_half` meets its contract: each step is one of the definition's, and its result is no more than its coefficient.
-use mathlib.Core.Path.{refl}
-use Rattle.series.specs.Kernel as kernel
 use borrow.Author.Needs.{needs}
+use Rattle.cells.specs.Arc.{middleArc, laterArcs}
+use Rattle.elementary.proofs.fixed.Horner.{Value, constant, next}
 use Rattle.elementary.proofs.arctangent.later_half.Statement.{statement}
 use Rattle.elementary.proofs.arctangent.later_half.Tie as tie
 
@@ -36,22 +36,19 @@ step-requires-10 : tie.Need-step-requires-10
 step-requires-10 c κs = search needs
 
 returns : tie.Need-returns
-unfolding kernel.horner
-returns c = (
-  rw (
-    c .step10 .ensures .0,
-    c .before .step9 .ensures .0,
-    c .before .before .step8 .ensures .0,
-    c .before .before .before .step7 .ensures .0,
-    c .before .before .before .before .step6 .ensures .0,
-    c .before .before .before .before .before .step5 .ensures .0,
-    c .before .before .before .before .before .before .step4 .ensures .0,
-    c .before .before .before .before .before .before .before .step3 .ensures .0,
-    c .before .before .before .before .before .before .before .before .step2 .ensures .0,
-    c .before .before .before .before .before .before .before .before .before .step .ensures .0,
-  ) refl,
-  c .step10 .ensures .1,
-)
+returns c =
+    let v : Value middleArc laterArcs (c .before .before .before .before .before .before .before .before .before .before .args .z) (c .step10 .result) =
+    next (c .step10 .ensures .0)
+    (next (c .before .step9 .ensures .0)
+    (next (c .before .before .step8 .ensures .0)
+    (next (c .before .before .before .step7 .ensures .0)
+    (next (c .before .before .before .before .step6 .ensures .0)
+    (next (c .before .before .before .before .before .step5 .ensures .0)
+    (next (c .before .before .before .before .before .before .step4 .ensures .0)
+    (next (c .before .before .before .before .before .before .before .step3 .ensures .0)
+    (next (c .before .before .before .before .before .before .before .before .step2 .ensures .0)
+    (next (c .before .before .before .before .before .before .before .before .before .step .ensures .0) constant))))))))) in
+    (v .is, c .step10 .ensures .1)
 
 pub later-half-spec : {M : Type 1} → statement M
 later-half-spec =

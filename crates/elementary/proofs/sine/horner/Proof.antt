@@ -1,6 +1,7 @@
 -- `horner` meets its contract: each step is one of the definition's, and its result is no more than its coefficient.
 use borrow.Author.Needs.{needs}
-use Rattle.series.specs.Kernel as kernel
+use Rattle.series.specs.Kernel.{firstCoefficient, coefficients}
+use Rattle.elementary.proofs.fixed.Horner.{Value, constant, next}
 use Rattle.elementary.proofs.sine.horner.Statement.{statement}
 use Rattle.elementary.proofs.sine.horner.Tie as tie
 
@@ -35,8 +36,19 @@ step-requires-10 : tie.Need-step-requires-10
 step-requires-10 c κs = search needs
 
 returns : tie.Need-returns
-unfolding kernel.horner
-returns c = cc
+returns c =
+    let v : Value firstCoefficient coefficients (c .before .before .before .before .before .before .before .before .before .before .args .z) (c .step10 .result) =
+    next (c .step10 .ensures .0)
+    (next (c .before .step9 .ensures .0)
+    (next (c .before .before .step8 .ensures .0)
+    (next (c .before .before .before .step7 .ensures .0)
+    (next (c .before .before .before .before .step6 .ensures .0)
+    (next (c .before .before .before .before .before .step5 .ensures .0)
+    (next (c .before .before .before .before .before .before .step4 .ensures .0)
+    (next (c .before .before .before .before .before .before .before .step3 .ensures .0)
+    (next (c .before .before .before .before .before .before .before .before .step2 .ensures .0)
+    (next (c .before .before .before .before .before .before .before .before .before .step .ensures .0) constant))))))))) in
+    v .is
 
 pub horner-spec : {M : Type 1} → statement M
 horner-spec =
