@@ -4,44 +4,25 @@ use mathlib.Core.Logic.{_⊎_, inl, inr, ⊎-elim}
 use mathlib.Core.Bool.{Bool, true, false, _&&_, _||_}
 use Prim.Native.Nat.{ℕ, _+_, _*_, _≤_, _<_}
 use native.Mathlib.Omega.{arith}
-use lib.Dec.{T, leb, leb→le, le→leb}
+use lib.Dec.{T}
 use lib.Ieee.Fits.{and-l, and-r}
 use lib.Ieee.Bits.{is-true}
 use lib.Ieee.{Float, binary64, fits, ofBits, lt, le}
 use Rattle.binary64.specs.Constants.{zero64}
 use Rattle.binary64.specs.Functions.{absolute}
 use Rattle.binary64.specs.Magnitude.{Most}
-use Rattle.binary64.specs.Units.{pow2, one, Finite, mag, negative, plus, minus}
+use Rattle.binary64.specs.Units.{pow2, one, Finite, mag, plus, minus}
 use Rattle.binary64.proofs.Naturals.{lt-or-ge}
 use Rattle.binary64.proofs.Units.{lt-of-units, zero64-finite, zero64-plus, zero64-minus, above-zero}
-use Rattle.binary64.proofs.Functions.{absolute-sign, absolute-mag, absolute-finite, absolute-parts, absolute-number, absolute-test}
+use Rattle.binary64.proofs.Functions.{absolute-sign, absolute-mag, absolute-finite, absolute-parts}
 use Rattle.elementary.specs.Arctangent.{largest, inDomain}
 use Rattle.elementary.specs.ArctangentSteps.{InQuarter}
 use Rattle.elementary.specs.ArctangentPromise.{Domain}
+use Rattle.elementary.proofs.fixed.Literal.{Literal, most-of-test, test-of-most}
 
-largest-finite : Finite largest
-unfolding ofBits fits
-largest-finite = record { fit = tt; number = tt }
-
-largest-mag : mag largest ≡ 1048576 * one
-unfolding ofBits mag pow2
-largest-mag = refl
-
-largest-sign : negative largest ≡ false
-unfolding ofBits
-largest-sign = refl
-
--- |x| ≤ 2^20, by the test and in units
-test-size : {x : Float} → Finite x → le (absolute x) largest ≡ leb (mag x) (1048576 * one)
-test-size {x} f = absolute-test f largest-finite largest-sign ∙ ap (leb (mag x)) largest-mag
-
-small : {x : Float} → T (fits binary64 x) → T (le (absolute x) largest) → Most 1048576 1074 x
-small {x} f t =
-    let h = absolute-number x largest f largest-finite (is-true (le (absolute x) largest) t) in
-    record { finite = h; bound = leb→le (mag x) (1048576 * one) (subst T (test-size h) t) }
-
-passes : {x : Float} → Most 1048576 1074 x → le (absolute x) largest ≡ true
-passes {x} m = test-size (m .finite) ∙ is-true (leb (mag x) (1048576 * one)) (le→leb (mag x) (1048576 * one) (m .bound))
+largest-units : Literal (1048576 * one) largest
+unfolding ofBits fits mag pow2
+largest-units = record { finite = record { fit = tt; number = tt }; sign = refl; size = refl }
 
 -- |x| > 0, by the test and in units
 some-of-test : {x : Float} → Finite x → T (lt zero64 (absolute x)) → 0 < mag x
@@ -89,10 +70,10 @@ domain {y} {x} g f t = record {
     all = subst T (sym t) tt
 
     X : Most 1048576 1074 x
-    X = small f (and-l a b (and-l (a && b) c all))
+    X = most-of-test 1048576 largest-units f (is-true a (and-l a b (and-l (a && b) c all)))
 
     Y : Most 1048576 1074 y
-    Y = small g (and-r a b (and-l (a && b) c all))
+    Y = most-of-test 1048576 largest-units g (is-true b (and-r a b (and-l (a && b) c all)))
 
     left : (m n : ℕ) → 0 < m → 0 < m + n
     left m n k = omega arith
@@ -103,7 +84,7 @@ domain {y} {x} g f t = record {
 -- and the other way.
 pub inside : {y x : Float} → Domain y x → inDomain (absolute x) (absolute y) ≡ true
 unfolding inDomain
-inside {y} {x} d = ap₂ (λ (a b : Bool). a && b) (ap₂ (λ (a b : Bool). a && b) (passes (d .x-size)) (passes (d .y-size))) (⊎-elim first second (lt-or-ge 0 (mag x)))
+inside {y} {x} d = ap₂ (λ (a b : Bool). a && b) (ap₂ (λ (a b : Bool). a && b) (test-of-most 1048576 largest-units (d .x-size)) (test-of-most 1048576 largest-units (d .y-size))) (⊎-elim first second (lt-or-ge 0 (mag x)))
   where
     first : 0 < mag x → (lt zero64 (absolute x) || lt zero64 (absolute y)) ≡ true
     first l = ap (λ (b : Bool). b || lt zero64 (absolute y)) (test-of-some (d .x-size .finite) l)

@@ -30,7 +30,7 @@ use Rattle.elementary.specs.ArctangentPromise.{Domain, UpToPi, Angle, ha
 use Rattle.elementary.specs.ArctangentSteps.{InQuarter}
 use Rattle.elementary.proofs.arctangent.Domain.{point, domain, inside}
 use Rattle.elementary.proofs.arctangent.Slope.{below-diagonal, above-diagonal, tangent-zero}
-use Rattle.elementary.proofs.arctangent.Exit.{grain, angleOf, angle-made, angle-most, pi-mag}
+use Rattle.elementary.proofs.arctangent.Exit.{grain, angleOf, angle-made, angle-most, pi-units}
 use Rattle.elementary.proofs.arctangent.Good.{Good, scaled, moved, loosened}
 use Rattle.elementary.proofs.arctangent.Aimed.{Aimed, place-small, below-axis, upper-aimed}
 use Rattle.elementary.proofs.arctangent.Fractions.{exact-units, exact-proper, units, signed-times, signed-size, residual-fractions, ahead-fractions}
@@ -51,7 +51,7 @@ unfolding tick
 ticks = mul-assoc (2 ^ 538) (2 ^ 62) grain ∙ ap (λ (k : ℕ). 2 ^ 538 * k) (sym (pow2-split 62 1012))
 
 pi-small : mag pi ≤ 4 * one
-pi-small = le-trans (le-of-eq pi-mag) (le-trans (below grain) (le-of-eq (ap (λ (k : ℕ). 4 * k) (sym (pow2-split 62 1012)))))
+pi-small = le-trans (le-of-eq (pi-units .size)) (le-trans (below grain) (le-of-eq (ap (λ (k : ℕ). 4 * k) (sym (pow2-split 62 1012)))))
   where
     below : (g : ℕ) → 14488038916154245120 * g ≤ 4 * (2 ^ 62 * g)
     below g = omega arith

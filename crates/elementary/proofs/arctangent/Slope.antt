@@ -19,11 +19,12 @@ use Rattle.binary64.proofs.Magnitude.{div-most}
 use Rattle.series.proofs.Alternating.{quotient-above, quotient-below}
 use Rattle.elementary.specs.Arctangent.{tangent, tangentScale}
 use Rattle.elementary.specs.ArctangentSteps.{InQuarter, Ordered}
+use Rattle.elementary.proofs.fixed.Literal.{Literal}
 use Rattle.elementary.proofs.fixed.Entry as fixed
 
-scale-power : fixed.Power 64 tangentScale
+scale : Literal (pow2 1138) tangentScale
 unfolding ofBits fits mag pow2
-scale-power = record { finite = record { fit = tt; number = tt }; sign = refl; size = refl }
+scale = record { finite = record { fit = tt; number = tt }; sign = refl; size = refl }
 
 -- ---- the smaller coordinate over the larger
 
@@ -86,7 +87,7 @@ module _ {low high : Float} (o : Ordered low high) where
 
   -- the scaled quotient can be cut to 64 bits
   pub above-minus-one : T (lt (fin true 1 (pos 0)) scaled)
-  above-minus-one = fixed.above-minus-one quotient-most quotient-sign scale-power (lit≤ tt) (lit≤ tt)
+  above-minus-one = fixed.above-minus-one 64 quotient-most quotient-sign scale (lit≤ tt) (lit≤ tt)
 
   module _ (t : lt q one64 ≡ true) where
     scaled-small : mag q * 2 ^ 64 < 2 ^ 64 * one
@@ -96,13 +97,13 @@ module _ {low high : Float} (o : Ordered low high) where
         less m u h = omega arith
 
     pub below-top : T (lt scaled (fin false 1 (pos 64)))
-    below-top = fixed.below-2^64 quotient-most quotient-sign scale-power (lit≤ tt) (lit≤ tt) scaled-small
+    below-top = fixed.below-2^64 64 quotient-most quotient-sign scale (lit≤ tt) (lit≤ tt) scaled-small
 
     tangent-below-one : toUnsigned 64 scaled ≡ mag q * 2 ^ 64 / one
-    tangent-below-one = fixed.cut-is quotient-most quotient-sign scale-power (lit≤ tt) (lit≤ tt) scaled-small
+    tangent-below-one = fixed.cut-is 64 quotient-most quotient-sign scale (lit≤ tt) (lit≤ tt) scaled-small
 
     small-below-one : mag q * 2 ^ 64 / one < 2 ^ 64
-    small-below-one = fixed.cut-small quotient-most quotient-sign scale-power (lit≤ tt) (lit≤ tt) scaled-small
+    small-below-one = fixed.cut-small 64 quotient-most quotient-sign scale (lit≤ tt) (lit≤ tt) scaled-small
 
   -- ---- the tangent against the coordinates
 

@@ -17,6 +17,7 @@ use Rattle.binary64.proofs.Units.{pow2-split, one-pos, mag-exact, mag-digits, p
 use Rattle.binary64.proofs.Rounding.{rnd-exact}
 use Rattle.binary64.proofs.Operations.{mul-mag, mul-sign}
 use Rattle.binary64.proofs.Magnitude.{mul-most}
+use Rattle.elementary.proofs.fixed.Literal.{Literal}
 
 -- ---- the ends of what can be cut: -1 and 2^64
 
@@ -28,13 +29,9 @@ minus-one-parts : (plus (fin true 1 (pos 0)) ≡ 0) × (0 < minus (fin true 1 (p
 unfolding plus minus mag pow2
 minus-one-parts = (refl, leb→le 1 (2 ^ 1074) tt)
 
-top-finite : Finite (fin false 1 (pos 64))
-unfolding fits
-top-finite = record { fit = tt; number = tt }
-
-top-mag : mag (fin false 1 (pos 64)) ≡ pow2 1138
-unfolding mag pow2
-top-mag = refl
+top : Literal (pow2 1138) (fin false 1 (pos 64))
+unfolding fits mag pow2
+top = record { finite = record { fit = tt; number = tt }; sign = refl; size = refl }
 
 -- a float without the sign bit, cut to a whole number
 cut-units : {x : Float} → Finite x → negative x ≡ false → mag x / one < 2 ^ 64 → toUnsigned 64 x ≡ mag x / one
@@ -55,13 +52,7 @@ cut-units {x = fin false n e} f s l = ap (λ (k : ℕ). min k (2 ^ 64 - 1)) whol
 
 -- ---- x times the factor 2^k
 
--- a factor of 2^k
-pub record Power (k : ℕ) (factor : Float) : Type 0 where
-  pub finite : Finite factor
-  pub sign : negative factor ≡ false
-  pub size : mag factor ≡ pow2 (k + 1074)
-
-module _ {j k : ℕ} {x factor : Float} (m : Most j 1074 x) (s : negative x ≡ false) (p : Power k factor) (few : j ≤ 2 ^ 53) (room : k + 1074 ≤ 2044) where
+module _ {j : ℕ} (k : ℕ) {x factor : Float} (m : Most j 1074 x) (s : negative x ≡ false) (p : Literal (pow2 (k + 1074)) factor) (few : j ≤ 2 ^ 53) (room : k + 1074 ≤ 2044) where
   abbrev scaled : Float
   scaled = mul binary64 x factor
 
@@ -92,8 +83,8 @@ module _ {j k : ℕ} {x factor : Float} (m : Most j 1074 x) (s : negative x ≡ 
     pub below-2^64 : T (lt scaled (fin false 1 (pos 64)))
     below-2^64 =
         let w = plus-is scaled scaled-sign in
-        let t = plus-is (fin false 1 (pos 64)) refl in
-        subst T (sym (lt-of-units scaled-finite top-finite (less (plus scaled) (minus scaled) (plus (fin false 1 (pos 64))) (minus (fin false 1 (pos 64))) (mag x * 2 ^ k) one (w .0 ∙ scaled-mag) (w .1) (t .0 ∙ top-mag ∙ pow2-split 64 1074) (t .1) small))) tt
+        let t = plus-is (fin false 1 (pos 64)) (top .sign) in
+        subst T (sym (lt-of-units scaled-finite (top .finite) (less (plus scaled) (minus scaled) (plus (fin false 1 (pos 64))) (minus (fin false 1 (pos 64))) (mag x * 2 ^ k) one (w .0 ∙ scaled-mag) (w .1) (t .0 ∙ top .size ∙ pow2-split 64 1074) (t .1) small))) tt
       where
         less : (p n a b i u : ℕ) → p ≡ i → n ≡ 0 → a ≡ 2 ^ 64 * u → b ≡ 0 → i < 2 ^ 64 * u → p + b < a + n
         less p n a b i u c d e f h = omega arith

@@ -16,6 +16,7 @@ use Rattle.binary64.proofs.Rounding.{rnd-le, rnd-near}
 use Rattle.binary64.proofs.Magnitude.{bound-digits, bound-limit, mul-most}
 use Rattle.binary64.proofs.Operations.{round-finite, round-mag, round-sign, mul-mag, mul-sign}
 use Rattle.binary64.proofs.Whole.{ofInt-whole}
+use Rattle.elementary.proofs.fixed.Literal.{Literal}
 
 -- x is n grains of 2 ^ g units, without the sign bit, up to 2 ^ r grains for each of the two roundings.
 pub record Made (r g n : ℕ) (x : Float) : Type 0 where
@@ -26,7 +27,7 @@ pub record Made (r g n : ℕ) (x : Float) : Type 0 where
   pub below : n * pow2 g ≤ mag x + 2 * 2 ^ r * pow2 g
 
 -- a number of at most 54 + r digits, times a factor of 2 ^ g units
-module _ (r g : ℕ) {factor : Float} (finite : Finite factor) (factor-sign : negative factor ≡ false) (grain : mag factor ≡ pow2 g) (room : 54 + (r + 1074) ≤ 2044) (fit : 54 + (r + g) ≤ 2044)
+module _ (r g : ℕ) {factor : Float} (l : Literal (pow2 g) factor) (room : 54 + (r + 1074) ≤ 2044) (fit : 54 + (r + g) ≤ 2044)
     (n : ℕ) (small : n ≤ 2 ^ 54 * 2 ^ r) where
   abbrev whole : Float
   whole = round binary64 false n 1
@@ -51,13 +52,13 @@ module _ (r g : ℕ) {factor : Float} (finite : Finite factor) (factor-sign : ne
   product = mul binary64 whole factor
 
   product-most : Most 1 (54 + (r + g)) product
-  product-most = mul-most whole-most (record { finite = finite; bound = le-of-eq (grain ∙ sym (one-mul (pow2 g))) }) (54 + (r + g)) (turn r g) (lit≤ tt) fit
+  product-most = mul-most whole-most (record { finite = l .finite; bound = le-of-eq (l .size ∙ sym (one-mul (pow2 g))) }) (54 + (r + g)) (turn r g) (lit≤ tt) fit
     where
       turn : (r g : ℕ) → 54 + (r + 1074) + g ≡ 54 + (r + g) + 1074
       turn r g = omega arith
 
   product-mag : mag product ≡ rnd (mag whole * pow2 g) one
-  product-mag = mul-mag whole-finite finite (product-most .finite) ∙ ap (λ (k : ℕ). rnd (mag whole * k) one) grain
+  product-mag = mul-mag whole-finite (l .finite) (product-most .finite) ∙ ap (λ (k : ℕ). rnd (mag whole * k) one) (l .size)
 
   product-bound : mag whole * pow2 g ≤ 2 ^ 54 * pow2 (r + g) * one
   product-bound =
@@ -96,7 +97,7 @@ module _ (r g : ℕ) {factor : Float} (finite : Finite factor) (factor-sign : ne
   pub made : Made r g n (mul binary64 (ofInt binary64 (pos n)) factor)
   made = subst (λ (w : Float). Made r g n (mul binary64 w factor)) (sym (ofInt-whole (pos n))) (record {
     most = product-most;
-    sign = mul-sign whole-finite finite (product-most .finite) ∙ ap₂ unlike (round-sign false n 1 whole-finite) factor-sign;
+    sign = mul-sign whole-finite (l .finite) (product-most .finite) ∙ ap₂ unlike (round-sign false n 1 whole-finite) (l .sign);
     size = product-mag ∙ ap (λ (k : ℕ). rnd (k * pow2 g) one) whole-mag;
     above = product-above;
     below = product-below;

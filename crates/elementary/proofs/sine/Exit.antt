@@ -9,7 +9,7 @@ use lib.Dec.{lit≤}
 use lib.IntN.{ℤ, pos, _*ℤ_, *ℤ-comm}
 use lib.Ieee.{Float, nan, inf, fin, binary64, up, down, fits, ofBits, neg, mul, ofInt}
 use lib.Ieee.Exact.{HasValue}
-use Rattle.binary64.specs.Units.{pow2, one, Finite, mag, negative}
+use Rattle.binary64.specs.Units.{pow2, one, mag}
 use Rattle.binary64.specs.Magnitude.{Most}
 use Rattle.binary64.proofs.Units.{pow2-pos, pow2-split, mag-value, neg-mag, neg-finite, neg-sign}
 use Rattle.binary64.proofs.Magnitude.{neg-most}
@@ -18,6 +18,7 @@ use Rattle.series.proofs.Integers.{dist}
 use Rattle.series.proofs.Quarter.{dist-signed}
 use Rattle.series.proofs.Angles.{fraction, signed-scale}
 use Rattle.elementary.specs.Sine.{sineScale}
+use Rattle.elementary.proofs.fixed.Literal.{Literal}
 use Rattle.elementary.proofs.fixed.Exit.{Made, made}
 
 -- 2^-61 in units, and its multiples
@@ -27,17 +28,9 @@ grain = pow2 1013
 one-grains : one ≡ 2 ^ 61 * grain
 one-grains = pow2-split 61 1013
 
-scale-finite : Finite sineScale
-unfolding ofBits fits
-scale-finite = record { fit = tt; number = tt }
-
-scale-sign : negative sineScale ≡ false
-unfolding ofBits
-scale-sign = refl
-
-scale-mag : mag sineScale ≡ grain
-unfolding ofBits mag pow2
-scale-mag = refl
+scale : Literal grain sineScale
+unfolding ofBits fits mag pow2
+scale = record { finite = record { fit = tt; number = tt }; sign = refl; size = refl }
 
 -- ---- as a fraction
 
@@ -75,7 +68,7 @@ module _ (n : ℕ) (small : n ≤ 2 ^ 61) where
   size = mul binary64 (ofInt binary64 (pos n)) sineScale
 
   size-made : Made 7 1013 n size
-  size-made = made 7 1013 scale-finite scale-sign scale-mag (lit≤ tt) (lit≤ tt) n small
+  size-made = made 7 1013 scale (lit≤ tt) (lit≤ tt) n small
 
   pub made-most : (t : Bool) → Most 1 1074 (cond t (neg size) size)
   made-most true = neg-most (size-made .most)

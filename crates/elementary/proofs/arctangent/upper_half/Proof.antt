@@ -1,5 +1,5 @@
+-- `upper_half` meets its contract: the arms are those of the definition.
 use mathlib.Core.Path.{refl}
--- `upper_half` meets its contract.
 use native.Mathlib.Omega.{arith}
 use Rattle.elementary.specs.Arctangent as recipe
 use borrow.Author.Needs.{needs}
