@@ -1,21 +1,21 @@
 -- What the proofs of the small functions of f64 rest on, the test for a NaN and the sign bit of a float's bits, and laws that callers cite:
 -- sizes and signs of what the functions give, and larger and smaller of whole numbers.
-use mathlib.Core.Path.{_≡_, refl, sym, ap, _∙_, subst}
-use Prim.Native.Nat.{ℕ, _^_, _≤_}
-use native.Mathlib.Nat.{le-trans, le-of-eq}
+use mathlib.Core.Path.{_≡_, refl, sym, ap, ap₂, _∙_, subst}
+use Prim.Native.Nat.{ℕ, _+_, _^_, _≤_}
+use native.Mathlib.Nat.{le-trans, le-of-eq, add-zero}
 use mathlib.Core.Bool.{Bool, true, false, not, _||_, cond, true≢false, false≢true}
 use lib.Dec.{T, leb}
 use lib.IntN.{ℤ, natAbs}
 use lib.Signed.{ltZ}
 use lib.Ieee.Scale.{finite}
-use lib.Ieee.{Float, nan, inf, fin, binary64, isNan, fits, neg, lt, eq, ofInt, ne, toBits}
+use lib.Ieee.{Float, nan, inf, fin, binary64, isNan, fits, ofBits, neg, lt, le, eq, ofInt, ne, toBits}
 use lib.Ieee.Bits.{ofBits-toBits, is-false}
 use lib.Ieee.Compare.{differs-from-itself}
-use Rattle.binary64.specs.Units.{Finite, mag, negative, plus, minus, signedZero}
-use Rattle.binary64.specs.Constants.{zero64, zero64-is}
+use Rattle.binary64.specs.Units.{Finite, mag, negative, plus, minus}
+use Rattle.binary64.specs.Constants.{zero64}
 use Rattle.binary64.specs.Magnitude.{Most, Least}
 use Rattle.binary64.specs.Functions.{absolute, unit, signumOf, clampToZero, largerOf, smallerOf}
-use Rattle.binary64.proofs.Units.{neg-finite, plus-is, zero64-finite, zero64-plus, zero64-minus, above-zero, not-above-zero, not-nan}
+use Rattle.binary64.proofs.Units.{neg-finite, plus-is, zero64-finite, zero64-sign, zero64-plus, zero64-minus, above-zero, not-above-zero, not-nan, le-units}
 use Rattle.binary64.proofs.Magnitude.{most-either, most-zero}
 use Rattle.binary64.proofs.Whole.{ofInt-finite, lt-ofInt}
 use Rattle.binary64.proofs.Patterns.{pattern-sign}
@@ -83,7 +83,7 @@ absolute-mag nan = refl
 absolute-mag (inf s) = refl
 absolute-mag (fin s m e) = refl
 
-absolute-finite : {x : Float} → Finite x → Finite (absolute x)
+pub absolute-finite : {x : Float} → Finite x → Finite (absolute x)
 absolute-finite {x} h = go (negative x) refl
   where
     go : (s : Bool) → negative x ≡ s → Finite (absolute x)
@@ -101,11 +101,28 @@ absolute-least {x = x} m = record { finite = absolute-finite (m .finite); bound 
 pub absolute-parts : (x : Float) → (plus (absolute x) ≡ mag x) × (minus (absolute x) ≡ 0)
 absolute-parts x = let w = plus-is (absolute x) (absolute-sign x) in (w .0 ∙ absolute-mag x, w .1)
 
+-- Where |x| ≤ y for a number y, x is a number,
+pub absolute-number : (x y : Float) → T (fits binary64 x) → Finite y → le (absolute x) y ≡ true → Finite x
+unfolding le lt eq
+absolute-number (fin s m e) y f h t = record { fit = f; number = tt }
+absolute-number nan y f h t = absurd (false≢true t)
+absolute-number (inf s) nan f h t = absurd (h .number)
+absolute-number (inf s) (inf r) f h t = absurd (h .number)
+absolute-number (inf s) (fin r m e) f h t = absurd (false≢true t)
+
+-- and among numbers the test is one of magnitudes, where y has no sign bit.
+pub absolute-test : {x y : Float} → Finite x → Finite y → negative y ≡ false → le (absolute x) y ≡ leb (mag x) (mag y)
+absolute-test {x} {y} f h s =
+    let w = absolute-parts x in
+    let b = plus-is y s in
+    le-units (absolute-finite f) h
+    ∙ ap₂ leb (ap₂ (λ (i k : ℕ). i + k) (w .0) (b .1) ∙ add-zero (mag x)) (ap₂ (λ (i k : ℕ). i + k) (b .0) (w .1) ∙ add-zero (mag y))
+
 -- ---- the clamp
 
--- what is above zero is a number without the sign bit
-above-sign : (x : Float) → lt (signedZero false) x ≡ true → (negative x ≡ false) × (isNan x ≡ false)
-unfolding lt isNan
+-- What is above zero is a number without the sign bit.
+pub above-sign : (x : Float) → lt zero64 x ≡ true → (negative x ≡ false) × (isNan x ≡ false)
+unfolding lt isNan ofBits
 above-sign nan e = absurd (false≢true e)
 above-sign (inf true) e = absurd (false≢true e)
 above-sign (inf false) e = (refl, refl)
@@ -117,8 +134,8 @@ pub clamp-sign : (x : Float) → (negative (clampToZero x) ≡ false) × (isNan 
 clamp-sign x = go (lt zero64 x) refl
   where
     go : (b : Bool) → lt zero64 x ≡ b → (negative (cond b x zero64) ≡ false) × (isNan (cond b x zero64) ≡ false)
-    go true e = above-sign x (ap (λ (z : Float). lt z x) (sym zero64-is) ∙ e)
-    go false e = (ap negative zero64-is, number zero64-finite)
+    go true e = above-sign x e
+    go false e = (zero64-sign, number zero64-finite)
 
 -- It is no larger than x.
 pub clamp-most : {j a : ℕ} {x : Float} → Most j a x → Most j a (clampToZero x)

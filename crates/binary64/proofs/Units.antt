@@ -393,6 +393,12 @@ le-not-lt {x} {y} h k = le-units h k ∙ sym (not-ltb (plus y + minus x) (plus x
 pub zero64-finite : Finite zero64
 zero64-finite = subst (λ (x : Float). Finite x) (sym zero64-is) (zero-finite false)
 
+pub zero64-sign : negative zero64 ≡ false
+zero64-sign = ap negative zero64-is
+
+pub zero64-mag : mag zero64 ≡ 0
+zero64-mag = ap mag zero64-is ∙ zero-mag false
+
 pub zero64-plus : plus zero64 ≡ 0
 zero64-plus = ap plus zero64-is ∙ zero-plus false
 

@@ -3,19 +3,16 @@
 -- every answer are fixed.
 use Prim.Native.Nat.{ℕ, _-_, _^_}
 use mathlib.Core.Path.{_≡_, refl}
-use mathlib.Core.Bool.{Bool, true, false, cond, _&&_, _||_}
+use mathlib.Core.Bool.{Bool, false, cond, _&&_, _||_}
 use lib.IntN.{pos}
 use lib.Ieee.{Float, binary64, ofBits, neg, add, sub, mul, div, lt, le, round, ofInt, toUnsigned}
+use Rattle.binary64.specs.Constants.{zero64, one64}
+use Rattle.binary64.specs.Functions.{absolute}
+use Rattle.binary64.specs.Units.{negative}
 use Rattle.elementary.specs.Root.{root}
 use Rattle.cells.specs.Arc.{arc, quarterTurn, halfTurn}
 
--- +0, 1, the largest magnitude 2^20, and the factors 2^64 and 2^-62, by their bits.
-abbrev pub +0 : Float
-+0 = ofBits binary64 0
-
-abbrev pub 1ᶠ : Float
-1ᶠ = ofBits binary64 0x3FF0000000000000
-
+-- The largest magnitude 2^20, and the factors 2^64 and 2^-62, by their bits.
 abbrev pub largest : Float
 largest = ofBits binary64 0x4130000000000000
 
@@ -31,19 +28,11 @@ pub constants-are :
 unfolding ofBits round
 constants-are = (refl, refl, refl)
 
--- The sign bit of x, without its bits: -0 has it, and so has what is below zero. (A NaN has none.)
-abbrev pub isNegative : Float → Bool
-isNegative x = cond (lt x +0) true (cond (lt +0 x) false (lt (div binary64 1ᶠ x) +0))
-
--- |x|
-abbrev pub magnitude : Float → Float
-magnitude x = cond (isNegative x) (neg x) x
-
 -- low / high in units of 2^-64, cut, and 2^64 - 1 where it rounds to 1
 unfoldable pub tangent : Float → Float → ℕ
 tangent low high =
     let q = div binary64 low high in
-    cond (lt q 1ᶠ) (toUnsigned 64 (mul binary64 q tangentScale)) (2 ^ 64 - 1)
+    cond (lt q one64) (toUnsigned 64 (mul binary64 q tangentScale)) (2 ^ 64 - 1)
 
 -- The angle of the point (x, y) with x and y not below zero: beyond the diagonal it is a quarter turn less that of the swapped point.
 unfoldable pub firstQuarter : Float → Float → ℕ
@@ -55,35 +44,35 @@ unfoldable pub upperHalf : Float → Float → Float → ℕ
 unfolding firstQuarter
 upperHalf x width height =
     let first = firstQuarter width height in
-    cond (isNegative x) (halfTurn - first) first
+    cond (negative x) (halfTurn - first) first
 
 -- Where atan2 is promised, by the magnitudes: up to 2^20, and not both zero. (No comparison with a NaN passes.)
 unfoldable pub inDomain : Float → Float → Bool
-inDomain width height = le width largest && le height largest && (lt +0 width || lt +0 height)
+inDomain width height = le width largest && le height largest && (lt zero64 width || lt zero64 height)
 
 -- The angle as a float, with the sign of y; +0 outside the domain.
 unfoldable pub atan2 : Float → Float → Float
 unfolding inDomain upperHalf
 atan2 y x =
-    let width = magnitude x in
-    let height = magnitude y in
+    let width = absolute x in
+    let height = absolute y in
     let t = mul binary64 (ofInt binary64 (pos (upperHalf x width height))) angleScale in
-    cond (inDomain width height) (cond (isNegative y) (neg t) t) +0
+    cond (inDomain width height) (cond (negative y) (neg t) t) zero64
 
 -- root((1-c)×(1+c)), each step rounded: the sine of the angle whose cosine is c, and the cosine of the one whose sine is c.
 unfoldable pub cofunction : Float → Float
 unfolding root
-cofunction c = root (mul binary64 (sub binary64 1ᶠ c) (add binary64 1ᶠ c))
+cofunction c = root (mul binary64 (sub binary64 one64 c) (add binary64 one64 c))
 
 -- -1 ≤ c ≤ 1
 abbrev pub inUnit : Float → Bool
-inUnit c = le (neg 1ᶠ) c && le c 1ᶠ
+inUnit c = le (neg one64) c && le c one64
 
 -- Document 01: "`acos(c)` is atan2(root((1-c)×(1+c)), c); `asin(c)` is atan2(c, root((1-c)×(1+c))). Both have the domain -1 to 1." +0 outside.
 unfoldable pub acos : Float → Float
 unfolding atan2 cofunction
-acos c = cond (inUnit c) (atan2 (cofunction c) c) +0
+acos c = cond (inUnit c) (atan2 (cofunction c) c) zero64
 
 unfoldable pub asin : Float → Float
 unfolding atan2 cofunction
-asin c = cond (inUnit c) (atan2 c (cofunction c)) +0
+asin c = cond (inUnit c) (atan2 c (cofunction c)) zero64

@@ -9,10 +9,10 @@ use lib.IntN.{pos, natAbs, _-ℤ_, _*ℤ_}
 use lib.Ieee.{Float, binary64, fits, ofBits, neg, round}
 use Rattle.binary64.specs.Units.{Finite, mag, negative, signedZero}
 use Rattle.binary64.specs.Magnitude.{Most}
-use Rattle.binary64.specs.Constants.{pi}
+use Rattle.binary64.specs.Constants.{zero64, pi}
 use Rattle.series.specs.Fraction.{Fraction, _⊹_, exact}
 use Rattle.series.specs.Taylor.{sin40, cos40}
-use Rattle.elementary.specs.Arctangent.{atan2, cofunction, acos, asin, +0}
+use Rattle.elementary.specs.Arctangent.{atan2, cofunction, acos, asin}
 
 -- ---- fractions (no denominator here is 0: proofs/arctangent/Fractions.antt)
 
@@ -75,7 +75,7 @@ withSign y t = cond (negative y) (neg t) t
 
 pub record Atan2Promise : Type 0 where
   pub angle : (y x : Float) → Domain y x → Angle y x (atan2 y x)
-  pub outside : (y x : Float) → T (fits binary64 y) → T (fits binary64 x) → (Domain y x → ⊥) → atan2 y x ≡ +0
+  pub outside : (y x : Float) → T (fits binary64 y) → T (fits binary64 x) → (Domain y x → ⊥) → atan2 y x ≡ zero64
   -- whatever a program hands it
   pub always : (y x : Float) → T (fits binary64 y) → T (fits binary64 x) → UpToPi (atan2 y x)
   -- IEEE 754's zeros, y's sign on each: atan2(±0, x) is ±0 for x above zero and ±PI for x below zero; atan2(y, ±0) is ±PI/2 for y not zero
@@ -89,7 +89,7 @@ pub record Atan2Promise : Type 0 where
 pub record InversePromise (f y x : Float → Float) : Type 0 where
   pub is : (c : Float) → Most 1 1074 c → f c ≡ atan2 (y c) (x c)
   pub angle : (c : Float) → Most 1 1074 c → Angle (y c) (x c) (f c)
-  pub outside : (c : Float) → T (fits binary64 c) → (Most 1 1074 c → ⊥) → f c ≡ +0
+  pub outside : (c : Float) → T (fits binary64 c) → (Most 1 1074 c → ⊥) → f c ≡ zero64
   pub always : (c : Float) → T (fits binary64 c) → UpToPi (f c)
 
 -- Document 01: "`acos(c)` is atan2(root((1-c)×(1+c)), c)"

@@ -3,8 +3,8 @@
 use Prim.Native.Nat.{ℕ, zero, suc, _+_, _-_, _*_, _/_, _^_}
 use mathlib.Core.Bool.{true, false, cond}
 use lib.Dec.{leb}
-use lib.IntN.{pos}
 use lib.Ieee.{Float, nan, inf, fin, binary64, size, add, mul}
+use Rattle.binary64.specs.Constants.{zero64}
 use Rattle.binary64.specs.Units.{mag, ofUnits}
 
 -- The whole part of the root of n, for n below 4 ^ k: twice that of n / 4, or one more.
@@ -23,17 +23,13 @@ unfoldable pub rootUnits : ℕ → ℕ
 unfolding nearestRoot size
 rootUnits n = let h = (size n - 1) / 2 in nearestRoot 53 (n * 2 ^ 104 / 4 ^ h) * 2 ^ (485 + h)
 
--- the zero without a sign
-abbrev pub +0 : Float
-+0 = fin false 0 (pos 0)
-
 -- The root of a float: the zeros are their own roots; what is no number, infinite or below zero has +0.
 unfoldable pub root : Float → Float
 unfolding rootUnits mag
-root nan = +0
-root (inf s) = +0
+root nan = zero64
+root (inf s) = zero64
 root (fin s zero e) = fin s zero e
-root (fin true (suc m) e) = +0
+root (fin true (suc m) e) = zero64
 root (fin false (suc m) e) = ofUnits false (rootUnits (mag (fin false (suc m) e)))
 
 -- Document 01: "`hypot(a,b)` is root(a×a + b×b), each step rounded."

@@ -4,9 +4,11 @@ use Prim.Native.Nat.{ℕ, _+_}
 use mathlib.Core.Bool.{Bool, false, cond}
 use lib.IntN.{pos}
 use lib.Ieee.{Float, binary64, ofBits, neg, mul, lt, le, ofInt, toUnsigned, unlike}
+use Rattle.binary64.specs.Constants.{zero64}
+use Rattle.binary64.specs.Functions.{absolute}
 use Rattle.series.specs.Kernel.{quarter, quarterSine, reduced, halfTurned}
 
--- The number 16, the factors 2^59 and 2^-61, and +0, by their bits.
+-- The number 16 and the factors 2^59 and 2^-61, by their bits.
 abbrev pub sixteen : Float
 sixteen = ofBits binary64 0x4030000000000000
 
@@ -16,16 +18,9 @@ angleScale = ofBits binary64 0x43A0000000000000
 abbrev pub sineScale : Float
 sineScale = ofBits binary64 0x3C20000000000000
 
-abbrev pub +0 : Float
-+0 = ofBits binary64 0
-
--- |v|: -v where v is below zero
-abbrev pub magnitude : Float → Float
-magnitude v = cond (lt v +0) (neg v) v
-
 -- |v| in units of 2^-59, cut
 abbrev pub angle : Float → ℕ
-angle v = toUnsigned 64 (mul binary64 (magnitude v) angleScale)
+angle v = toUnsigned 64 (mul binary64 (absolute v) angleScale)
 
 -- The sine of the angle w, negated or not, as a float: the whole number of units of 2^-61, rounded once.
 unfoldable pub fixedSine : Bool → ℕ → Float
@@ -36,9 +31,9 @@ fixedSine negative w =
 -- Sine: for |v| ≤ 16; +0 outside, and for a NaN.
 unfoldable pub sine : Float → Float
 unfolding fixedSine
-sine v = cond (le (magnitude v) sixteen) (fixedSine (lt v +0) (angle v)) +0
+sine v = cond (le (absolute v) sixteen) (fixedSine (lt v zero64) (angle v)) zero64
 
 -- Cosine: the sine a quarter turn on, whatever the sign of v.
 unfoldable pub cosine : Float → Float
 unfolding fixedSine
-cosine v = cond (le (magnitude v) sixteen) (fixedSine false (angle v + quarter)) +0
+cosine v = cond (le (absolute v) sixteen) (fixedSine false (angle v + quarter)) zero64

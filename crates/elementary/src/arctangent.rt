@@ -2,12 +2,10 @@
 // floats stand only at the two ends. The recipe is a definition (specs/Arctangent.antt, over the crate cells), and what it is worth a theorem
 // (specs/ArctangentPromise.antt).
 ghost use mathlib.Core.Path.{_≡_};
-ghost use Prim.Native.Nat.{_-_, _≤_};
-ghost use Rattle.series.specs.Kernel.{mulhi as upperHalfOf};
+ghost use Prim.Native.Nat.{_≤_};
 ghost use Rattle.series.specs.Kernel.{horner as hornerOf};
 ghost use Rattle.cells.specs.Arc.{arc as arcOf};
 ghost use Rattle.cells.specs.Arc.{firstArc, arcs, middleArc, laterArcs, quarterTurn};
-ghost use Rattle.elementary.specs.Arctangent.{isNegative, magnitude as magnitudeOf};
 ghost use Rattle.elementary.specs.Arctangent.{tangent as tangentOf};
 ghost use Rattle.elementary.specs.Arctangent.{firstQuarter, upperHalf, inDomain};
 ghost use Rattle.elementary.specs.Arctangent.{atan2 as atan2Of};
@@ -15,33 +13,12 @@ ghost use Rattle.elementary.specs.Arctangent.{cofunction as cofunctionOf
 ghost use Rattle.elementary.specs.ArctangentSteps.{Ordered, InQuarter};
 use crate::fixed::mulhi;
 use crate::fixed::step;
+use binary64::abs;
+use binary64::is_sign_negative;
 
 const QUARTER_TURN: u64 = 7244019458077122842;
 
 const HALF_TURN: u64 = 14488038916154245685;
-
-// The sign bit of x, without its bits, which a NaN has not: a zero is told by its inverse.
-fn is_negative(x: f64) -> bool
-    ensures { λ r. ⌜ r ≡ isNegative x ⌝ }
-{
-    if x < 0.0 {
-        return true;
-    }
-    if 0.0 < x {
-        return false;
-    }
-    1.0 / x < 0.0
-}
-
-// |x|
-fn magnitude(x: f64) -> f64
-    ensures { λ r. ⌜ r ≡ magnitudeOf x ⌝ }
-{
-    if is_negative(x) {
-        return -x;
-    }
-    x
-}
 
 // The alternating polynomial of the recipe at z, by Horner's rule: the later half of its coefficients.
 fn later_half(z: u64) -> u64
@@ -113,7 +90,7 @@ fn upper_half(x: f64, size: f64, y: f64) -> u64
     ensures { λ r. ⌜ r ≡ upperHalf x size y ⌝ }
 {
     let first = first_quarter(size, y);
-    if is_negative(x) {
+    if is_sign_negative(x) {
         return HALF_TURN - first;
     }
     first
@@ -139,11 +116,11 @@ fn in_domain(width: f64, height: f64) -> bool
 pub fn atan2(y: f64, x: f64) -> f64
     ensures { λ r. ⌜ r ≡ atan2Of y x ⌝ }
 {
-    let width = magnitude(x);
-    let height = magnitude(y);
+    let width = abs(x);
+    let height = abs(y);
     if in_domain(width, height) {
         let t = std::num::nearest_u64_to_f64(upper_half(x, width, height)) * 2.168404344971009e-19;
-        if is_negative(y) {
+        if is_sign_negative(y) {
             return -t;
         }
         return t;

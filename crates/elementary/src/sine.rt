@@ -9,11 +9,12 @@ ghost use Rattle.series.specs.Kernel.{horner as hornerOf};
 ghost use Rattle.series.specs.Kernel.{quarterSine, reduced as reducedOf, halfTurned};
 ghost use mathlib.Core.Bool.{true};
 ghost use lib.Ieee.{le};
+ghost use Rattle.binary64.specs.Functions.{absolute};
 ghost use Rattle.elementary.specs.Sine.{sine, cosine, fixedSine, sixteen};
-ghost use Rattle.elementary.specs.Sine.{magnitude as magnitudeOf};
 ghost use Rattle.elementary.specs.Sine.{angle as angleOf};
 use crate::fixed::mulhi;
 use crate::fixed::step;
+use binary64::abs;
 
 // A quarter turn in units of 2^-59.
 const QUARTER: u64 = 905502432259640355;
@@ -79,26 +80,19 @@ fn fixed_sine(negative: bool, w: u64) -> f64
     }
 }
 
-// |v|.
-fn magnitude(v: f64) -> f64
-    ensures { λ r. ⌜ r ≡ magnitudeOf v ⌝ }
-{
-    if v < 0.0 { -v } else { v }
-}
-
 // Whether v lies in the domain: |v| ≤ 16. A NaN does not.
 fn inside(v: f64) -> bool
-    ensures { λ r. ⌜ r ≡ le (magnitudeOf v) sixteen ⌝ }
+    ensures { λ r. ⌜ r ≡ le (absolute v) sixteen ⌝ }
 {
-    magnitude(v) <= 16.0
+    abs(v) <= 16.0
 }
 
 // |v| in units of 2^-59, cut.
 fn angle(v: f64) -> u64
-    requires { ⌜ le (magnitudeOf v) sixteen ≡ true ⌝ }
+    requires { ⌜ le (absolute v) sixteen ≡ true ⌝ }
     ensures { λ r. ⌜ (r ≡ angleOf v) × (r ≤ 9223372036854775808) ⌝ }
 {
-    std::num::truncating_f64_to_u64(magnitude(v) * 576460752303423488.0)
+    std::num::truncating_f64_to_u64(abs(v) * 576460752303423488.0)
 }
 
 // The sine of v; +0 outside the domain.

@@ -16,8 +16,8 @@ use Rattle.cells.proofs.Plain.{val}
 use Rattle.cells.proofs.Tests.{sine80, cosine80, unit80, tick}
 use Rattle.cells.proofs.Cell.{Slanted, slanted}
 use Rattle.cells.proofs.Turns.{sine-odd, cosine-even, sine-at-quarter, cosine-at-quarter, sine-at-half, cosine-at-half, cosine-near-one}
-use Rattle.binary64.specs.Units.{mag}
-use Rattle.elementary.specs.Arctangent.{tangent, firstQuarter, upperHalf, isNegative}
+use Rattle.binary64.specs.Units.{mag, negative}
+use Rattle.elementary.specs.Arctangent.{tangent, firstQuarter, upperHalf}
 use Rattle.elementary.specs.ArctangentSteps.{InQuarter, Ordered}
 use Rattle.elementary.proofs.arctangent.Slope.{below-diagonal, above-diagonal, tangent-small, tangent-above, tangent-below}
 use Rattle.elementary.proofs.arctangent.Good.{Good, good, swapped, mirrored, turned, moved, loosened}
@@ -151,9 +151,9 @@ room-left : 64 * unit80 ≤ (2 ^ 58 - 64) * unit80
 room-left = mul-le-mul-right unit80 (leb→le 64 (2 ^ 58 - 64) tt)
 
 -- in the upper half
-pub upper-aimed : (x : Float) {w h : Float} → InQuarter w h → Aimed (signed (isNegative x) (mag w)) (pos (mag h)) (pos (upperHalf x w h)) (1128 * unit80) (2 ^ 57 * unit80) × (upperHalf x w h ≤ halfTurn)
+pub upper-aimed : (x : Float) {w h : Float} → InQuarter w h → Aimed (signed (negative x) (mag w)) (pos (mag h)) (pos (upperHalf x w h)) (1128 * unit80) (2 ^ 57 * unit80) × (upperHalf x w h ≤ halfTurn)
 unfolding upperHalf
-upper-aimed x {w} {h} p = go (isNegative x)
+upper-aimed x {w} {h} p = go (negative x)
   where
     a : ℕ
     a = firstQuarter w h

@@ -17,18 +17,20 @@ use Rattle.series.proofs.Quarter.{dist-signed}
 use Rattle.series.proofs.Sums.{scale, sinFrom, cosFrom, sin79, cos79}
 use Rattle.binary64.specs.Units.{one, Finite, mag, negative}
 use Rattle.binary64.specs.Units.{signedZero}
-use Rattle.binary64.specs.Constants.{pi}
-use Rattle.binary64.proofs.Units.{pow2-split, one-pos, neg-mag, neg-sign, neg-finite}
+use Rattle.binary64.specs.Constants.{zero64, pi}
+use Rattle.binary64.specs.Functions.{absolute}
+use Rattle.binary64.proofs.Units.{pow2-split, one-pos, neg-mag, neg-sign, neg-finite, zero64-finite, zero64-mag}
+use Rattle.binary64.proofs.Functions.{absolute-mag}
 use Rattle.cells.specs.Arc.{arc, quarterTurn, halfTurn}
 use Rattle.cells.proofs.Plain.{val, value-units}
 use Rattle.cells.proofs.Tests.{sine80, cosine80, unit80, tick}
 use Rattle.cells.proofs.Turns.{length-sine, length-cosine, sine-follows, cosine-follows}
-use Rattle.elementary.specs.Arctangent.{atan2, isNegative, magnitude, inDomain, tangent, firstQuarter, upperHalf, +0}
+use Rattle.elementary.specs.Arctangent.{atan2, inDomain, tangent, firstQuarter, upperHalf}
 use Rattle.elementary.specs.ArctangentPromise.{Domain, UpToPi, Angle, halfPi, withSign, Atan2Promise}
 use Rattle.elementary.specs.ArctangentSteps.{InQuarter}
-use Rattle.elementary.proofs.arctangent.Domain.{+0-finite, +0-mag, isNegative-sign, magnitude-size, point, domain, inside}
+use Rattle.elementary.proofs.arctangent.Domain.{point, domain, inside}
 use Rattle.elementary.proofs.arctangent.Slope.{below-diagonal, above-diagonal, tangent-zero}
-use Rattle.elementary.proofs.arctangent.Exit.{grain, angleOf, angle-finite, angle-sign, angle-above, angle-below, angle-most, pi-mag}
+use Rattle.elementary.proofs.arctangent.Exit.{grain, angleOf, angle-made, angle-most, pi-units}
 use Rattle.elementary.proofs.arctangent.Good.{Good, scaled, moved, loosened}
 use Rattle.elementary.proofs.arctangent.Aimed.{Aimed, place-small, below-axis, upper-aimed}
 use Rattle.elementary.proofs.arctangent.Fractions.{exact-units, exact-proper, units, signed-times, signed-size, residual-fractions, ahead-fractions}
@@ -49,7 +51,7 @@ unfolding tick
 ticks = mul-assoc (2 ^ 538) (2 ^ 62) grain ∙ ap (λ (k : ℕ). 2 ^ 538 * k) (sym (pow2-split 62 1012))
 
 pi-small : mag pi ≤ 4 * one
-pi-small = le-trans (le-of-eq pi-mag) (le-trans (below grain) (le-of-eq (ap (λ (k : ℕ). 4 * k) (sym (pow2-split 62 1012)))))
+pi-small = le-trans (le-of-eq (pi-units .size)) (le-trans (below grain) (le-of-eq (ap (λ (k : ℕ). 4 * k) (sym (pow2-split 62 1012)))))
   where
     below : (g : ℕ) → 14488038916154245120 * g ≤ 4 * (2 ^ 62 * g)
     below g = omega arith
@@ -179,27 +181,26 @@ record Answer (s : Bool) (a : ℕ) (t : Float) : Type 0 where
   size : mag t ≡ mag (angleOf a)
 
 answer : (s : Bool) (a : ℕ) → a ≤ halfTurn → Answer s a (signedAngle s a)
-answer true a l = record { finite = neg-finite (angle-finite a l); sign = neg-sign (angle-finite a l) ∙ ap not (angle-sign a l); size = neg-mag (angleOf a) }
-answer false a l = record { finite = angle-finite a l; sign = angle-sign a l; size = refl }
+answer true a l = let m = angle-made a l in record { finite = neg-finite (m .most .finite); sign = neg-sign (m .most .finite) ∙ ap not (m .sign); size = neg-mag (angleOf a) }
+answer false a l = let m = angle-made a l in record { finite = m .most .finite; sign = m .sign; size = refl }
 
 -- inside the domain
-pub atan2-inside : {y x : Float} → Domain y x → atan2 y x ≡ signedAngle (negative y) (upperHalf x (magnitude x) (magnitude y))
+pub atan2-inside : {y x : Float} → Domain y x → atan2 y x ≡ signedAngle (negative y) (upperHalf x (absolute x) (absolute y))
 unfolding atan2
-atan2-inside {y} {x} g = ap₂ (λ (b s : Bool). cond b (signedAngle s (upperHalf x (magnitude x) (magnitude y))) +0) (inside g) (isNegative-sign (g .y-size .finite))
+atan2-inside {y} {x} g = ap (λ (b : Bool). cond b (signedAngle (negative y) (upperHalf x (absolute x) (absolute y))) zero64) (inside g)
 
 module _ {y x : Float} (g : Domain y x) where
   abbrev A : ℕ
-  A = upperHalf x (magnitude x) (magnitude y)
+  A = upperHalf x (absolute x) (absolute y)
 
-  upper : Aimed (signed (isNegative x) (mag (magnitude x))) (pos (mag (magnitude y))) (pos A) (1128 * unit80) (2 ^ 57 * unit80) × (A ≤ halfTurn)
+  upper : Aimed (signed (negative x) (mag (absolute x))) (pos (mag (absolute y))) (pos A) (1128 * unit80) (2 ^ 57 * unit80) × (A ≤ halfTurn)
   upper = upper-aimed x (point g)
 
   -- the point (x, |y|)
   above : Aimed (units x) (pos (mag y)) (pos A) (1128 * unit80) (2 ^ 57 * unit80)
   above =
       subst₂ (λ (p q : ℤ). Aimed p q (pos A) (1128 * unit80) (2 ^ 57 * unit80))
-      (ap₂ (λ (s : Bool) (k : ℕ). signed s k) (isNegative-sign (g .x-size .finite)) (magnitude-size (g .x-size .finite) .size))
-      (ap pos (magnitude-size (g .y-size .finite) .size)) (upper .0)
+      (ap (signed (negative x)) (absolute-mag x)) (ap pos (absolute-mag y)) (upper .0)
 
   aimed : Aimed (units x) (units y) (signed (negative y) A) (1128 * unit80) (2 ^ 57 * unit80)
   aimed = go (negative y)
@@ -227,33 +228,31 @@ module _ {y x : Float} (g : Domain y x) where
       close : dist (units t) (signed (negative y) A *ℤ pos grain) ≤ 2048 * grain
       close =
           subst₂ (λ (p q : ℤ). dist p q ≤ 2048 * grain) (sym (ap₂ (λ (s : Bool) (k : ℕ). signed s k) (there-is .sign) (there-is .size))) (sym (signed-times (negative y) A grain))
-          (dist-signed (negative y) (mag (angleOf A)) (A * grain) (2048 * grain) (angle-above A (upper .1)) (angle-below A (upper .1)))
+          (dist-signed (negative y) (mag (angleOf A)) (A * grain) (2048 * grain) (angle-made A (upper .1) .above) (angle-made A (upper .1) .below))
 
       sums : Good (units x) (units y) (pos ((2 ^ 600) ^ 80) *ℤ hval sin79 (exact t .num) (exact t .den)) (pos ((2 ^ 600) ^ 80) *ℤ hval cos79 (exact t .num) (exact t .den)) (exact t .den ^ 80 * (2 ^ 21 * unit80)) (exact t .den ^ 80 * (2 ^ 56 * unit80))
       sums = sums-good aimed (le-trans (le-of-eq (signed-size (negative y) A)) (upper .1)) (there-is .finite) most close
 
 -- ---- outside
 
-pub atan2-outside : {y x : Float} → T (fits binary64 y) → T (fits binary64 x) → (Domain y x → ⊥) → atan2 y x ≡ +0
+pub atan2-outside : {y x : Float} → T (fits binary64 y) → T (fits binary64 x) → (Domain y x → ⊥) → atan2 y x ≡ zero64
 unfolding atan2
-atan2-outside {y} {x} g f none = go (inDomain (magnitude x) (magnitude y)) refl
+atan2-outside {y} {x} g f none = go (inDomain (absolute x) (absolute y)) refl
   where
-    go : (b : Bool) → inDomain (magnitude x) (magnitude y) ≡ b → cond b (signedAngle (isNegative y) (upperHalf x (magnitude x) (magnitude y))) +0 ≡ +0
+    go : (b : Bool) → inDomain (absolute x) (absolute y) ≡ b → cond b (signedAngle (negative y) (upperHalf x (absolute x) (absolute y))) zero64 ≡ zero64
     go true t = absurd (none (domain g f t))
     go false t = refl
 
-pub +0-within : UpToPi +0
-+0-within = record { finite = +0-finite; most = le-trans (le-of-eq +0-mag) zero-le }
+pub zero-within : UpToPi zero64
+zero-within = record { finite = zero64-finite; most = le-trans (le-of-eq zero64-mag) zero-le }
 
 pub atan2-within : (y x : Float) → T (fits binary64 y) → T (fits binary64 x) → UpToPi (atan2 y x)
 unfolding atan2
-atan2-within y x g f = go (inDomain (magnitude x) (magnitude y)) refl
+atan2-within y x g f = go (inDomain (absolute x) (absolute y)) refl
   where
-    go : (b : Bool) → inDomain (magnitude x) (magnitude y) ≡ b → UpToPi (cond b (signedAngle (isNegative y) (upperHalf x (magnitude x) (magnitude y))) +0)
-    go true t =
-        let d = domain {y = y} {x = x} g f t in
-        subst (λ (s : Bool). UpToPi (signedAngle s (upperHalf x (magnitude x) (magnitude y)))) (sym (isNegative-sign (d .y-size .finite))) (angle-promise d .within)
-    go false t = +0-within
+    go : (b : Bool) → inDomain (absolute x) (absolute y) ≡ b → UpToPi (cond b (signedAngle (negative y) (upperHalf x (absolute x) (absolute y))) zero64)
+    go true t = angle-promise (domain {y = y} {x = x} g f t) .within
+    go false t = zero-within
 
 -- ---- zeros
 
@@ -308,19 +307,19 @@ steep {w} {h} p z = go (lt w h) refl
 
 module _ {y x : Float} (g : Domain y x) where
   first : ℕ
-  first = firstQuarter (magnitude x) (magnitude y)
+  first = firstQuarter (absolute x) (absolute y)
 
-  turned-by : {s : Bool} → negative x ≡ s → upperHalf x (magnitude x) (magnitude y) ≡ cond s (halfTurn - first) first
+  turned-by : {s : Bool} → negative x ≡ s → upperHalf x (absolute x) (absolute y) ≡ cond s (halfTurn - first) first
   unfolding upperHalf first
-  turned-by e = ap (λ (s : Bool). cond s (halfTurn - firstQuarter (magnitude x) (magnitude y)) (firstQuarter (magnitude x) (magnitude y))) (isNegative-sign (g .x-size .finite) ∙ e)
+  turned-by e = ap (λ (s : Bool). cond s (halfTurn - firstQuarter (absolute x) (absolute y)) (firstQuarter (absolute x) (absolute y))) e
 
   on-x-axis : mag y ≡ 0 → first ≡ 0
   unfolding first
-  on-x-axis z = flat (point g) (magnitude-size (g .y-size .finite) .size ∙ z)
+  on-x-axis z = flat (point g) (absolute-mag y ∙ z)
 
   on-y-axis : mag x ≡ 0 → first ≡ quarterTurn
   unfolding first
-  on-y-axis z = steep (point g) (magnitude-size (g .x-size .finite) .size ∙ z)
+  on-y-axis z = steep (point g) (absolute-mag x ∙ z)
 
   pub atan2-right : mag y ≡ 0 → negative x ≡ false → atan2 y x ≡ signedZero (negative y)
   atan2-right z s = atan2-inside g ∙ ap (signedAngle (negative y)) (turned-by s ∙ on-x-axis z) ∙ ap (λ (t : Float). cond (negative y) (neg t) t) angle-zero ∙ both (negative y)
@@ -335,7 +334,7 @@ module _ {y x : Float} (g : Domain y x) where
   pub atan2-upright : mag x ≡ 0 → atan2 y x ≡ withSign y halfPi
   atan2-upright z = atan2-inside g ∙ ap (λ (t : Float). cond (negative y) (neg t) t) (go (negative x) refl)
     where
-      go : (s : Bool) → negative x ≡ s → angleOf (upperHalf x (magnitude x) (magnitude y)) ≡ halfPi
+      go : (s : Bool) → negative x ≡ s → angleOf (upperHalf x (absolute x) (absolute y)) ≡ halfPi
       go true e = ap angleOf (turned-by e ∙ ap (λ (n : ℕ). halfTurn - n) (on-y-axis z)) ∙ angle-other-quarter
       go false e = ap angleOf (turned-by e ∙ on-y-axis z) ∙ angle-quarter-turn
 

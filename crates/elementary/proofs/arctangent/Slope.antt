@@ -1,62 +1,30 @@
 -- The tangent: the quotient of the coordinates is at most 1, scaling it by 2^64 is exact, and, cut, it is within 1025 × 2^-64 of the exact one.
 use mathlib.Core.Path.{_≡_, refl, sym, ap, ap₂, _∙_, subst}
 use mathlib.Core.Bool.{Bool, true, false, cond}
-use Prim.Native.Nat.{ℕ, zero, suc, _+_, _-_, _*_, _/_, _^_, _≤_, _<_, min}
-use native.Mathlib.Nat.{zero-mul, suc-mul, le-of-mul-le-mul-right, lt-of-mul-lt-mul-right, mul-div-mul-right, le-trans, le-of-eq, one-mul, mul-one, mul-assoc, mul-comm, mul-le-mul-right}
+use Prim.Native.Nat.{ℕ, zero, suc, _+_, _-_, _*_, _/_, _^_, _≤_, _<_}
+use native.Mathlib.Nat.{zero-mul, suc-mul, le-of-mul-le-mul-right, le-trans, le-of-eq, one-mul, mul-one, mul-comm, mul-le-mul-right}
 use native.Mathlib.Omega.{arith}
-use lib.Dec.{T, leb→le}
-use lib.Ieee.Fits.{down-pos}
+use lib.Dec.{T, leb→le, lit≤}
 use lib.IntN.{pos}
-use lib.Pow.{pow-add}
-use lib.Ieee.{Float, nan, inf, fin, binary64, fits, ofBits, up, down, mul, div, lt, toUnsigned, unlike}
-use Rattle.binary64.specs.Units.{pow2, one, Finite, mag, negative, plus, minus, Digits53}
+use lib.Ieee.{Float, fin, binary64, fits, ofBits, mul, div, lt, toUnsigned, unlike}
+use Rattle.binary64.specs.Units.{pow2, one, mag, negative, plus, minus}
+use Rattle.binary64.specs.Constants.{one64}
 use Rattle.binary64.specs.Magnitude.{Most}
 use Rattle.binary64.specs.Rounding.{rnd}
-use Rattle.binary64.proofs.Units.{pow2-is, pow2-split, one-pos, mag-exact, mag-digits, plus-is, lt-of-units, units-of-lt, units-of-not-lt}
-use Rattle.binary64.proofs.Rounding.{rnd-exact, rnd-near, rnd-zero}
-use Rattle.binary64.proofs.Operations.{mul-mag, mul-sign, div-mag, div-sign}
-use Rattle.binary64.proofs.Magnitude.{mul-most, div-most}
+use Rattle.binary64.proofs.Units.{pow2-is, pow2-split, one-pos, plus-is, units-of-lt, units-of-not-lt}
+use Rattle.binary64.proofs.Constants.{one64-mag, one64-sign, one64-most}
+use Rattle.binary64.proofs.Rounding.{rnd-near, rnd-zero}
+use Rattle.binary64.proofs.Operations.{div-mag, div-sign}
+use Rattle.binary64.proofs.Magnitude.{div-most}
 use Rattle.series.proofs.Alternating.{quotient-above, quotient-below}
-use Rattle.elementary.specs.Arctangent.{tangent, 1ᶠ, tangentScale}
+use Rattle.elementary.specs.Arctangent.{tangent, tangentScale}
 use Rattle.elementary.specs.ArctangentSteps.{InQuarter, Ordered}
+use Rattle.elementary.proofs.fixed.Literal.{Literal}
+use Rattle.elementary.proofs.fixed.Entry as fixed
 
--- ---- the constants
-
-pub 1-finite : Finite 1ᶠ
-unfolding ofBits fits
-1-finite = record { fit = tt; number = tt }
-
-pub 1-mag : mag 1ᶠ ≡ one
-unfolding ofBits mag pow2
-1-mag = refl
-
-pub 1-sign : negative 1ᶠ ≡ false
-unfolding ofBits
-1-sign = refl
-
-scale-finite : Finite tangentScale
-unfolding ofBits fits
-scale-finite = record { fit = tt; number = tt }
-
-scale-mag : mag tangentScale ≡ pow2 1138
-unfolding ofBits mag pow2
-scale-mag = refl
-
-scale-sign : negative tangentScale ≡ false
-unfolding ofBits
-scale-sign = refl
-
-scale-is : tangentScale ≡ fin false 1 (pos 64)
-unfolding ofBits
-scale-is = refl
-
-minus-one-finite : Finite (fin true 1 (pos 0))
-unfolding fits
-minus-one-finite = record { fit = tt; number = tt }
-
-minus-one-parts : (plus (fin true 1 (pos 0)) ≡ 0) × (0 < minus (fin true 1 (pos 0)))
-unfolding plus minus mag pow2
-minus-one-parts = (refl, leb→le 1 (2 ^ 1074) tt)
+scale : Literal (pow2 1138) tangentScale
+unfolding ofBits fits mag pow2
+scale = record { finite = record { fit = tt; number = tt }; sign = refl; size = refl }
 
 -- ---- the smaller coordinate over the larger
 
@@ -74,23 +42,6 @@ above-diagonal {x} {y} p t = record { point = record { x-finite = p .y-finite; y
 
     less : (a b c d m n : ℕ) → (a ≡ m) × (b ≡ 0) → (c ≡ n) × (d ≡ 0) → c + b ≤ a + d → n ≤ m
     less a b c d m n p q h = omega arith
-
--- a float without the sign bit, cut to a whole number
-cut-units : {m : Float} → Finite m → negative m ≡ false → mag m / one < 2 ^ 64 → toUnsigned 64 m ≡ mag m / one
-unfolding toUnsigned
-cut-units {m = nan} f s l = absurd (f .number)
-cut-units {m = inf s} f t l = absurd (f .number)
-cut-units {m = fin true n e} f s l = absurd (subst T s tt)
-cut-units {m = fin false n e} f s l = ap (λ (k : ℕ). min k (2 ^ 64 - 1)) whole ∙ least (mag (fin false n e) / one) l
-  where
-    whole : n * up e / down e ≡ mag (fin false n e) / one
-    whole =
-        sym (mul-div-mul-right (n * up e) (down e) one-pos)
-        ∙ ap₂ (λ (a b : ℕ). a / b) (sym (mag-exact false n e (f .fit))) (mul-comm (down e) one)
-        ∙ mul-div-mul-right (mag (fin false n e)) one (down-pos e)
-
-    least : (k : ℕ) → k < 2 ^ 64 → min k (2 ^ 64 - 1) ≡ k
-    least k l = omega arith
 
 module _ {low high : Float} (o : Ordered low high) where
   abbrev q : Float
@@ -122,46 +73,37 @@ module _ {low high : Float} (o : Ordered low high) where
   abbrev scaled : Float
   scaled = mul binary64 q tangentScale
 
-  scaled-most : Most 1 1138 scaled
-  scaled-most = mul-most quotient-most (record { finite = scale-finite; bound = le-of-eq (scale-mag ∙ sym (one-mul (pow2 1138))) }) 1138 refl (leb→le 1 (2 ^ 53) tt) (leb→le 1138 2044 tt)
-
-  scaled-sign : negative scaled ≡ false
-  scaled-sign = mul-sign (quotient-most .finite) scale-finite (scaled-most .finite) ∙ ap₂ unlike quotient-sign scale-sign
-
-  -- the factor 2^64 changes the exponent alone
-  scaled-mag : mag scaled ≡ mag q * 2 ^ 64
-  scaled-mag =
-      mul-mag (quotient-most .finite) scale-finite (scaled-most .finite)
-      ∙ ap (λ (k : ℕ). rnd k one) (ap (λ (k : ℕ). mag q * k) (scale-mag ∙ pow2-split 64 1074) ∙ sym (mul-assoc (mag q) (2 ^ 64) one))
-      ∙ rnd-exact (mag q * 2 ^ 64) one one-pos (more (mag-digits (quotient-most .finite)))
-    where
-      more : Digits53 (mag q) → Digits53 (mag q * 2 ^ 64)
-      more d = record { digits = d .digits; zeros = d .zeros + 64; few = d .few; is = ap (λ (k : ℕ). k * 2 ^ 64) (d .is) ∙ mul-assoc (d .digits) (2 ^ d .zeros) (2 ^ 64) ∙ ap (λ (k : ℕ). d .digits * k) (sym (pow-add 2 (d .zeros) 64)) }
-
-  below-one : lt q 1ᶠ ≡ true → mag q < one
-  below-one t = less (plus q) (minus q) (mag q) (plus 1ᶠ) (minus 1ᶠ) one (plus-is q quotient-sign) (plus-is 1ᶠ 1-sign .0 ∙ 1-mag) (plus-is 1ᶠ 1-sign .1) (units-of-lt (quotient-most .finite) 1-finite t)
+  below-one : lt q one64 ≡ true → mag q < one
+  below-one t = less (plus q) (minus q) (mag q) (plus one64) (minus one64) one (plus-is q quotient-sign) (plus-is one64 one64-sign .0 ∙ one64-mag) (plus-is one64 one64-sign .1) (units-of-lt (quotient-most .finite) (one64-most .finite) t)
     where
       less : (p n m a b u : ℕ) → (p ≡ m) × (n ≡ 0) → a ≡ u → b ≡ 0 → p + b < a + n → m < u
       less p n m a b u h c d k = omega arith
 
-  from-one : lt q 1ᶠ ≡ false → one ≤ mag q
-  from-one t = more (plus q) (minus q) (mag q) (plus 1ᶠ) (minus 1ᶠ) one (plus-is q quotient-sign) (plus-is 1ᶠ 1-sign .0 ∙ 1-mag) (plus-is 1ᶠ 1-sign .1) (units-of-not-lt (quotient-most .finite) 1-finite t)
+  from-one : lt q one64 ≡ false → one ≤ mag q
+  from-one t = more (plus q) (minus q) (mag q) (plus one64) (minus one64) one (plus-is q quotient-sign) (plus-is one64 one64-sign .0 ∙ one64-mag) (plus-is one64 one64-sign .1) (units-of-not-lt (quotient-most .finite) (one64-most .finite) t)
     where
       more : (p n m a b u : ℕ) → (p ≡ m) × (n ≡ 0) → a ≡ u → b ≡ 0 → a + n ≤ p + b → u ≤ m
       more p n m a b u h c d k = omega arith
 
   -- the scaled quotient can be cut to 64 bits
   pub above-minus-one : T (lt (fin true 1 (pos 0)) scaled)
-  above-minus-one = subst T (sym (lt-of-units minus-one-finite (scaled-most .finite) (less (plus (fin true 1 (pos 0))) (minus (fin true 1 (pos 0))) (plus scaled) (minus scaled) minus-one-parts (plus-is scaled scaled-sign .1)))) tt
-    where
-      less : (a b p n : ℕ) → (a ≡ 0) × (0 < b) → n ≡ 0 → a + n < p + b
-      less a b p n h k = omega arith
+  above-minus-one = fixed.above-minus-one 64 quotient-most quotient-sign scale (lit≤ tt) (lit≤ tt)
 
-  pub below-top : lt q 1ᶠ ≡ true → T (lt scaled (fin false 1 (pos 64)))
-  below-top t = subst T (sym (ap (λ (z : Float). lt scaled z) (sym scale-is) ∙ lt-of-units (scaled-most .finite) scale-finite (less (plus scaled) (minus scaled) (mag q) (plus tangentScale) (minus tangentScale) one (plus-is scaled scaled-sign .0 ∙ scaled-mag) (plus-is scaled scaled-sign .1) (plus-is tangentScale scale-sign .0 ∙ scale-mag ∙ pow2-split 64 1074) (plus-is tangentScale scale-sign .1) (below-one t)))) tt
-    where
-      less : (p n m a b u : ℕ) → p ≡ m * 2 ^ 64 → n ≡ 0 → a ≡ 2 ^ 64 * u → b ≡ 0 → m < u → p + b < a + n
-      less p n m a b u c d e f h = omega arith
+  module _ (t : lt q one64 ≡ true) where
+    scaled-small : mag q * 2 ^ 64 < 2 ^ 64 * one
+    scaled-small = less (mag q) one (below-one t)
+      where
+        less : (m u : ℕ) → m < u → m * 2 ^ 64 < 2 ^ 64 * u
+        less m u h = omega arith
+
+    pub below-top : T (lt scaled (fin false 1 (pos 64)))
+    below-top = fixed.below-2^64 64 quotient-most quotient-sign scale (lit≤ tt) (lit≤ tt) scaled-small
+
+    tangent-below-one : toUnsigned 64 scaled ≡ mag q * 2 ^ 64 / one
+    tangent-below-one = fixed.cut-is 64 quotient-most quotient-sign scale (lit≤ tt) (lit≤ tt) scaled-small
+
+    small-below-one : mag q * 2 ^ 64 / one < 2 ^ 64
+    small-below-one = fixed.cut-small 64 quotient-most quotient-sign scale (lit≤ tt) (lit≤ tt) scaled-small
 
   -- ---- the tangent against the coordinates
 
@@ -171,21 +113,8 @@ module _ {low high : Float} (o : Ordered low high) where
     low-end : n * one ≤ mag q * 2 ^ 64
     high-end : mag q * 2 ^ 64 ≤ n * one + one
 
-  cut-below : mag q < one → Cut (mag q * 2 ^ 64 / one)
-  cut-below l = record {
-    small = under (mag q * 2 ^ 64 / one) one (quotient-above (mag q * 2 ^ 64) one) (more (mag q) one l);
-    low-end = quotient-above (mag q * 2 ^ 64) one;
-    high-end = quotient-below (mag q * 2 ^ 64) one one-pos;
-  }
-    where
-      more : (m u : ℕ) → m < u → m * 2 ^ 64 + 1 ≤ 2 ^ 64 * u
-      more m u h = omega arith
-
-      under : (n u : ℕ) {p : ℕ} → n * u ≤ p → p + 1 ≤ 2 ^ 64 * u → n < 2 ^ 64
-      under n u {p} h k = lt-of-mul-lt-mul-right u (chain (n * u) p h k)
-        where
-          chain : (a p : ℕ) → a ≤ p → p + 1 ≤ 2 ^ 64 * u → a < 2 ^ 64 * u
-          chain a p h k = omega arith
+  cut-below : lt q one64 ≡ true → Cut (mag q * 2 ^ 64 / one)
+  cut-below t = record { small = small-below-one t; low-end = quotient-above (mag q * 2 ^ 64) one; high-end = quotient-below (mag q * 2 ^ 64) one one-pos }
 
   cut-top : one ≤ mag q → Cut (2 ^ 64 - 1)
   cut-top l = record { small = leb→le (2 ^ 64) (2 ^ 64) tt; low-end = at (mag q) one l; high-end = up-to (mag q) one quotient-one }
@@ -198,10 +127,10 @@ module _ {low high : Float} (o : Ordered low high) where
 
   tangent-cut : Cut (tangent low high)
   unfolding tangent
-  tangent-cut = go (lt q 1ᶠ) refl
+  tangent-cut = go (lt q one64) refl
     where
-      go : (b : Bool) → lt q 1ᶠ ≡ b → Cut (cond b (toUnsigned 64 scaled) (2 ^ 64 - 1))
-      go true t = subst Cut (sym (cut-units (scaled-most .finite) scaled-sign (subst (λ (m : ℕ). m / one < 2 ^ 64) (sym scaled-mag) (cut-below (below-one t) .small)) ∙ ap (λ (m : ℕ). m / one) scaled-mag)) (cut-below (below-one t))
+      go : (b : Bool) → lt q one64 ≡ b → Cut (cond b (toUnsigned 64 scaled) (2 ^ 64 - 1))
+      go true t = subst Cut (sym (tangent-below-one t)) (cut-below t)
       go false t = cut-top (from-one t)
 
   pub tangent-small : tangent low high < 2 ^ 64

@@ -12,7 +12,9 @@ use lib.Ieee.Bits.{ofBits-toBits, nanBits-above, is-true}
 use lib.Ieee.Fits.{up-pos, and-l, eq→eqb}
 use lib.Ieee.Scale.{finite}
 use Rattle.binary64.specs.Units.{one, mag, negative, ofUnits, Finite}
+use Rattle.binary64.specs.Constants.{zero64}
 use Rattle.binary64.proofs.Patterns.{pattern-finite, pattern-sign}
+use Rattle.binary64.proofs.Functions.{above-sign}
 use Rattle.elementary.specs.Root.{root, rootUnits}
 
 -- a test that passes
@@ -42,27 +44,16 @@ root-positive {x = fin false (suc m) e} f s p = refl
 pub number-bits : (b : ℕ) → b < 2047 * 2 ^ 52 → T (not (nanBits binary64 b))
 number-bits b h = subst (λ (t : Bool). T (not t)) (sym (nanBits-above binary64 b)) (le→nltb (2047 * 2 ^ 52) (b % 2 ^ 63) (omega arith))
 
-pub above-number : (x : Float) → lt (ofBits binary64 0) x ≡ true → T (not (isNan x))
-unfolding lt isNan ofBits
-above-number nan h = absurd (false≢true h)
-above-number (inf s) h = tt
-above-number (fin s m e) h = tt
+pub above-number : (x : Float) → lt zero64 x ≡ true → T (not (isNan x))
+above-number x h = fails (above-sign x h .1)
 
-above-sign : (x : Float) → lt (ofBits binary64 0) x ≡ true → negative x ≡ false
-unfolding lt ofBits
-above-sign nan h = refl
-above-sign (inf true) h = absurd (false≢true h)
-above-sign (inf false) h = refl
-above-sign (fin true m e) h = absurd (false≢true h)
-above-sign (fin false m e) h = refl
-
-zero-not-above : lt (ofBits binary64 0) (ofBits binary64 0) ≡ false
+zero-not-above : lt zero64 zero64 ≡ false
 unfolding lt ofBits
 zero-not-above = refl
 
 -- what is not finite has the root +0
-not-finite : (x : Float) → finite x ≡ false → ofBits binary64 0 ≡ root x
-unfolding root ofBits
+not-finite : (x : Float) → finite x ≡ false → zero64 ≡ root x
+unfolding root
 not-finite nan h = refl
 not-finite (inf s) h = refl
 not-finite (fin s m e) h = absurd (true≢false h)
@@ -70,7 +61,7 @@ not-finite (fin s m e) h = absurd (true≢false h)
 eqb-is : {a b : ℕ} → a ≡ b → eqb a b ≡ true
 eqb-is {a} {b} e = is-true (eqb a b) (eq→eqb e)
 
-module _ (x : Float) (f : T (fits binary64 x)) (h : lt (ofBits binary64 0) x ≡ true) where
+module _ (x : Float) (f : T (fits binary64 x)) (h : lt zero64 x ≡ true) where
   again : ofBits binary64 (toBits binary64 x) ≡ x
   again = ofBits-toBits binary64 x f
 
@@ -78,16 +69,16 @@ module _ (x : Float) (f : T (fits binary64 x)) (h : lt (ofBits binary64 0) x ≡
   above-bits = go (toBits binary64 x) again
     where
       go : (b : ℕ) → ofBits binary64 b ≡ x → 0 < b
-      go zero e = absurd (false≢true (sym zero-not-above ∙ ap (λ (y : Float). lt (ofBits binary64 0) y) e ∙ h))
+      go zero e = absurd (false≢true (sym zero-not-above ∙ ap (λ (y : Float). lt zero64 y) e ∙ h))
       go (suc b) e = omega arith
 
   below-sign : toBits binary64 x < 2 ^ 63
   below-sign =
       nleb→lt (2 ^ 63) (toBits binary64 x)
-      (fails (sym (pattern-sign (toBits binary64 x) (subst (λ (y : Float). T (not (isNan y))) (sym again) (above-number x h))) ∙ ap negative again ∙ above-sign x h))
+      (fails (sym (pattern-sign (toBits binary64 x) (subst (λ (y : Float). T (not (isNan y))) (sym again) (above-number x h))) ∙ ap negative again ∙ above-sign x h .0))
 
   -- bits from the infinity's on are no finite number's
-  pub root-infinite : 2047 * 2 ^ 52 ≤ toBits binary64 x → ofBits binary64 0 ≡ root x
+  pub root-infinite : 2047 * 2 ^ 52 ≤ toBits binary64 x → zero64 ≡ root x
   root-infinite l =
       not-finite x (ap finite (sym again) ∙ pattern-finite (toBits binary64 x) ∙ ap not (eqb-is (ones (toBits binary64 x) l below-sign)))
     where
@@ -97,7 +88,7 @@ module _ (x : Float) (f : T (fits binary64 x)) (h : lt (ofBits binary64 0) x ≡
 -- ---- not above zero
 
 -- a zero is its own root
-pub root-zero : (x : Float) → eq x (ofBits binary64 0) ≡ true → x ≡ root x
+pub root-zero : (x : Float) → eq x zero64 ≡ true → x ≡ root x
 unfolding eq root ofBits
 root-zero nan h = absurd (false≢true h)
 root-zero (inf s) h = absurd (false≢true h)
@@ -108,7 +99,7 @@ root-zero (fin s (suc m) e) h = absurd (none m e (eqb→eq (suc m * up e * 1) (0
     none m e g = lt-irrefl 0 (subst (λ (n : ℕ). 0 < n) (sym (mul-one (suc m * up e)) ∙ g ∙ zero-mul (down e)) (mul-pos (zero-lt-suc m) (up-pos e)))
 
 -- what is neither above zero nor a zero has the root +0
-pub root-other : (x : Float) → lt (ofBits binary64 0) x ≡ false → eq x (ofBits binary64 0) ≡ false → ofBits binary64 0 ≡ root x
+pub root-other : (x : Float) → lt zero64 x ≡ false → eq x zero64 ≡ false → zero64 ≡ root x
 unfolding lt eq root ofBits
 root-other nan h k = refl
 root-other (inf s) h k = refl

@@ -5,13 +5,14 @@ use Prim.Native.Nat.{ℕ, zero, suc, _+_, _*_, _≤_, _<_}
 use native.Mathlib.Nat.{zero-mul, zero-add}
 use native.Mathlib.Omega.{arith}
 use lib.Dec.{T, ltb, ltb→lt}
-use lib.Ieee.{Float, nan, inf, fin, binary64, up, down, fits, lt}
-use Rattle.binary64.specs.Units.{pow2, one, mag, negative, plus, minus, Finite}
-use Rattle.binary64.proofs.Units.{mag-digits, plus-is, minus-is, units-of-lt, not-lt-of-units, same-float}
-use Rattle.elementary.specs.Root.{root, +0}
+use lib.Ieee.{Float, nan, inf, fin, binary64, up, down, fits, ofBits, lt}
+use Rattle.binary64.specs.Units.{one, mag, negative, plus, minus, Finite}
+use Rattle.binary64.specs.Constants.{zero64}
+use Rattle.binary64.proofs.Units.{mag-digits, plus-is, plus-sign, not-lt-of-units, same-float, zero64-finite, zero64-plus, above-zero}
+use Rattle.elementary.specs.Root.{root}
 use Rattle.elementary.specs.RootPromise.{Nearest, RootPromise}
 use Rattle.elementary.proofs.root.Neighbours.{neighbour-above, neighbour-below}
-use Rattle.elementary.proofs.root.Values.{positive-mag, positive-sign, positive-finite, zero-finite, root-finite, root-minus}
+use Rattle.elementary.proofs.root.Values.{positive-mag, positive-sign, positive-finite, root-finite, root-minus}
 
 module _ {x : Float} (f : Finite x) (s : negative x ≡ false) (p : 0 < mag x) where
   positive-nearest : Nearest x (root x)
@@ -40,19 +41,11 @@ nearest-only {x} {r} {t} a b =
 
 -- ---- the cases
 
-plus-zero : plus +0 + minus +0 ≡ 0
-unfolding plus minus mag pow2
-plus-zero = refl
-
-above-zero : {x : Float} → Finite x → lt +0 x ≡ true → (negative x ≡ false) × (0 < mag x)
-above-zero {x} f h = go (negative x) refl (units-of-lt zero-finite f h) plus-zero
-  where
-    go : (s : Bool) → negative x ≡ s → plus +0 + minus x < plus x + minus +0 → plus +0 + minus +0 ≡ 0 → (negative x ≡ false) × (0 < mag x)
-    go false e l z = let k = plus-is x e in (e, omega arith)
-    go true e l z = let k = minus-is x e in absurd (none (plus +0) (minus +0) (plus x) (minus x) l z (k .0))
-      where
-        none : (a b c d : ℕ) → a + d < c + b → a + b ≡ 0 → c ≡ 0 → ⊥
-        none a b c d l z k = omega arith
+positive : {x : Float} → Finite x → lt zero64 x ≡ true → (negative x ≡ false) × (0 < mag x)
+positive {x} f h =
+    let p = above-zero f h .0 in
+    let s = plus-sign x p in
+    (s, subst (λ (k : ℕ). 0 < k) (plus-is x s .0) p)
 
 -- nothing is below 0 times a number
 not-below : (a c : ℕ) → ltb a (0 * c) ≡ true → ⊥
@@ -67,26 +60,26 @@ no-sum a b h = none (0 * a * 1 + 0 * b) (simp (zero-mul, zero-add)) (ltb→lt 0 
     none : (a : ℕ) → a ≡ 0 → 0 < a → ⊥
     none a e l = omega arith
 
-below-zero : (x : Float) → lt x +0 ≡ true → root x ≡ +0
-unfolding lt root
+below-zero : (x : Float) → lt x zero64 ≡ true → root x ≡ zero64
+unfolding lt root ofBits
 below-zero nan h = refl
 below-zero (inf s) h = refl
 below-zero (fin true zero e) h = absurd (no-sum (up e) (down e) h)
 below-zero (fin true (suc m) e) h = refl
 below-zero (fin false m e) h = absurd (not-below (m * up e * 1) (down e) h)
 
-not-below-zero : (x : Float) → T (fits binary64 x) → lt (root x) +0 ≡ false
-not-below-zero x f = not-lt-of-units (root-finite x f) zero-finite (least (plus +0) (minus +0) (minus (root x)) (plus (root x)) plus-zero (root-minus x f))
+not-below-zero : (x : Float) → T (fits binary64 x) → lt (root x) zero64 ≡ false
+not-below-zero x f = not-lt-of-units (root-finite x f) zero64-finite (least (plus zero64) (minus zero64) (minus (root x)) (plus (root x)) zero64-plus (root-minus x f))
   where
-    least : (a b c d : ℕ) → a + b ≡ 0 → c ≡ 0 → a + c ≤ d + b
+    least : (a b c d : ℕ) → a ≡ 0 → c ≡ 0 → a + c ≤ d + b
     least a b c d z e = omega arith
 
 -- Document 01's sentences on the root hold.
 pub root-promise : RootPromise
 unfolding root
 root-promise = record {
-  nearest = λ x f h. let a = above-zero f h in positive-nearest f (a .0) (a .1);
-  only = λ x r f h n. let a = above-zero f h in nearest-only n (positive-nearest f (a .0) (a .1));
+  nearest = λ x f h. let a = positive f h in positive-nearest f (a .0) (a .1);
+  only = λ x r f h n. let a = positive f h in nearest-only n (positive-nearest f (a .0) (a .1));
   zeros = λ s. refl;
   negatives = below-zero;
   no-number = refl;

@@ -12,8 +12,8 @@ use lib.Ieee.Digits.{size-le}
 use lib.Ieee.Fits.{up-pos}
 use lib.Ieee.Positive.{first-pos}
 use Rattle.binary64.specs.Units.{limit, mag, negative, minus, Finite, Digits53}
-use Rattle.binary64.proofs.Units.{limit-pow, one-pos, mag-exact, mag-digits, mag-limit, ofUnits-mag, ofUnits-sign, ofUnits-finite, below-limit, plus-is, minus-is}
-use Rattle.elementary.specs.Root.{root, rootUnits, +0}
+use Rattle.binary64.proofs.Units.{limit-pow, one-pos, mag-exact, mag-digits, mag-limit, ofUnits-mag, ofUnits-sign, ofUnits-finite, below-limit, plus-is, minus-is, zero64-finite, zero64-minus, zero64-sign}
+use Rattle.elementary.specs.Root.{root, rootUnits}
 use Rattle.elementary.proofs.root.Cases.{root-positive, zero-units}
 use Rattle.elementary.proofs.root.Neighbours.{root-digits, rootUnits-zero, by-zero}
 use Rattle.elementary.proofs.root.Scale.{scaled}
@@ -46,10 +46,6 @@ module _ {x : Float} (f : Finite x) (s : negative x ≡ false) (p : 0 < mag x) w
 
 -- ---- finite, and not below zero
 
-pub zero-finite : Finite +0
-unfolding fits
-zero-finite = record { fit = tt; number = tt }
-
 some-units : (s : Bool) (m : ℕ) (e : ℤ) → T (fits binary64 (fin s (suc m) e)) → 0 < mag (fin s (suc m) e)
 some-units s m e f =
     first-pos (mag (fin s (suc m) e)) (down e) (subst (λ (n : ℕ). 0 < n) (sym (mag-exact s (suc m) e f)) (mul-pos (mul-pos (zero-lt-suc m) (up-pos e)) one-pos))
@@ -57,29 +53,29 @@ some-units s m e f =
 -- The root of whatever a program holds is finite,
 pub root-finite : (x : Float) → T (fits binary64 x) → Finite (root x)
 unfolding root
-root-finite nan f = zero-finite
-root-finite (inf s) f = zero-finite
+root-finite nan f = zero64-finite
+root-finite (inf s) f = zero64-finite
 root-finite (fin s zero e) f = record { fit = f; number = tt }
-root-finite (fin true (suc m) e) f = zero-finite
+root-finite (fin true (suc m) e) f = zero64-finite
 root-finite (fin false (suc m) e) f = positive-finite (record { fit = f; number = tt }) refl (some-units false m e f)
 
 -- and not below zero.
 pub root-minus : (x : Float) → T (fits binary64 x) → minus (root x) ≡ 0
 unfolding root minus
-root-minus nan f = refl
-root-minus (inf s) f = refl
+root-minus nan f = zero64-minus
+root-minus (inf s) f = zero64-minus
 root-minus (fin true zero e) f = zero-units true e
 root-minus (fin false zero e) f = refl
-root-minus (fin true (suc m) e) f = refl
+root-minus (fin true (suc m) e) f = zero64-minus
 root-minus (fin false (suc m) e) f = plus-is (root (fin false (suc m) e)) (positive-sign (record { fit = f; number = tt }) refl (some-units false m e f)) .1
 
 -- The root of a number without a sign has none.
 pub root-sign : (x : Float) → T (fits binary64 x) → negative x ≡ false → negative (root x) ≡ false
 unfolding root
-root-sign nan f h = refl
-root-sign (inf s) f h = refl
+root-sign nan f h = zero64-sign
+root-sign (inf s) f h = zero64-sign
 root-sign (fin s zero e) f h = h
-root-sign (fin true (suc m) e) f h = refl
+root-sign (fin true (suc m) e) f h = zero64-sign
 root-sign (fin false (suc m) e) f h = positive-sign (record { fit = f; number = tt }) refl (some-units false m e f)
 
 -- ---- in units

@@ -7,8 +7,10 @@ use native.Mathlib.Omega.{arith}
 use lib.IntN.{pos}
 use lib.Ieee.{Float, binary64, neg, mul, lt, le, ofInt, unlike}
 use lib.Dec.{eqb, eqb·suc-zero, leb→le}
+use Rattle.binary64.specs.Constants.{zero64}
+use Rattle.binary64.specs.Functions.{absolute}
 use Rattle.series.specs.Kernel.{quarter, mulhi, horner, firstCoefficient, coefficients, rawSine, quarterSine, reduced, halfTurned}
-use Rattle.elementary.specs.Sine.{fixedSine, sineScale, sixteen, +0, magnitude, angle, sine, cosine}
+use Rattle.elementary.specs.Sine.{fixedSine, sineScale, sixteen, angle, sine, cosine}
 
 -- the arms of `if k == 0`
 zero-arm : {A : Type 0} (k : ℕ) (a b : A) → k ≡ 0 → a ≡ cond (eqb k 0) a b
@@ -64,18 +66,18 @@ fixed-is negative turned w n q x is-turned is-reduced is-sine is-float t e =
     (sym e ∙ ap (unlike negative) is-turned)
 
 -- the two arms of sine and of cosine: inside the domain and outside
-pub sine-inside : (v : Float) → le (magnitude v) sixteen ≡ true → sine v ≡ fixedSine (lt v +0) (angle v)
+pub sine-inside : (v : Float) → le (absolute v) sixteen ≡ true → sine v ≡ fixedSine (lt v zero64) (angle v)
 unfolding sine
-sine-inside v e = ap (λ (t : Bool). cond t (fixedSine (lt v +0) (angle v)) +0) e
+sine-inside v e = ap (λ (t : Bool). cond t (fixedSine (lt v zero64) (angle v)) zero64) e
 
-pub sine-outside : (v : Float) → le (magnitude v) sixteen ≡ false → sine v ≡ +0
+pub sine-outside : (v : Float) → le (absolute v) sixteen ≡ false → sine v ≡ zero64
 unfolding sine
-sine-outside v e = ap (λ (t : Bool). cond t (fixedSine (lt v +0) (angle v)) +0) e
+sine-outside v e = ap (λ (t : Bool). cond t (fixedSine (lt v zero64) (angle v)) zero64) e
 
-pub cosine-inside : (v : Float) → le (magnitude v) sixteen ≡ true → cosine v ≡ fixedSine false (angle v + quarter)
+pub cosine-inside : (v : Float) → le (absolute v) sixteen ≡ true → cosine v ≡ fixedSine false (angle v + quarter)
 unfolding cosine
-cosine-inside v e = ap (λ (t : Bool). cond t (fixedSine false (angle v + quarter)) +0) e
+cosine-inside v e = ap (λ (t : Bool). cond t (fixedSine false (angle v + quarter)) zero64) e
 
-pub cosine-outside : (v : Float) → le (magnitude v) sixteen ≡ false → cosine v ≡ +0
+pub cosine-outside : (v : Float) → le (absolute v) sixteen ≡ false → cosine v ≡ zero64
 unfolding cosine
-cosine-outside v e = ap (λ (t : Bool). cond t (fixedSine false (angle v + quarter)) +0) e
+cosine-outside v e = ap (λ (t : Bool). cond t (fixedSine false (angle v + quarter)) zero64) e

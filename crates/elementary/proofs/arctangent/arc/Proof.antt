@@ -1,7 +1,7 @@
+-- `arc` meets its contract: the three calls are the definition's, and half of the last result is at most a quarter turn.
 use Prim.Native.Nat.{ℕ, _/_, _≤_}
 use native.Mathlib.Nat.{le-trans}
 use mathlib.Core.Path.{refl}
--- `arc` meets its contract.
 use native.Mathlib.Omega.{arith}
 use Rattle.cells.specs.Arc as cells
 use borrow.Author.Needs.{needs}

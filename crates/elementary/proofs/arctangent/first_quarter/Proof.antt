@@ -1,6 +1,6 @@
+-- `first_quarter` meets its contract: the arms are those of the definition, and Slope says that each hands the smaller coordinate first.
 use mathlib.Core.Path.{refl}
 use Rattle.elementary.proofs.arctangent.Slope.{below-diagonal, above-diagonal}
--- `first_quarter` meets its contract.
 use native.Mathlib.Omega.{arith}
 use Rattle.elementary.specs.Arctangent as recipe
 use borrow.Author.Needs.{needs}

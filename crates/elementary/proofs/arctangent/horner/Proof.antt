@@ -1,6 +1,9 @@
 -- `horner` meets its contract: each step is one of the definition's, and its result is no more than its coefficient.
-use Rattle.series.specs.Kernel as kernel
+use native.Mathlib.Nat.{le-trans}
+use lib.Dec.{lit≤}
 use borrow.Author.Needs.{needs}
+use Rattle.cells.specs.Arc.{firstArc, arcs}
+use Rattle.elementary.proofs.fixed.Horner.{Value, next}
 use Rattle.elementary.proofs.arctangent.horner.Statement.{statement}
 use Rattle.elementary.proofs.arctangent.horner.Tie as tie
 
@@ -8,41 +11,53 @@ later-half-requires : tie.Need-later-half-requires
 later-half-requires c κs = search needs
 
 step-requires : tie.Need-step-requires
-step-requires c κs = search needs
+step-requires c κs = le-trans (c .later-half .ensures .1) (lit≤ tt)
 
 step-requires-2 : tie.Need-step-requires-2
-step-requires-2 c κs = search needs
+step-requires-2 c κs = le-trans (c .step .ensures .1) (lit≤ tt)
 
 step-requires-3 : tie.Need-step-requires-3
-step-requires-3 c κs = search needs
+step-requires-3 c κs = le-trans (c .step2 .ensures .1) (lit≤ tt)
 
 step-requires-4 : tie.Need-step-requires-4
-step-requires-4 c κs = search needs
+step-requires-4 c κs = le-trans (c .step3 .ensures .1) (lit≤ tt)
 
 step-requires-5 : tie.Need-step-requires-5
-step-requires-5 c κs = search needs
+step-requires-5 c κs = le-trans (c .step4 .ensures .1) (lit≤ tt)
 
 step-requires-6 : tie.Need-step-requires-6
-step-requires-6 c κs = search needs
+step-requires-6 c κs = le-trans (c .step5 .ensures .1) (lit≤ tt)
 
 step-requires-7 : tie.Need-step-requires-7
-step-requires-7 c κs = search needs
+step-requires-7 c κs = le-trans (c .step6 .ensures .1) (lit≤ tt)
 
 step-requires-8 : tie.Need-step-requires-8
-step-requires-8 c κs = search needs
+step-requires-8 c κs = le-trans (c .step7 .ensures .1) (lit≤ tt)
 
 step-requires-9 : tie.Need-step-requires-9
-step-requires-9 c κs = search needs
+step-requires-9 c κs = le-trans (c .step8 .ensures .1) (lit≤ tt)
 
 step-requires-10 : tie.Need-step-requires-10
-step-requires-10 c κs = search needs
+step-requires-10 c κs = le-trans (c .step9 .ensures .1) (lit≤ tt)
 
 step-requires-11 : tie.Need-step-requires-11
-step-requires-11 c κs = search needs
+step-requires-11 c κs = le-trans (c .step10 .ensures .1) (lit≤ tt)
 
 returns : tie.Need-returns
-unfolding kernel.horner
-returns c = (cc, c .step11 .ensures .1)
+returns c =
+    let v : Value firstArc arcs (c .before .before .before .before .before .before .before .before .before .before .before .before .args .z) (c .step11 .result) =
+    next (c .step11 .ensures .0)
+    (next (c .before .step10 .ensures .0)
+    (next (c .before .before .step9 .ensures .0)
+    (next (c .before .before .before .step8 .ensures .0)
+    (next (c .before .before .before .before .step7 .ensures .0)
+    (next (c .before .before .before .before .before .step6 .ensures .0)
+    (next (c .before .before .before .before .before .before .step5 .ensures .0)
+    (next (c .before .before .before .before .before .before .before .step4 .ensures .0)
+    (next (c .before .before .before .before .before .before .before .before .step3 .ensures .0)
+    (next (c .before .before .before .before .before .before .before .before .before .step2 .ensures .0)
+    (next (c .before .before .before .before .before .before .before .before .before .before .step .ensures .0) (record { is = c .before .before .before .before .before .before .before .before .before .before .before .later-half .ensures .0 }))))))))))) in
+    (v .is, c .step11 .ensures .1)
 
 pub horner-spec : {M : Type 1} → statement M
 horner-spec =

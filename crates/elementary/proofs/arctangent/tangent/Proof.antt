@@ -1,6 +1,6 @@
+-- `tangent` meets its contract: the arms are those of the definition, and Slope says that the scaled quotient can be cut.
 use mathlib.Core.Path.{refl}
 use Rattle.elementary.proofs.arctangent.Slope.{above-minus-one, below-top}
--- `tangent` meets its contract.
 use Rattle.elementary.specs.Arctangent as recipe
 use Rattle.elementary.proofs.arctangent.tangent.Statement.{statement}
 use Rattle.elementary.proofs.arctangent.tangent.Tie as tie

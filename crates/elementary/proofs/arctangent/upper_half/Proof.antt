@@ -1,5 +1,5 @@
+-- `upper_half` meets its contract: the arms are those of the definition.
 use mathlib.Core.Path.{refl}
--- `upper_half` meets its contract.
 use native.Mathlib.Omega.{arith}
 use Rattle.elementary.specs.Arctangent as recipe
 use borrow.Author.Needs.{needs}
@@ -9,20 +9,20 @@ use Rattle.elementary.proofs.arctangent.upper_half.Tie as tie
 first-quarter-requires : tie.Need-first-quarter-requires
 first-quarter-requires c κs = search needs
 
-is-negative-requires : tie.Need-is-negative-requires
-is-negative-requires c κs = search needs
+is-sign-negative-requires : tie.Need-is-sign-negative-requires
+is-sign-negative-requires c κs = search needs
 
 sub-result : tie.Need-sub-result
 sub-result c = omega arith
 
 returns : tie.Need-returns
 unfolding recipe.upperHalf
-returns c = rw (← (c .before .is-negative .ensures), c .if1 .taken, c .before .before .first-quarter .ensures .0) refl
+returns c = rw (← (c .before .is-sign-negative .ensures), c .if1 .taken, c .before .before .first-quarter .ensures .0) refl
 
 returns-2 : tie.Need-returns-2
 unfolding recipe.upperHalf
-returns-2 c = rw (← (c .before .is-negative .ensures), c .if1 .left, c .before .before .first-quarter .ensures .0) refl
+returns-2 c = rw (← (c .before .is-sign-negative .ensures), c .if1 .left, c .before .before .first-quarter .ensures .0) refl
 
 pub upper-half-spec : {M : Type 1} → statement M
 upper-half-spec =
-    tie.close (tie.spec first-quarter-requires is-negative-requires sub-result returns returns-2)
+    tie.close (tie.spec first-quarter-requires is-sign-negative-requires sub-result returns returns-2)

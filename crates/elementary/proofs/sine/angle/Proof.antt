@@ -6,14 +6,14 @@ use Rattle.elementary.proofs.sine.Entry.{cut-asks, cut-gives}
 use Rattle.elementary.proofs.sine.angle.Statement.{statement}
 use Rattle.elementary.proofs.sine.angle.Tie as tie
 
-magnitude-requires : tie.Need-magnitude-requires
-magnitude-requires c κs = search needs
+abs-requires : tie.Need-abs-requires
+abs-requires c κs = search needs
 
 truncating-f64-to-u64-requires : tie.Need-truncating-f64-to-u64-requires
-truncating-f64-to-u64-requires c κs = cut-asks (c .before .args .v) (c .magnitude .result) (subst T (sym (c .before .good .0 .1)) tt) (c .before .pre) (c .magnitude .ensures)
+truncating-f64-to-u64-requires c κs = cut-asks (c .before .args .v) (c .abs .result) (subst T (sym (c .before .good .0 .1)) tt) (c .before .pre) (c .abs .ensures)
 
 returns : tie.Need-returns
-returns c = cut-gives (c .before .before .args .v) (c .before .magnitude .result) (subst T (sym (c .before .before .good .0 .1)) tt) (c .before .before .pre) (c .before .magnitude .ensures) (c .truncating-f64-to-u64 .result) (c .truncating-f64-to-u64 .ensures)
+returns c = cut-gives (c .before .before .args .v) (c .before .abs .result) (subst T (sym (c .before .before .good .0 .1)) tt) (c .before .before .pre) (c .before .abs .ensures) (c .truncating-f64-to-u64 .result) (c .truncating-f64-to-u64 .ensures)
 
 pub angle-spec : {M : Type 1} → statement M
-angle-spec = tie.close (tie.spec magnitude-requires truncating-f64-to-u64-requires returns)
+angle-spec = tie.close (tie.spec abs-requires truncating-f64-to-u64-requires returns)

@@ -4,7 +4,6 @@ use Rattle.series.specs.Kernel.{halfTurned}
 use Rattle.elementary.proofs.sine.half_turned.Statement.{statement}
 use Rattle.elementary.proofs.sine.half_turned.Tie as tie
 
--- src/lib.rt:80:1
 returns : tie.Need-returns
 unfolding halfTurned
 returns c = search needs

@@ -2,7 +2,8 @@
 use borrow.Author.Needs.{needs}
 use mathlib.Core.Path.{sym, ap, _∙_}
 use lib.Ieee.{lt}
-use Rattle.elementary.specs.Sine.{fixedSine, +0}
+use Rattle.binary64.specs.Constants.{zero64}
+use Rattle.elementary.specs.Sine.{fixedSine}
 use Rattle.elementary.proofs.sine.Arms.{sine-inside, sine-outside}
 use Rattle.elementary.proofs.sine.sin.Statement.{statement}
 use Rattle.elementary.proofs.sine.sin.Tie as tie
@@ -17,7 +18,7 @@ fixed-sine-requires : tie.Need-fixed-sine-requires
 fixed-sine-requires c κs = search needs
 
 returns : tie.Need-returns
-returns c = c .fixed-sine .ensures ∙ ap (fixedSine (lt (c .before .before .before .before .args .v) +0)) (c .before .angle .ensures .0) ∙ sym (sine-inside (c .before .before .before .before .args .v) (sym (c .before .before .before .inside .ensures) ∙ c .before .before .if1 .taken))
+returns c = c .fixed-sine .ensures ∙ ap (fixedSine (lt (c .before .before .before .before .args .v) zero64)) (c .before .angle .ensures .0) ∙ sym (sine-inside (c .before .before .before .before .args .v) (sym (c .before .before .before .inside .ensures) ∙ c .before .before .if1 .taken))
 
 returns-2 : tie.Need-returns-2
 returns-2 c = sym (sine-outside (c .before .before .args .v) (sym (c .before .inside .ensures) ∙ c .if1 .left))
