@@ -1,9 +1,12 @@
 -- Laws of a list of which so many are held, for the loops that push arcs.
 use mathlib.Core.Path.{_≡_, refl, sym, ap, _∙_}
+use mathlib.Core.Bool.{Bool, true, false, cond}
 use mathlib.Core.List.{List, [], _∷_, _++_, append-assoc, append-nil, map, map-append}
 use Prim.Native.Nat.{ℕ, zero, suc, _+_, _≤_, _<_}
 use native.Mathlib.Numerals.{add-one}
 use native.Mathlib.Omega.{arith}
+use borrow.Author.Tests.{ltb-true, ltb-false}
+use lib.Dec.{ltb}
 use Rattle.regions.specs.Row.{upTo}
 use lib.ListN.{length, take, set, length-take, length-append}
 use lib.Seq.{take-all, take-at, take-suc-set}
@@ -25,6 +28,18 @@ unfolding upTo
 pushed-map m g f i first l more e h =
     pushed-on m first l more (map g (upTo f i)) (map g (f i)) e h
     ∙ rw (add-one i) (ap (λ t. take m (first ++ t)) (sym (map-append g (upTo f i) (f i))))
+
+-- one is pushed while there is room: a count that was exact is exact again
+pub pushed-count : {A : Type 0} (m : ℕ) (l : List A) (x : A) {n k : ℕ} {more : List A} → length l ≤ m
+    → more ≡ take m (l ++ (x ∷ [])) → k ≡ cond (ltb n m) (n + 1) n → n ≡ length l → k ≡ length more
+pushed-count m l x {n = n} {k = k} {more = more} few e f h = by (ltb n m) refl f
+  where
+    many : length more ≡ length (take m (l ++ (x ∷ [])))
+    many = ap length e
+
+    by : (b : Bool) → ltb n m ≡ b → k ≡ cond b (n + 1) n → k ≡ length more
+    by true t g = omega (arith, g, h, many, ltb-true n m t, length-take m (l ++ (x ∷ [])), length-append l (x ∷ []))
+    by false t g = omega (arith, g, h, many, few, ltb-false n m t, length-take m (l ++ (x ∷ [])), length-append l (x ∷ []))
 
 module _ {A : Type 0} (all : List A) (m n : ℕ) (places : length all ≡ m) where
   -- nothing is pushed

@@ -5,8 +5,10 @@ use geometry::circle::Circle;
 use geometry::meeting::Meeting;
 use geometry::point::Point;
 ghost use mathlib.Core.Path.{_≡_};
+ghost use mathlib.Core.Bool.{cond};
 ghost use mathlib.Core.List.{[], _∷_, _++_};
-ghost use Prim.Native.Nat.{_<_};
+ghost use Prim.Native.Nat.{_+_, _<_};
+ghost use lib.Dec.{ltb};
 ghost use lib.ListN.{length, take};
 ghost use Rattle.masks.specs.Mask.{gather};
 ghost use Rattle.outline.specs.Points.{adoptsPoint, adopts, met, pairPoints, rowPoints, collected};
@@ -55,6 +57,7 @@ fn adopters(circles: [Circle; 10], n: usize, i: usize, j: usize, p: Point) -> us
 // A point more, while there is room.
 pub fn push_point(list: Intersections, q: IntersectionPoint) -> Intersections
     ensures { λ r. ⌜ pointList r ≡ take 90 (pointList list ++ (q ∷ [])) ⌝ }
+    ensures { λ r. ⌜ r .n ≡ cond (ltb (list .n) 90) (list .n + 1) (list .n) ⌝ }
 {
     let n = list.n;
     if 90 <= n {
@@ -65,7 +68,7 @@ pub fn push_point(list: Intersections, q: IntersectionPoint) -> Intersections
     Intersections { n: n + 1, all: all }
 }
 
-// The meeting point p of heads i and j, with its adopters, pushed.
+// The meeting point p of heads i and j, with its adopters, pushed. Here and below, a count that is exact stays so.
 fn push_met(
     list: Intersections,
     circles: [Circle; 10],
@@ -76,6 +79,7 @@ fn push_met(
 ) -> Intersections
     requires { ⌜ (i < length (take n circles)) × (j < length (take n circles)) ⌝ }
     ensures { λ r. ⌜ pointList r ≡ take 90 (pointList list ++ (met (take n circles) i j p ∷ [])) ⌝ }
+    ensures { λ r. ⌜ (list .n ≡ length (pointList list) → r .n ≡ length (pointList r)) ⌝ }
 {
     let q = IntersectionPoint {
         point: p,
@@ -96,6 +100,7 @@ fn push_pair(
 ) -> Intersections
     requires { ⌜ (i < length (take n circles)) × (j < length (take n circles)) ⌝ }
     ensures { λ r. ⌜ pointList r ≡ take 90 (pointList list ++ pairPoints (take n circles) i j) ⌝ }
+    ensures { λ r. ⌜ (list .n ≡ length (pointList list) → r .n ≡ length (pointList r)) ⌝ }
 {
     let first = circles[i];
     let meeting = first.intersection_points(circles[j]);
@@ -113,6 +118,7 @@ fn push_pair(
 fn push_row(list: Intersections, circles: [Circle; 10], n: usize, i: usize) -> Intersections
     requires { ⌜ i < length (take n circles) ⌝ }
     ensures { λ r. ⌜ pointList r ≡ take 90 (pointList list ++ rowPoints (take n circles) i) ⌝ }
+    ensures { λ r. ⌜ (list .n ≡ length (pointList list) → r .n ≡ length (pointList r)) ⌝ }
 {
     let mut row = list;
     let mut j = i + 1;
@@ -129,6 +135,7 @@ fn push_row(list: Intersections, circles: [Circle; 10], n: usize, i: usize) -> I
 // The meeting points of the first n_sets circles.
 pub fn collect_intersections(circles: [Circle; 10], n_sets: usize) -> Intersections
     ensures { λ r. ⌜ pointList r ≡ collected (take «n_sets» circles) ⌝ }
+    ensures { λ r. ⌜ r .n ≡ length (collected (take «n_sets» circles)) ⌝ }
 {
     let nowhere = IntersectionPoint {
         point: Point::new(0.0, 0.0),

@@ -13,8 +13,11 @@ use boundary::sort::Angles;
 use boundary::sort::count;
 use geometry::circle::Circle;
 ghost use mathlib.Core.Path.{_≡_};
+ghost use mathlib.Core.Bool.{cond};
 ghost use mathlib.Core.List.{[], _∷_, _++_, map};
-ghost use lib.ListN.{take};
+ghost use Prim.Native.Nat.{_+_};
+ghost use lib.Dec.{ltb};
+ghost use lib.ListN.{length, take};
 ghost use Rattle.boundary.specs.Outline.{arcsAt, outlineFrom};
 ghost use Rattle.boundary.specs.Set.{membersWith, numbered, arcsHeld, regionArcs};
 ghost use Rattle.boundary.specs.Lists.{angleList, pointList, headList, circleList, candidateList, arcList};
@@ -30,6 +33,7 @@ pub fn no_arcs(filler: BoundaryArc) -> Arcs
 // An arc more, while there is room.
 pub fn push(arcs: Arcs, arc: BoundaryArc) -> Arcs
     ensures { λ r. ⌜ arcList r ≡ take arcsHeld (arcList arcs ++ (arc ∷ [])) ⌝ }
+    ensures { λ r. ⌜ r .n ≡ cond (ltb (arcs .n) arcsHeld) (arcs .n + 1) (arcs .n) ⌝ }
 {
     let n = arcs.n;
     if 180 <= n {
@@ -56,8 +60,10 @@ pub fn numbered(arc: BoundaryArc, set: Members) -> BoundaryArc
     renamed
 }
 
+// The candidate's arc, if it is one, pushed. Here and below, a count that is exact stays so.
 fn push_candidate(arcs: Arcs, candidate: Candidate, set: Members) -> Arcs
     ensures { λ r. ⌜ arcList r ≡ take arcsHeld (arcList arcs ++ map (numbered (headList set)) (candidateList candidate)) ⌝ }
+    ensures { λ r. ⌜ (arcs .n ≡ length (arcList arcs) → r .n ≡ length (arcList r)) ⌝ }
 {
     match candidate {
         Candidate::Arc(arc) => push(arcs, numbered(arc, set)),
@@ -68,6 +74,7 @@ fn push_candidate(arcs: Arcs, candidate: Candidate, set: Members) -> Arcs
 // The arcs of the member at k, pushed.
 fn push_member(arcs: Arcs, k: usize, circle: Circle, angles: Angles, set: Members) -> Arcs
     ensures { λ r. ⌜ arcList r ≡ take arcsHeld (arcList arcs ++ map (numbered (headList set)) (arcsAt (circleList set) k circle (angleList angles))) ⌝ }
+    ensures { λ r. ⌜ (arcs .n ≡ length (arcList arcs) → r .n ≡ length (arcList r)) ⌝ }
 {
     let n = count(angles);
     if n == 0 {
@@ -85,6 +92,7 @@ fn push_member(arcs: Arcs, k: usize, circle: Circle, angles: Angles, set: Member
 // The arcs of all members of a set.
 fn push_members(arcs: Arcs, mask: usize, set: Members, points: Intersections) -> Arcs
     ensures { λ r. ⌜ arcList r ≡ take arcsHeld (arcList arcs ++ map (numbered (headList set)) (outlineFrom (circleList set) 0 (membersWith (pointList points) mask (headList set) (circleList set)))) ⌝ }
+    ensures { λ r. ⌜ (arcs .n ≡ length (arcList arcs) → r .n ≡ length (arcList r)) ⌝ }
 {
     let n = set.n;
     let mut list = arcs;
@@ -109,6 +117,7 @@ pub fn region_boundary_arcs(
     n_sets: usize,
 ) -> Arcs
     ensures { λ r. ⌜ arcList r ≡ regionArcs (take «n_sets» circles) (pointList points) mask ⌝ }
+    ensures { λ r. ⌜ r .n ≡ length (regionArcs (take «n_sets» circles) (pointList points) mask) ⌝ }
 {
     let set = members_of(mask, circles, n_sets);
     let theirs = set.circles;

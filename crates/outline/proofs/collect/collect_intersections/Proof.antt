@@ -1,6 +1,7 @@
--- `collect::collect_intersections` meets its contract. The invariant: the points of the heads below i are pushed.
+-- `collect::collect_intersections` meets its contract. The invariant: the points of the heads below i are pushed,
+-- and the count is exact.
 use borrow.Author.Needs.{needs}
-use mathlib.Core.Path.{_≡_, refl, _∙_}
+use mathlib.Core.Path.{_≡_, refl, ap, _∙_}
 use Prim.Native.Nat.{_-_, _≤_}
 use native.Mathlib.Omega.{arith}
 use lib.ListN.{length, take, length-take}
@@ -14,7 +15,7 @@ use Rattle.outline.proofs.collect.collect_intersections.Statement.{stat
 use Rattle.outline.proofs.collect.collect_intersections.Tie as tie
 
 abbrev Inv-loop : tie.InvT-loop
-Inv-loop circles n-sets list₀ i₀ list i = (length circles ≡ 10) × (i ≤ 10) × (i ≤ n-sets) × (pointList list ≡ take 90 (upTo (rowPoints (take n-sets circles)) i))
+Inv-loop circles n-sets list₀ i₀ list i = (length circles ≡ 10) × (i ≤ 10) × (i ≤ n-sets) × (pointList list ≡ take 90 (upTo (rowPoints (take n-sets circles)) i)) × (list .n ≡ length (pointList list))
 
 abbrev μ-loop : tie.MeasureT-loop
 μ-loop circles n-sets list₀ i₀ list i = 10 - i
@@ -28,13 +29,14 @@ new-requires c κs = search needs
 
 loop-holds : tie.Need-loop-holds Inv-loop μ-loop
 unfolding upTo
-loop-holds c = (ten (c .before), omega arith, omega arith, refl)
+loop-holds c = (ten (c .before), omega arith, omega arith, refl, refl)
 
 returns : tie.Need-returns Inv-loop μ-loop
 unfolding collected
 returns c = let l = c .before .before .loop in let a = c .before .before .before .before .args in
     let e : l .i ≡ length (take (a .n-sets) (a .circles)) = omega (arith, length-take (a .n-sets) (a .circles)) in
-    (rw e at (l .inv .3)) ∙ take-all 90 (collected (take (a .n-sets) (a .circles))) (collected-few (take (a .n-sets) (a .circles)) (omega (arith, length-take (a .n-sets) (a .circles))))
+    let listed : pointList (l .list) ≡ collected (take (a .n-sets) (a .circles)) = (rw e at (l .inv .3)) ∙ take-all 90 (collected (take (a .n-sets) (a .circles))) (collected-few (take (a .n-sets) (a .circles)) (omega (arith, length-take (a .n-sets) (a .circles)))) in
+    (listed, l .inv .4 ∙ ap length listed)
 
 push-row-requires : tie.Need-push-row-requires Inv-loop μ-loop
 push-row-requires c κs = let a = c .before .before .before .before .args in omega (arith, length-take (a .n-sets) (a .circles))
@@ -47,13 +49,14 @@ loop-less c = omega arith
 
 loop-again : tie.Need-loop-again Inv-loop μ-loop
 loop-again c = let l = c .before .before .before .loop in let a = c .before .before .before .before .before .args in
-    (l .inv .0, omega arith, omega arith, rows-on 90 (take (a .n-sets) (a .circles)) (l .i) (pointList (l .list)) (pointList (c .push-row .result)) (l .inv .3) (c .push-row .ensures))
+    (l .inv .0, omega arith, omega arith, rows-on 90 (take (a .n-sets) (a .circles)) (l .i) (pointList (l .list)) (pointList (c .push-row .result)) (l .inv .3) (c .push-row .ensures .0), c .push-row .ensures .1 (l .inv .4))
 
 returns-2 : tie.Need-returns-2 Inv-loop μ-loop
 unfolding collected
 returns-2 c = let l = c .before .loop in let a = c .before .before .before .args in
     let e : l .i ≡ length (take (a .n-sets) (a .circles)) = omega (arith, length-take (a .n-sets) (a .circles)) in
-    (rw e at (l .inv .3)) ∙ take-all 90 (collected (take (a .n-sets) (a .circles))) (collected-few (take (a .n-sets) (a .circles)) (omega (arith, length-take (a .n-sets) (a .circles))))
+    let listed : pointList (l .list) ≡ collected (take (a .n-sets) (a .circles)) = (rw e at (l .inv .3)) ∙ take-all 90 (collected (take (a .n-sets) (a .circles))) (collected-few (take (a .n-sets) (a .circles)) (omega (arith, length-take (a .n-sets) (a .circles)))) in
+    (listed, l .inv .4 ∙ ap length listed)
 
 pub collect-intersections-spec : {M : Type 1} → statement M
 collect-intersections-spec =

@@ -73,20 +73,27 @@ push-met-requires-3 : tie.Need-push-met-requires-3
 push-met-requires-3 c κs = search needs
 
 returns : tie.Need-returns
-returns c = let d = c .before .before in let s = d .before .before .before in
-    rw (found d, c .enum-told .given .1) (pushed-none (s .args .list .all) 90 (s .args .list .n) (long s))
+returns c = let d = c .before .before in let s = d .before .before .before in (
+  rw (found d, c .enum-told .given .1) (pushed-none (s .args .list .all) 90 (s .args .list .n) (long s)),
+  λ h. h,
+)
 
 returns-2 : tie.Need-returns-2
-returns-2 c = let d = c .before .before .before .before .before in
-    rw (found d, c .before .before .before .meeting .given .1, ← (c .before .new .ensures)) (c .push-met .ensures)
+returns-2 c = let d = c .before .before .before .before .before in (
+  rw (found d, c .before .before .before .meeting .given .1, ← (c .before .new .ensures)) (c .push-met .ensures .0),
+  c .push-met .ensures .1,
+)
 
 returns-3 : tie.Need-returns-3
 returns-3 c = let d = c .before .before .before .before .before .before .before in let a = d .before .before .before .args in
     let one = c .before .before .before in
-    rw (found d, one .before .before .meeting2 .given .1, ← (one .new2 .ensures), ← (c .before .new3 .ensures))
-    (pushed-on 90 (pointList (a .list)) (pointList (c .before .before .push-met2 .result)) (pointList (c .push-met3 .result))
-    (met (take (a .n) (a .t2)) (a .i) (a .j) (one .new2 .result) ∷ []) (met (take (a .n) (a .t2)) (a .i) (a .j) (c .before .new3 .result) ∷ [])
-    (c .before .before .push-met2 .ensures) (c .push-met3 .ensures))
+    let pushed = c .before .before .push-met2 .ensures in (
+      rw (found d, one .before .before .meeting2 .given .1, ← (one .new2 .ensures), ← (c .before .new3 .ensures))
+          (pushed-on 90 (pointList (a .list)) (pointList (c .before .before .push-met2 .result)) (pointList (c .push-met3 .result))
+          (met (take (a .n) (a .t2)) (a .i) (a .j) (one .new2 .result) ∷ []) (met (take (a .n) (a .t2)) (a .i) (a .j) (c .before .new3 .result) ∷ [])
+          (pushed .0) (c .push-met3 .ensures .0)),
+      λ h. c .push-met3 .ensures .1 (pushed .1 h),
+    )
 
 pub push-pair-spec : {M : Type 1} → statement M
 push-pair-spec =

@@ -1,5 +1,6 @@
 -- `collect::push_point` meets its contract.
 use mathlib.Core.Path.{_≡_}
+use borrow.Author.Tests.{le-ltb, lt-ltb}
 use lib.ListN.{length}
 use Rattle.boundary.proofs.Arrays.{length-of-values}
 use Rattle.outline.proofs.Listing.{pushed-one, pushed-full}
@@ -12,7 +13,8 @@ long : (c : tie.Start) → length (c .args .list .all) ≡ 90
 long c = search length-of-values
 
 returns : tie.Need-returns
-returns c = let a = c .before .args in pushed-full (a .list .all) 90 (a .list .n) (long (c .before)) (a .q) (c .if1 .taken)
+returns c = let a = c .before .args in
+    (pushed-full (a .list .all) 90 (a .list .n) (long (c .before)) (a .q) (c .if1 .taken), rw (le-ltb (a .list .n) 90 (c .if1 .taken)))
 
 mul-all : tie.Need-mul-all
 mul-all c = search needs
@@ -24,7 +26,8 @@ add-t6 : tie.Need-add-t6
 add-t6 c = search needs
 
 returns-2 : tie.Need-returns-2
-returns-2 c = let s = c .before .before in let a = s .args in pushed-one (a .list .all) 90 (a .list .n) (long s) (a .q) (c .before .if1 .left)
+returns-2 c = let s = c .before .before in let a = s .args in
+    (pushed-one (a .list .all) 90 (a .list .n) (long s) (a .q) (c .before .if1 .left), rw (lt-ltb (a .list .n) 90 (c .before .if1 .left)))
 
 pub push-point-spec : {M : Type 1} → statement M
 push-point-spec = tie.close (tie.spec returns mul-all array-set-from-all add-t6 returns-2)

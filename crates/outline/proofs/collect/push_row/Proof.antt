@@ -1,4 +1,5 @@
--- `collect::push_row` meets its contract. The invariant: the points of head i with the heads below j are pushed.
+-- `collect::push_row` meets its contract. The invariant: the points of head i with the heads below j are pushed,
+-- and a count that was exact is exact.
 use borrow.Author.Needs.{needs}
 use mathlib.Core.Path.{_≡_}
 use mathlib.Core.List.{_++_}
@@ -15,7 +16,7 @@ use Rattle.outline.proofs.collect.push_row.Statement.{statement}
 use Rattle.outline.proofs.collect.push_row.Tie as tie
 
 abbrev Inv-loop : tie.InvT-loop
-Inv-loop circles n i row₀ j₀ row j = (length circles ≡ 10) × (i + 1 ≤ j) × (j ≤ 10) × (j ≤ n) × (i < length (take n circles)) × (pointList row ≡ take 90 (pointList row₀ ++ upTo (λ d. pairPoints (take n circles) i (i + 1 + d)) (j - (i + 1))))
+Inv-loop circles n i row₀ j₀ row j = (length circles ≡ 10) × (i + 1 ≤ j) × (j ≤ 10) × (j ≤ n) × (i < length (take n circles)) × (pointList row ≡ take 90 (pointList row₀ ++ upTo (λ d. pairPoints (take n circles) i (i + 1 + d)) (j - (i + 1)))) × (row₀ .n ≡ length (pointList row₀) → row .n ≡ length (pointList row))
 
 abbrev μ-loop : tie.MeasureT-loop
 μ-loop circles n i row₀ j₀ row j = 10 - j
@@ -31,7 +32,7 @@ loop-holds : tie.Need-loop-holds Inv-loop μ-loop
 unfolding upTo
 loop-holds c = let a = c .args in let e = length-take (a .n) (a .circles) in let ten : length (a .circles) ≡ 10 = search needs in let h = c .pre in
     let none : a .i + 1 - (a .i + 1) ≡ 0 = omega arith in
-    (ten, omega arith, omega arith, omega arith, h, rw none (pushed-none (a .list .all) 90 (a .list .n) (long c)))
+    (ten, omega arith, omega arith, omega arith, h, rw none (pushed-none (a .list .all) 90 (a .list .n) (long c)), λ k. k)
 
 returns : tie.Need-returns Inv-loop μ-loop
 unfolding rowPoints
@@ -39,7 +40,7 @@ returns c =
     let l = c .before .before .loop in
     let a = c .before .before .before .args in
     let e : l .j ≡ length (take (a .n) (a .circles)) = omega (arith, length-take (a .n) (a .circles)) in
-    rw e at (l .inv .5)
+    (rw e at (l .inv .5), l .inv .6)
 
 push-pair-requires : tie.Need-push-pair-requires Inv-loop μ-loop
 push-pair-requires c κs =
@@ -63,7 +64,8 @@ loop-again c =
       omega arith,
       l .inv .4,
       row-on 90 (take (a .n) (a .circles)) (a .i) (l .j) (pointList (a .list)) (pointList (l .row)) (pointList (c .push-pair .result)) (l .inv .1) (l .inv .5)
-          (c .push-pair .ensures),
+          (c .push-pair .ensures .0),
+      λ k. c .push-pair .ensures .1 (l .inv .6 k),
     )
 
 returns-2 : tie.Need-returns-2 Inv-loop μ-loop
@@ -72,7 +74,7 @@ returns-2 c =
     let l = c .before .loop in
     let a = c .before .before .args in
     let e : l .j ≡ length (take (a .n) (a .circles)) = omega (arith, length-take (a .n) (a .circles)) in
-    rw e at (l .inv .5)
+    (rw e at (l .inv .5), l .inv .6)
 
 pub push-row-spec : {M : Type 1} → statement M
 push-row-spec =

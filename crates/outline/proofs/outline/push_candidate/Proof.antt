@@ -1,8 +1,10 @@
 -- `outline::push_candidate` meets its contract.
 use mathlib.Core.Path.{_≡_}
-use lib.ListN.{length}
+use native.Mathlib.Omega.{arith}
+use lib.ListN.{length, length-take}
+use Rattle.boundary.specs.Lists.{arcList}
 use Rattle.boundary.proofs.Arrays.{length-of-values}
-use Rattle.outline.proofs.Listing.{pushed-none}
+use Rattle.outline.proofs.Listing.{pushed-none, pushed-count}
 use borrow.Author.Needs.{needs}
 use Rattle.outline.proofs.outline.push_candidate.Statement.{statement}
 use Rattle.outline.proofs.outline.push_candidate.Tie as tie
@@ -24,10 +26,15 @@ enum-told : tie.Need-enum-told
 enum-told c = search needs
 
 returns : tie.Need-returns
-returns c = rw (c .before .before .before .candidate .given .1, ← (c .before .numbered .ensures)) (c .push .ensures)
+returns c = let s = c .before .before .before .before .before in let l = s .args .arcs in
+    let pushed = c .push .ensures in (
+      rw (c .before .before .before .candidate .given .1, ← (c .before .numbered .ensures)) (pushed .0),
+      pushed-count 180 (arcList l) (c .before .numbered .result) (omega (arith, long s, length-take (l .n) (l .all))) (pushed .0) (pushed .1),
+    )
 
 returns-2 : tie.Need-returns-2
-returns-2 c = let s = c .before .before in rw (c .enum-told .given .1) (pushed-none (s .args .arcs .all) 180 (s .args .arcs .n) (long s))
+returns-2 c = let s = c .before .before in
+    (rw (c .enum-told .given .1) (pushed-none (s .args .arcs .all) 180 (s .args .arcs .n) (long s)), λ h. h)
 
 pub push-candidate-spec : {M : Type 1} → statement M
 push-candidate-spec =
