@@ -44,7 +44,7 @@ boxed-gradient-row box h n S hn hS =
 
 -- The geometry of rows in the box has the meeting points of open rows, so it is faithful too.
 pub clipped-faithful : (sets : Plan → ℕ → Bool) → Faithful (clippedMethod sets)
-clipped-faithful sets = record { apart = open-faithful (λ g. clippedMethod sets .boxArea g) sets .apart }
+clipped-faithful sets = record { apart = open-faithful sets .apart }
 
 -- After any list of edits the rows in the box are the book's afresh rows, with nothing asked.
 pub clipped-list-ends-afresh : (sets : Plan → ℕ → Bool)

@@ -20,7 +20,11 @@ use Rattle.outline.specs.Counts.{heads-below}
 use Rattle.outline.proofs.Walking.{circles-of-members, members-many}
 use Rattle.clip.specs.Area.{emptyBox, addEdges, clippedAreaOf, clippedArea}
 use Rattle.clip.specs.Gradient.{with-gradient, clippedWithGradient, clippedOnto, clippedGradient}
-use Rattle.areas.specs.Scatter.{entriesOf, boxEntries, put, scatter, scatterInBox, Fits, circlesIn, ByHead}
+use Rattle.outline.specs.Counts.{outline-few}
+use Rattle.outline.specs.Points.{collected}
+use Rattle.areas.specs.Open.{circlesOfHeads}
+use Rattle.areas.proofs.Open.{circles-length}
+use Rattle.areas.specs.Scatter.{PlanByHead, entriesOf, boxEntries, put, scatter, scatterInBox, Fits, circlesIn, ByHead}
 use Rattle.areas.proofs.Naming.{Below, outline-named}
 use Rattle.areas.proofs.Scattering.{Increasing, increasing-append, heads-increasing, entries-below, entries-increasing, entries-many, put-equal, entries-stand, box-stands, stand-append}
 use Rattle.areas.proofs.Summing.{arcs-sum, clipped-sum}
@@ -129,3 +133,9 @@ by-head circles points S fits =
       clipped-gradient = clipped-by-head circles points S fits;
       clipped-gradient-onto = clipped-onto-by-head circles points S fits;
     }
+
+-- Of the heads of a plan, with nothing asked: the outline fits.
+pub plan-by-head : PlanByHead
+plan-by-head h n S few =
+    let cs = circlesOfHeads h n in
+    by-head cs (collected cs) S (outline-few cs S (rw (circles-length h n) few))

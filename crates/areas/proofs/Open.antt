@@ -259,15 +259,15 @@ open-gradient-row h n S hn hS =
     (of-row (λ cs arcs. addGradient cs (replicate (3 * length (map memberOf (Row.members openGeometry h n S))) zero64) arcs) h n S hn hS)
 
 -- The geometry of open rows is faithful: heads that do not meet by whole numbers have no meeting points.
-pub open-faithful : (box : Ground → Float) (sets : Plan → ℕ → Bool) → Faithful (openMethod box sets)
-open-faithful box sets =
+pub open-faithful : (sets : Plan → ℕ → Bool) → Faithful (openMethod sets)
+open-faithful sets =
     record { apart = λ g a b ha hb e. no-points-unless-met a b (within-limits a ha) (within-limits b hb) e }
 
 -- The list theorem for open rows, with nothing asked.
-pub open-list-ends-afresh : (box : Ground → Float) (sets : Plan → ℕ → Bool)
+pub open-list-ends-afresh : (sets : Plan → ℕ → Bool)
     → (needed : Needed) (p : Plan) → length (p .heads) ≡ 10 → planAnswer p ≡ Taken
-    → (rows : ℕ → TableRow) → AfreshRows (openMethod box sets) p rows → (es : List Entry) → Ends (openMethod box sets) needed p rows es
-open-list-ends-afresh box sets = list-ends-afresh (openMethod box sets) (open-faithful box sets)
+    → (rows : ℕ → TableRow) → AfreshRows (openMethod sets) p rows → (es : List Entry) → Ends (openMethod sets) needed p rows es
+open-list-ends-afresh sets = list-ends-afresh (openMethod sets) (open-faithful sets)
 
 -- a faithful way to work out a table has both halves
 pub demand-three : (m : Method) → Faithful m → DemandThree m
@@ -278,5 +278,5 @@ demand-three m f =
       refused = refused-leaves-all m;
     }
 
-pub open-demand : (box : Ground → Float) (sets : Plan → ℕ → Bool) → DemandThree (openMethod box sets)
-open-demand box sets = demand-three (openMethod box sets) (open-faithful box sets)
+pub open-demand : (sets : Plan → ℕ → Bool) → DemandThree (openMethod sets)
+open-demand sets = demand-three (openMethod sets) (open-faithful sets)

@@ -2,7 +2,7 @@
 -- geometry holds of rows in the box. Meeting points and adopters are those of open rows. proofs/Boxed.antt proves that what the code
 -- gives of a set is the row's: `boxed-row`, `boxed-gradient-row`.
 use Prim.Native.Nat.{ℕ, _≤_, _<_, _^_}
-use mathlib.Core.Bool.{Bool}
+use mathlib.Core.Bool.{Bool, true}
 use mathlib.Core.List.{map}
 use mathlib.Core.Path.{_≡_}
 use lib.Ieee.{binary64, ofInt}
@@ -36,7 +36,7 @@ clippedGeometry box =
 
 -- How a plan's table of rows in its box is worked out, for any list of sets: row 0 is the box's area.
 abbrev pub clippedMethod : (Plan → ℕ → Bool) → Method
-clippedMethod sets = record { geometry = λ g. clippedGeometry (bounds (boxOf g)); boxArea = λ g. area (boxOf g); sets = sets }
+clippedMethod sets = record { geometry = λ g. clippedGeometry (bounds (boxOf g)); boxed = true; boxArea = λ g. area (boxOf g); sets = sets }
 
 -- the area of row S and its gradient by position: three entries a member, in the order of the members, then the box's four
 unfoldable pub clippedGradientRow : Bounds → (ℕ → Head) → ℕ → ℕ → WithGradient

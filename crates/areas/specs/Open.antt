@@ -1,8 +1,8 @@
 -- The rows of a plan without its box: the outline as the geometry of rows of `regions`, so that what is proved of rows over any
--- geometry holds of open rows. proofs/Open.antt proves that what the code gives of a set is the row's: `points-of-plan`, `open-row`,
--- `open-gradient-row`.
+-- geometry holds of open rows. proofs/Open.antt proves that the meeting points and the area that the code works out are the row's,
+-- `points-of-plan` and `open-row`, and that the gradient by position is; the code works gradients out by head (specs/Scatter.antt).
 use Prim.Native.Nat.{ℕ, _≤_, _<_, _^_}
-use mathlib.Core.Bool.{Bool}
+use mathlib.Core.Bool.{Bool, false}
 use mathlib.Core.List.{List, [], _∷_, map}
 use mathlib.Core.Path.{_≡_}
 use lib.Ieee.{Float}
@@ -11,6 +11,7 @@ use Rattle.plan.specs.declared.Ground.{Ground}
 use Rattle.plan.specs.declared.Plan.{Plan}
 use Rattle.regions.specs.Row as Row
 use Rattle.regions.specs.Row.{Geometry, upTo, intersections, rowArea}
+use Rattle.binary64.specs.Constants.{zero64}
 use Rattle.regions.specs.Table.{Method}
 use Rattle.geometry.specs.Circle.{intersectionPoints}
 use Rattle.exact.specs.Circle.{circleOf}
@@ -41,9 +42,9 @@ openGeometry =
       area = λ ms. openArea (map memberOf ms);
     }
 
--- How a plan's table of open rows is worked out, for any list of sets and any number in row 0.
-abbrev pub openMethod : (Ground → Float) → (Plan → ℕ → Bool) → Method
-openMethod box sets = record { geometry = λ g. openGeometry; boxArea = box; sets = sets }
+-- How a plan's table of open rows is worked out, for any list of sets. There is no box, and so no row 0.
+abbrev pub openMethod : (Plan → ℕ → Bool) → Method
+openMethod sets = record { geometry = λ g. openGeometry; boxed = false; boxArea = λ g. zero64; sets = sets }
 
 -- the gradient of row S by position: three entries a member, in the order of the members
 unfoldable pub openGradientRow : (ℕ → Head) → ℕ → ℕ → List Float
@@ -68,6 +69,6 @@ membersOfPlan h n S = membersOf (circlesOfHeads h n) (collected (circlesOfHeads 
 abbrev pub OpenRow : Type 0
 OpenRow = (h : ℕ → Head) (n S : ℕ) → n ≤ 10 → S < 2 ^ n → openArea (membersOfPlan h n S) ≡ rowArea openGeometry h n S
 
--- The gradient by position that the code works out for a set is that of the row.
+-- The gradient by position of the members that the code gathers for a set is that of the row.
 abbrev pub OpenGradientRow : Type 0
 OpenGradientRow = (h : ℕ → Head) (n S : ℕ) → n ≤ 10 → S < 2 ^ n → openGradient (membersOfPlan h n S) ≡ openGradientRow h n S

@@ -1,6 +1,6 @@
 -- Head numbers come in by a map at the end. A row and its gradient are worked out by position in the set; the Rust's functions over a
 -- list of arcs name heads. Here is how a gradient by position becomes one by head, and the claim that the functions by head give what
--- those by position give, bit for bit. proofs/ByHead.antt proves it: `by-head`.
+-- those by position give, bit for bit. proofs/ByHead.antt proves it: `by-head`, and of the heads of a plan with nothing asked, `plan-by-head`.
 use Prim.Native.Nat.{ℕ, _+_, _*_, _≤_, _<_}
 use mathlib.Core.Bool.{false}
 use mathlib.Core.Path.{_≡_}
@@ -15,6 +15,9 @@ use Rattle.boundary.specs.declared.points.IntersectionPoint.{IntersectionPoint}
 use Rattle.boundary.specs.Outline.{circlesOf, outline}
 use Rattle.outline.specs.Area.{areaOf, addGradient, openArea, openGradient}
 use Rattle.boundary.specs.Set.{headsOf, circleAt, membersOf, arcsHeld, regionArcs}
+use Rattle.heads.specs.declared.Head.{Head}
+use Rattle.outline.specs.Points.{collected}
+use Rattle.areas.specs.Open.{circlesOfHeads}
 use Rattle.clip.specs.Area.{clippedAreaOf, clippedArea}
 use Rattle.clip.specs.Gradient.{with-gradient, clippedWithGradient, clippedOnto, clippedGradient}
 
@@ -57,7 +60,7 @@ pub record Scatters (n S : ℕ) (g : List Float) : Type 0 where
 
 -- ---- what is claimed of a set S of circles and their meeting points
 
--- The outline fits the list that region_boundary_arcs makes. That of collected points of at most ten circles does: `outline-few`.
+-- The outline fits the list that region_boundary_arcs makes. That of the collected points of at most ten circles does.
 abbrev pub Fits : List Circle → List IntersectionPoint → ℕ → Type 0
 Fits circles points S = length (outline (membersOf circles points S)) ≤ arcsHeld
 
@@ -93,3 +96,7 @@ pub record ByHead (circles : List Circle) (points : List IntersectionPoint) (S :
       ≡ with-gradient
       (clippedOnto box (membersOf circles points S) g .sum)
       (put (entriesOf (headsOf (length circles) S) ++ boxEntries (length circles)) (clippedOnto box (membersOf circles points S) g .grad) out)
+
+-- It holds of every set of at most ten heads.
+abbrev pub PlanByHead : Type 0
+PlanByHead = (h : ℕ → Head) (n S : ℕ) → n ≤ 10 → ByHead (circlesOfHeads h n) (collected (circlesOfHeads h n)) S

@@ -5,3 +5,4 @@ pub mod Gathering
 pub mod Counting
 pub mod Owning
 pub mod Gaps
+pub mod OnePoint

@@ -1,5 +1,6 @@
 -- The rows in the box of heads within the limits, and so of a taken plan, are finite. Rests on proofs/Boxed.antt and
 -- proofs/Slopes.antt: the box of such a plan is of the domain, as are the circles of its heads.
+use mathlib.Core.Bool.{Bool, true}
 use mathlib.Core.Path.{refl, subst}
 use Prim.Native.Nat.{_≤_}
 use lib.Dec.{lit≤}
@@ -114,5 +115,5 @@ plan-box-finite p long taken =
 -- Every number of the afresh table of a taken plan's rows in its box is finite.
 pub table-in-box-finite : TableInBoxFinite
 table-in-box-finite sets p long taken S hS =
-    afresh-most (area (boxOf (p .ground))) (areaAt (clippedMethod sets) p) (sets p) S (most-weaken (plan-box-finite p long taken) (lit≤ tt))
+    afresh-most true (area (boxOf (p .ground))) (areaAt (clippedMethod sets) p) (sets p) S (most-weaken (plan-box-finite p long taken) (lit≤ tt))
     (plan-row-finite p long taken S hS .0)

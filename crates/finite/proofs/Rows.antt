@@ -8,7 +8,7 @@ use lib.Ieee.{Float}
 use lib.IntN.{pos}
 use lib.ListN.{length}
 use Rattle.binary64.specs.Magnitude.{Most}
-use Rattle.binary64.specs.Constants.{zero64-is}
+use Rattle.binary64.specs.Constants.{zero64, zero64-is}
 use Rattle.binary64.proofs.Magnitude.{most-zero}
 use Rattle.heads.specs.declared.Head.{Head}
 use Rattle.plan.specs.Limits.{HeadWithin}
@@ -26,7 +26,7 @@ use Rattle.outline.specs.Counts.{heads-below, outline-few}
 use Rattle.boundary.specs.Every.{Every, every-map, every-upTo, every-at}
 use Rattle.outline.proofs.Walking.{circles-of-members}
 use Rattle.areas.specs.Open.{circlesOfHeads, openMethod}
-use Rattle.areas.proofs.Open.{circles-length, open-row}
+use Rattle.areas.proofs.Open.{circles-length, open-row, open-gradient-row}
 use Rattle.finite.specs.Open.{InDomain}
 use Rattle.finite.specs.Rows.{HeadsFinite, PlanFinite, TableFinite}
 use Rattle.finite.proofs.Limits.{position-most, radius-most}
@@ -67,7 +67,7 @@ heads-finite h n S hn hS met =
     let few = outline-few cs S (rw (circles-length h n) hn) in
     record {
       area = rw (sym (open-row h n S hn hS)) (area-finite (membersOf cs points S) inside few);
-      gradient = gradient-finite (membersOf cs points S) inside few;
+      gradient = rw (sym (open-gradient-row h n S hn hS)) (gradient-finite (membersOf cs points S) inside few);
       gradientByHead = region-gradient-finite cs points S (3 * n) d;
     }
 
@@ -79,17 +79,18 @@ plan-finite p long taken S hS =
 
 -- ---- tables
 
+-- a row with a number, or an absent one
+row-most : {j a : ℕ} (b : Bool) (v : Float) → Most j a v → Most j a (cond b (present v) absent .number)
+row-most true v h = h
+row-most false v h = rw (sym zero64-is) most-zero
+
 -- An afresh row has the box's number, a set's area or +0.
-pub afresh-most : {j a : ℕ} (box : Float) (area : ℕ → Float) (sets : ℕ → Bool) (S : ℕ) → Most j a box → Most j a (area S) → Most j a (afreshRow box area sets S .number)
+pub afresh-most : {j a : ℕ} (boxed : Bool) (box : Float) (area : ℕ → Float) (sets : ℕ → Bool) (S : ℕ) → Most j a box → Most j a (area S) → Most j a (afreshRow boxed box area sets S .number)
 unfolding afreshRow
-afresh-most box area sets zero hb ha = hb
-afresh-most {j} {a} box area sets (suc S) hb ha = by (sets (suc S))
-  where
-    by : (b : Bool) → Most j a (cond b (present (area (suc S))) absent .number)
-    by true = ha
-    by false = rw (sym zero64-is) most-zero
+afresh-most boxed box area sets zero hb ha = row-most boxed box hb
+afresh-most boxed box area sets (suc S) hb ha = row-most (sets (suc S)) (area (suc S)) ha
 
 -- Every number of the afresh table of a taken plan's open rows is finite.
 pub table-finite : TableFinite
-table-finite box sets p long taken hb S hS =
-    afresh-most (box (p .ground)) (areaAt (openMethod box sets) p) (sets p) S hb (plan-finite p long taken S hS .area)
+table-finite sets p long taken S hS =
+    afresh-most false zero64 (areaAt (openMethod sets) p) (sets p) S most-zero (plan-finite p long taken S hS .area)

@@ -20,20 +20,16 @@ use Rattle.outline.specs.Area.{addGradient, openGradient}
 use Rattle.boundary.specs.Every.{Every}
 use Rattle.outline.specs.Points.{collected}
 use Rattle.boundary.specs.Set.{regionArcs}
-use Rattle.areas.specs.Open.{circlesOfHeads, membersOfPlan, openGeometry, openMethod}
+use Rattle.areas.specs.Open.{circlesOfHeads, openGeometry, openMethod, openGradientRow}
 
--- the gradient of row S of n heads by position in the set: x, y and radius of each of its heads in turn
-abbrev pub rowGradient : (ℕ → Head) → ℕ → ℕ → List Float
-rowGradient h n S = openGradient (membersOfPlan h n S)
-
--- and by head number: x, y and radius of each of the n heads in turn, added up from zeros
+-- the gradient of row S of n heads by head number: x, y and radius of each of the n heads in turn, added up from zeros
 abbrev pub rowGradientByHead : (ℕ → Head) → ℕ → ℕ → List Float
 rowGradientByHead h n S = let cs = circlesOfHeads h n in addGradient cs (replicate (3 * n) zero64) (regionArcs cs (collected cs) S)
 
 -- The numbers of row S of n heads: the area is at most 1,440,000,000,000, and each entry of the gradient at most 72,000,000.
 pub record OpenRowFinite (h : ℕ → Head) (n S : ℕ) : Type 0 where
   pub area : Most 1440000000000 1074 (rowArea openGeometry h n S)
-  pub gradient : Every (Most 72000000 1074) (rowGradient h n S)
+  pub gradient : Every (Most 72000000 1074) (openGradientRow h n S)
   pub gradientByHead : Every (Most 72000000 1074) (rowGradientByHead h n S)
 
 -- At most ten heads, all within the limits: the row of any set of them, the empty set too.
@@ -44,8 +40,8 @@ HeadsFinite = (h : ℕ → Head) (n S : ℕ) → n ≤ 10 → S < 2 ^ n → ((i 
 abbrev pub PlanFinite : Type 0
 PlanFinite = (p : Plan) → length (p .heads) ≡ 10 → planAnswer p ≡ Taken → (S : ℕ) → S < 2 ^ p .n → OpenRowFinite (headAt p) (p .n) S
 
--- The afresh table of open rows of a taken plan, for any list of sets: every number, where the one for row 0 is so bounded.
+-- The afresh table of open rows of a taken plan, for any list of sets: every number.
 abbrev pub TableFinite : Type 0
 TableFinite =
-    (box : Ground → Float) (sets : Plan → ℕ → Bool) (p : Plan) → length (p .heads) ≡ 10 → planAnswer p ≡ Taken → Most 1440000000000 1074 (box (p .ground))
-    → (S : ℕ) → S < 2 ^ p .n → Most 1440000000000 1074 (afresh (openMethod box sets) p S .number)
+    (sets : Plan → ℕ → Bool) (p : Plan) → length (p .heads) ≡ 10 → planAnswer p ≡ Taken
+    → (S : ℕ) → S < 2 ^ p .n → Most 1440000000000 1074 (afresh (openMethod sets) p S .number)

@@ -23,7 +23,7 @@ use Rattle.plan.specs.Limits.{HeadWithin, Acceptable, AcceptableEdit, noHead}
 use Rattle.plan.proofs.Exactly.{plan-taken, edit-taken}
 use Rattle.plan.proofs.Keeps.{applied-acceptable}
 use Rattle.regions.specs.Row.{isSingle}
-use Rattle.regions.specs.Edit.{Row, absent, present, overlaps, meetsAny, met, reworked, editedRow}
+use Rattle.regions.specs.Edit.{Row, absent, present, boxRow, overlaps, meetsAny, met, reworked, editedRow}
 use Rattle.regions.specs.Run as Run
 use Rattle.regions.specs.Table.{Method, Sheet, headAt, areaAt, afresh, metBy, edited, leaves, sheetStep, bookStep}
 use Rattle.regions.specs.Demand.{Faithful, AfreshRows, ListEndsAfresh, Reworks, EditReworksExactly, RefusedLeavesAll}
@@ -50,10 +50,10 @@ edit-afresh : (m : Method) → Faithful m → (p : Plan) (e : Edit) → length (
 unfolding edited
 edit-afresh m f p e ten ok oke rows fresh S hS =
     rw (lt-ltb S (2 ^ p .n) hS)
-    (subst (λ v. editedRow (2 ^ e .head) (met (headAt p (e .head) ∷ v ∷ []) (headAt p) (p .n) (e .head)) (areaAt m (applied p e)) (m .sets p) (m .sets (applied p e)) rows S ≡ afresh m (applied p e) S)
+    (subst (λ v. editedRow (m .boxed) (2 ^ e .head) (met (headAt p (e .head) ∷ v ∷ []) (headAt p) (p .n) (e .head)) (areaAt m (applied p e)) (m .sets p) (m .sets (applied p e)) rows S ≡ afresh m (applied p e) S)
     (head-edited p e ten small)
     (edited-afresh (m .geometry (p .ground)) (headAt p) (headAt (applied p e)) (p .n) (e .head) (head-other p e ten small) apart
-    (m .boxArea (p .ground)) (m .sets p) (m .sets (applied p e)) rows S hS (fresh S hS)))
+    (m .boxed) (m .boxArea (p .ground)) (m .sets p) (m .sets (applied p e)) rows S hS (fresh S hS)))
   where
     small : e .head < 10
     small = let a = ok .count in let b = oke .head in omega arith
@@ -152,7 +152,7 @@ module _ (m : Method) (p : Plan) (e : Edit) (rows : ℕ → Row) where
   row-gone zero z h a = absurd (omega arith)
   row-gone (suc S) z h a = rw (lt-ltb (suc S) (2 ^ p .n) h, a)
 
-  row-ground : edited m p e rows 0 ≡ present (rows 0 .number)
+  row-ground : edited m p e rows 0 ≡ boxRow (m .boxed) (rows 0 .number)
   unfolding edited editedRow
   row-ground = rw (lt-ltb 0 (2 ^ p .n) (pow-pos (p .n)))
 

@@ -12,7 +12,7 @@ use Rattle.heads.specs.Pair.{meetsOf}
 use Rattle.masks.specs.Mask.{inSet}
 use Rattle.masks.specs.Gather.{in-gather}
 use Rattle.regions.specs.Row.{Geometry, isSingle, rowArea}
-use Rattle.regions.specs.Edit.{Row, absent, present, afreshRow, overlaps, meetsAny, met, reworked, editedRow}
+use Rattle.regions.specs.Edit.{Row, absent, present, boxRow, afreshRow, overlaps, meetsAny, met, reworked, editedRow}
 use Rattle.regions.proofs.Masks.{no-overlap, own-head, head-below}
 use Rattle.regions.proofs.Kept.{members-same}
 
@@ -64,12 +64,16 @@ module _ (g : Geometry) (h h' : ℕ → Head) (n k : ℕ) (same : (i : ℕ) → 
       clear s j i = unmet j (unequal j i) (head-below S n j hS i) (no-overlap S (met (h k ∷ h' k ∷ []) h n k) j (strict s) i)
 
   -- the edited row of the afresh rows is the afresh row
-  pub edited-afresh : (box : Float) (before after : ℕ → Bool) (rows : ℕ → Row) (S : ℕ) → S < 2 ^ n
-      → rows S ≡ afreshRow box (rowArea g h n) before S
-      → editedRow (2 ^ k) (met (h k ∷ h' k ∷ []) h n k) (rowArea g h' n) before after rows S ≡ afreshRow box (rowArea g h' n) after S
+  pub edited-afresh : (boxed : Bool) (box : Float) (before after : ℕ → Bool) (rows : ℕ → Row) (S : ℕ) → S < 2 ^ n
+      → rows S ≡ afreshRow boxed box (rowArea g h n) before S
+      → editedRow boxed (2 ^ k) (met (h k ∷ h' k ∷ []) h n k) (rowArea g h' n) before after rows S ≡ afreshRow boxed box (rowArea g h' n) after S
   unfolding editedRow afreshRow
-  edited-afresh box before after rows zero hS e = ap (λ r. present (r .number)) e
-  edited-afresh box before after rows (suc S) hS e = go (after (suc S)) (reworked (2 ^ k) (met (h k ∷ h' k ∷ []) h n k) before (suc S)) refl
+  edited-afresh boxed box before after rows zero hS e = by boxed e
+    where
+      by : (b : Bool) → rows zero ≡ boxRow b box → boxRow b (rows zero .number) ≡ boxRow b box
+      by true e = ap (λ r. present (r .number)) e
+      by false e = refl
+  edited-afresh boxed box before after rows (suc S) hS e = go (after (suc S)) (reworked (2 ^ k) (met (h k ∷ h' k ∷ []) h n k) before (suc S)) refl
     where
       go : (a r : Bool) → reworked (2 ^ k) (met (h k ∷ h' k ∷ []) h n k) before (suc S) ≡ r
           → cond a (present (cond r (rowArea g h' n (suc S)) (rows (suc S) .number))) absent ≡ cond a (present (rowArea g h' n (suc S))) absent

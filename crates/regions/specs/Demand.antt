@@ -18,7 +18,7 @@ use Rattle.plan.specs.Book.{Entry, headOf, applied, book, answers}
 use Rattle.plan.specs.Checks.{planAnswer}
 use Rattle.plan.specs.Limits.{HeadWithin}
 use Rattle.regions.specs.Row.{isSingle}
-use Rattle.regions.specs.Edit.{Row, present, absent}
+use Rattle.regions.specs.Edit.{Row, present, absent, boxRow}
 use Rattle.regions.specs.Run as Run
 use Rattle.regions.specs.Table.{Method, Sheet, headAt, areaAt, afresh, sheetStep}
 
@@ -50,8 +50,8 @@ ListEndsAfresh =
 -- Which row each row number has after a taken edit of the plan p, from the rows handed in, whatever they hold. "Still present" and
 -- "newly present" compare the sets of the plans before and after.
 pub record Reworks (m : Method) (p : Plan) (e : Edit) (rows rows' : ℕ → Row) : Type 0 where
-  -- row 0 keeps the number handed in
-  pub ground : rows' 0 ≡ present (rows 0 .number)
+  -- row 0, where there is a box, keeps the number handed in
+  pub ground : rows' 0 ≡ boxRow (m .boxed) (rows 0 .number)
   -- no set after the edit: absent
   pub gone : (S : ℕ) → 0 < S → S < 2 ^ p .n → m .sets (applied p e) S ≡ false → rows' S ≡ absent
   -- a set with the edited head is worked out

@@ -24,11 +24,15 @@ absent = record { byte = 0; number = fin false 0 (pos 0) }
 abbrev pub present : Float → Row
 present v = record { byte = 1; number = v }
 
+-- "Row 0, always present where there is a box": its row with a number, or none without a box.
+abbrev pub boxRow : Bool → Float → Row
+boxRow boxed v = cond boxed (present v) absent
+
 -- Document 01, "Afresh": "Row 0 has byte 1 and the box area. A row whose mask is among the plan's sets has byte 1 and its
--- area as defined. Any other row has byte 0 and +0." The box's area, the area of a set and the sets are handed in.
-unfoldable pub afreshRow : Float → (ℕ → Float) → (ℕ → Bool) → ℕ → Row
-afreshRow box area sets zero = present box
-afreshRow box area sets (suc S) = cond (sets (suc S)) (present (area (suc S))) absent
+-- area as defined. Any other row has byte 0 and +0." Whether there is a box, its area, the area of a set and the sets are handed in.
+unfoldable pub afreshRow : Bool → Float → (ℕ → Float) → (ℕ → Bool) → ℕ → Row
+afreshRow boxed box area sets zero = boxRow boxed box
+afreshRow boxed box area sets (suc S) = cond (sets (suc S)) (present (area (suc S))) absent
 
 -- two sets have a head in common
 abbrev pub overlaps : ℕ → ℕ → Bool
@@ -53,8 +57,8 @@ reworked own met before S = overlaps S own || (not (before S) || (not (isSingle 
 
 -- A row after an edit. Row 0 keeps its number; a row reworked has its area; "still present" and not reworked, it keeps the
 -- number handed in, even a false one; no set any more, it is absent. The byte handed in is not read.
-unfoldable pub editedRow : ℕ → ℕ → (ℕ → Float) → (ℕ → Bool) → (ℕ → Bool) → (ℕ → Row) → ℕ → Row
+unfoldable pub editedRow : Bool → ℕ → ℕ → (ℕ → Float) → (ℕ → Bool) → (ℕ → Bool) → (ℕ → Row) → ℕ → Row
 unfolding reworked
-editedRow own met area before after rows zero = present (rows zero .number)
-editedRow own met area before after rows (suc S) =
+editedRow boxed own met area before after rows zero = boxRow boxed (rows zero .number)
+editedRow boxed own met area before after rows (suc S) =
     cond (after (suc S)) (present (cond (reworked own met before (suc S)) (area (suc S)) (rows (suc S) .number))) absent

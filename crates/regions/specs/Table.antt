@@ -20,9 +20,11 @@ use Rattle.regions.specs.Row.{Geometry, rowArea}
 use Rattle.regions.specs.Edit.{Row, afreshRow, met, editedRow}
 use Rattle.regions.specs.Run.{Step}
 
--- How a plan's table is worked out: the geometry in a box, the box's area, and which masks are among a plan's sets.
+-- How a plan's table is worked out: the geometry in a box, whether the table is of rows in a box and so has a row 0, the box's
+-- area, and which masks are among a plan's sets.
 pub record Method : Type 1 where
   pub geometry : Ground → Geometry
+  pub boxed : Bool
   pub boxArea : Ground → Float
   pub sets : Plan → ℕ → Bool
 
@@ -36,7 +38,7 @@ areaAt m p S = rowArea (m .geometry (p .ground)) (headAt p) (p .n) S
 
 -- the plan's afresh rows
 abbrev pub afresh : Method → Plan → ℕ → Row
-afresh m p S = afreshRow (m .boxArea (p .ground)) (areaAt m p) (m .sets p) S
+afresh m p S = afreshRow (m .boxed) (m .boxArea (p .ground)) (areaAt m p) (m .sets p) S
 
 -- the heads that head k, the edited one, meets before or after
 abbrev pub metBy : Plan → Edit → ℕ
@@ -46,7 +48,7 @@ metBy p e = met (headAt p (e .head) ∷ headOf e ∷ []) (headAt p) (p .n) (e .h
 unfoldable pub edited : Method → Plan → Edit → (ℕ → Row) → ℕ → Row
 edited m p e rows S =
     cond (ltb S (2 ^ p .n))
-    (editedRow (2 ^ e .head) (metBy p e) (areaAt m (applied p e)) (m .sets p) (m .sets (applied p e)) rows S)
+    (editedRow (m .boxed) (2 ^ e .head) (metBy p e) (areaAt m (applied p e)) (m .sets p) (m .sets (applied p e)) rows S)
     (rows S)
 
 -- a plan and its table

@@ -8,12 +8,12 @@ use Rattle.boundary.proofs.members.counted_for.Tie as tie
 returns : tie.Need-returns
 unfolding countedFor
 returns c = let s = c .before .before .before in
-    rw (and-test 64 (s .args .mask) (s .args .q .adopters) (s .fits .mask .fits), eq-eqb _ _ (c .if1 .taken))
+    rw (eq-eqb _ _ (c .if1 .taken)) (and-test 64 (s .args .mask) (s .args .q .adopters) (s .fits .mask .fits))
 
 returns-2 : tie.Need-returns-2
 unfolding countedFor
 returns-2 c = let s = c .before .before .before .before .before in
-    rw (and-test 64 (s .args .mask) (s .args .q .adopters) (s .fits .mask .fits), ne-eqb _ _ (c .before .before .if1 .left), eq-eqb _ _ (c .if2 .taken))
+    rw (ne-eqb _ _ (c .before .before .if1 .left), eq-eqb _ _ (c .if2 .taken)) (and-test 64 (s .args .mask) (s .args .q .adopters) (s .fits .mask .fits))
 
 returns-3 : tie.Need-returns-3
 unfolding countedFor
