@@ -16,11 +16,10 @@ use Rattle.boundary.specs.Every.{Every, every-append, every-map}
 use Rattle.boundary.specs.Outline.{Member, circlesOf, outline}
 use Rattle.outline.specs.Area.{areaOf, addGradient, openArea, openGradient}
 use Rattle.boundary.specs.Set.{headsOf, circleAt, membersOf, numbered, arcsHeld, regionArcs}
-use Rattle.outline.specs.Counts.{heads-below}
+use Rattle.outline.specs.Counts.{heads-below, outline-few}
 use Rattle.outline.proofs.Walking.{circles-of-members, members-many}
 use Rattle.clip.specs.Area.{emptyBox, addEdges, clippedAreaOf, clippedArea}
 use Rattle.clip.specs.Gradient.{with-gradient, clippedWithGradient, clippedOnto, clippedGradient}
-use Rattle.outline.specs.Counts.{outline-few}
 use Rattle.outline.specs.Points.{collected}
 use Rattle.areas.specs.Open.{circlesOfHeads}
 use Rattle.areas.proofs.Open.{circles-length}

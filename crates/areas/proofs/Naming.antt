@@ -14,8 +14,7 @@ use Rattle.geometry.specs.Floats.{_+ᶠ_, _*ᶠ_}
 use Rattle.geometry.specs.declared.circle.Circle.{Circle}
 use Rattle.boundary.specs.declared.arcs.BoundaryArc.{BoundaryArc}
 use Rattle.boundary.specs.Every.{Every, every-append, every-map, every-upTo, every-at}
-use Rattle.boundary.specs.Outline.{Member, circlesOf, owned, pointAt, probe, gap, collapsed, fullCircle, between, arcFrom, arcsAt, anglesOf, outlineFrom, outline}
-use Rattle.boundary.specs.Outline.{noCircle}
+use Rattle.boundary.specs.Outline.{Member, circlesOf, owned, pointAt, probe, gap, collapsed, fullCircle, between, arcFrom, arcsAt, anglesOf, outlineFrom, outline, noCircle}
 use Rattle.boundary.specs.Set.{circleAt, numbered}
 use Rattle.inside.proofs.Spanning.{getD-map}
 

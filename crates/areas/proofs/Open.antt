@@ -41,9 +41,8 @@ use Rattle.geometry.specs.Circle.{intersectionPoints}
 use Rattle.geometry.specs.declared.point.Point.{Point}
 use Rattle.geometry.specs.declared.circle.Circle.{Circle}
 use Rattle.boundary.specs.declared.points.IntersectionPoint.{IntersectionPoint}
-use Rattle.boundary.specs.Outline.{Member, circlesOf, outline}
+use Rattle.boundary.specs.Outline.{Member, circlesOf, outline, noCircle}
 use Rattle.boundary.specs.declared.arcs.BoundaryArc.{BoundaryArc}
-use Rattle.boundary.specs.Outline.{noCircle}
 use Rattle.outline.specs.Area.{areaOf, openArea, addGradient, openGradient}
 use Rattle.boundary.specs.Set.{headsOf, countedFor, pointsFor, circleAt, memberAt, membersOf}
 use Rattle.outline.specs.Points.{adopts, met, pairPoints, rowPoints, collected}

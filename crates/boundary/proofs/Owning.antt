@@ -8,8 +8,7 @@ use lib.ListN.{length, getD, drop, drop-of-length-le}
 use lib.Seq.{drop-cons}
 use Rattle.geometry.specs.declared.point.Point.{Point}
 use Rattle.geometry.specs.declared.circle.Circle.{Circle}
-use Rattle.boundary.specs.Outline.{lets, ownedFrom}
-use Rattle.boundary.specs.Outline.{noCircle}
+use Rattle.boundary.specs.Outline.{lets, ownedFrom, noCircle}
 
 module _ (k : ℕ) (p : Point) (cs : List Circle) (l : ℕ) where
   -- the member at l lets k have p: the rest decide

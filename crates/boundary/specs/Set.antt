@@ -12,8 +12,7 @@ use Rattle.geometry.specs.declared.point.Point.{Point}
 use Rattle.geometry.specs.declared.circle.Circle.{Circle}
 use Rattle.boundary.specs.declared.points.IntersectionPoint.{IntersectionPoint}
 use Rattle.boundary.specs.declared.arcs.BoundaryArc.{BoundaryArc}
-use Rattle.boundary.specs.Outline.{Member, outline}
-use Rattle.boundary.specs.Outline.{noCircle}
+use Rattle.boundary.specs.Outline.{Member, outline, noCircle}
 
 -- the numbers below n of the heads of S, in order
 unfoldable pub headsOf : ℕ → ℕ → List ℕ

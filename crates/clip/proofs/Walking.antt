@@ -12,9 +12,8 @@ use Rattle.regions.specs.Row.{upTo}
 use Rattle.geometry.specs.declared.circle.Circle.{Circle}
 use Rattle.boundary.specs.declared.points.IntersectionPoint.{IntersectionPoint}
 use Rattle.boundary.specs.declared.arcs.BoundaryArc.{BoundaryArc}
-use Rattle.boundary.specs.Outline.{Member, circlesOf, angleAbout, fullCircle, arcsAt, outlineFrom, outline}
+use Rattle.boundary.specs.Outline.{Member, circlesOf, angleAbout, fullCircle, arcsAt, outlineFrom, outline, noCircle}
 use Rattle.boundary.specs.Sort.{sorted}
-use Rattle.boundary.specs.Outline.{noCircle}
 use Rattle.boundary.specs.Set.{headsOf, pointsFor, circleAt, membersOf, membersWith}
 use Rattle.outline.proofs.Walking.{outline-step, outline-end, outline-one, outline-other, members-are, circles-of-members}
 

@@ -8,8 +8,7 @@ use Rattle.geometry.specs.declared.bounds.Bounds.{Bounds}
 use Rattle.geometry.specs.declared.circle.Circle.{Circle}
 use Rattle.binary64.specs.Constants.{zero64, half64}
 use Rattle.geometry.specs.Floats.{_+ᶠ_, _-ᶠ_, _*ᶠ_, _≤ᶠ_}
-use Rattle.boundary.specs.Outline.{Member, circlesOf, outline}
-use Rattle.boundary.specs.Outline.{noCircle}
+use Rattle.boundary.specs.Outline.{Member, circlesOf, outline, noCircle}
 use Rattle.boundary.specs.declared.arcs.BoundaryArc.{BoundaryArc}
 use Rattle.inside.specs.Span.{Interval, horizontalSpan, verticalSpan}
 use Rattle.inside.specs.Parts.{clippedArcIntegral}

@@ -1,5 +1,5 @@
 -- The area of a set inside the box together with its gradient: x, y and radius of each circle in turn, then centre x, centre y
--- and the two size parameters of the box. The area is summed in an order of its own, which is not that of specs/Area.antt.
+-- and the two size parameters of the box. The area is summed from the differences of sines and cosines, as the Rust does here, and not as in specs/Area.antt.
 use Prim.Native.Nat.{ℕ, _+_, _*_}
 use mathlib.Core.Bool.{Bool, true, false, cond}
 use mathlib.Core.List.{List, [], _∷_, foldl}
@@ -11,8 +11,7 @@ use Rattle.geometry.specs.declared.bounds.Bounds.{Bounds}
 use Rattle.geometry.specs.declared.circle.Circle.{Circle}
 use Rattle.binary64.specs.Constants.{zero64, half64}
 use Rattle.geometry.specs.Floats.{_+ᶠ_, _-ᶠ_, _*ᶠ_, _/ᶠ_}
-use Rattle.boundary.specs.Outline.{Member, circlesOf, outline}
-use Rattle.boundary.specs.Outline.{noCircle}
+use Rattle.boundary.specs.Outline.{Member, circlesOf, outline, noCircle}
 use Rattle.outline.specs.Area.{addAt, subAt}
 use Rattle.boundary.specs.declared.arcs.BoundaryArc.{BoundaryArc}
 use Rattle.clip.specs.declared.edges.Edge.{Edge}

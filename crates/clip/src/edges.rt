@@ -13,10 +13,10 @@ ghost use Rattle.inside.specs.Span.{spans};
 ghost use Rattle.clip.specs.Gradient.{with-gradient, moved, edgeSlopes, addSpanWithGradient, bottomEdge, rightEdge, topEdge, leftEdge, addEdgesWithGradient};
 
 // x added to entry i, or taken from it.
-fn moved(grad: &mut [f64], outward: bool, i: usize, x: f64)
-    ensures { λ r. ⌜ now (grad .exit) ≡ moved outward (now (grad .entry)) i x ⌝ }
+fn moved(grad: &mut [f64], added: bool, i: usize, x: f64)
+    ensures { λ r. ⌜ now (grad .exit) ≡ moved added (now (grad .entry)) i x ⌝ }
 {
-    if outward {
+    if added {
         add_at(grad, i, x);
     } else {
         sub_at(grad, i, x);

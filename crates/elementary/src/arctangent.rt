@@ -4,10 +4,8 @@
 ghost use mathlib.Core.Path.{_≡_};
 ghost use Prim.Native.Nat.{_≤_};
 ghost use Rattle.series.specs.Kernel.{horner as hornerOf};
-ghost use Rattle.cells.specs.Arc.{arc as arcOf};
-ghost use Rattle.cells.specs.Arc.{firstArc, arcs, middleArc, laterArcs, quarterTurn};
-ghost use Rattle.elementary.specs.Arctangent.{tangent as tangentOf};
-ghost use Rattle.elementary.specs.Arctangent.{firstQuarter, upperHalf, inDomain};
+ghost use Rattle.cells.specs.Arc.{arc as arcOf, firstArc, arcs, middleArc, laterArcs, quarterTurn};
+ghost use Rattle.elementary.specs.Arctangent.{tangent as tangentOf, firstQuarter, upperHalf, inDomain};
 ghost use Rattle.elementary.specs.Arctangent.{atan2 as atan2Of};
 ghost use Rattle.elementary.specs.Arctangent.{cofunction as cofunctionOf, inUnit, acos as acosOf, asin as asinOf};
 ghost use Rattle.elementary.specs.ArctangentSteps.{Ordered, InQuarter};

@@ -23,8 +23,7 @@ use Rattle.geometry.specs.declared.circle.Circle.{Circle}
 use Rattle.boundary.specs.declared.arcs.BoundaryArc.{BoundaryArc}
 use Rattle.boundary.specs.Every.{Every, every-append, every-at}
 use Rattle.outline.specs.Counts.{sorted-length}
-use Rattle.boundary.specs.Outline.{circlesOf, outline}
-use Rattle.boundary.specs.Outline.{noCircle}
+use Rattle.boundary.specs.Outline.{circlesOf, outline, noCircle}
 use Rattle.inside.specs.Breaks.{strictlyInside, copies, periodicInRange, verticalCrossings, horizontalCrossings, crossings, breaksBetween, breaks}
 use Rattle.inside.specs.Parts.{summed, subArc, addPart, clippedArcIntegral}
 use Rattle.clip.specs.Area.{emptyBox, addClippedArc, addClippedArcs, clippedAreaOf, clippedArea}

@@ -12,9 +12,8 @@ use Rattle.binary64.specs.Constants.{zero64, two64}
 use Rattle.binary64.specs.Magnitude.{Most, Least}
 use Rattle.binary64.proofs.Magnitude.{literal-least, most-weaken, most-zero, add-most, sub-most, mul-most, div-most}
 use Rattle.plan.specs.declared.Ground.{Ground}
-use Rattle.plan.specs.Limits.{Within}
+use Rattle.plan.specs.Limits.{Within, GroundWithin}
 use Rattle.plan.proofs.Exactly.{plan-taken}
-use Rattle.plan.specs.Limits.{GroundWithin}
 use Rattle.plan.specs.Table.{gradientWidth}
 use Rattle.regions.specs.Table.{headAt, areaAt}
 use Rattle.geometry.specs.Floats.{_/ᶠ_}

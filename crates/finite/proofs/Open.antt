@@ -28,8 +28,7 @@ use Rattle.geometry.specs.declared.circle.Circle.{Circle}
 use Rattle.boundary.specs.declared.arcs.BoundaryArc.{BoundaryArc}
 use Rattle.boundary.specs.declared.points.IntersectionPoint.{IntersectionPoint}
 use Rattle.boundary.specs.Every.{Every, every-append, every-map, every-upTo, every-at}
-use Rattle.boundary.specs.Outline.{Member, circlesOf, angleAbout, wrapAngle, gap, collapsed, owned, pointAt, probe, fullCircle, between, arcFrom, arcsAt, anglesOf, outlineFrom, outline}
-use Rattle.boundary.specs.Outline.{noCircle}
+use Rattle.boundary.specs.Outline.{Member, circlesOf, angleAbout, wrapAngle, gap, collapsed, owned, pointAt, probe, fullCircle, between, arcFrom, arcsAt, anglesOf, outlineFrom, outline, noCircle}
 use Rattle.outline.specs.Area.{arcTerms, addArc, addArcs, areaOf, openArea, addAt, subAt, arcSlopes, addSlopes, addGradient, openGradient}
 use Rattle.boundary.specs.Set.{headsOf, membersOf, numbered, arcsHeld, regionArcs}
 use Rattle.finite.specs.Arcs.{ShortArc, OutlineShort, OutlineEnds}

@@ -18,8 +18,7 @@ use Rattle.regions.specs.Table.{areaAt, headAt}
 use Rattle.exact.specs.Circle.{circleOf}
 use Rattle.geometry.specs.declared.circle.Circle.{Circle}
 use Rattle.boundary.specs.declared.points.IntersectionPoint.{IntersectionPoint}
-use Rattle.boundary.specs.Outline.{noCircle}
-use Rattle.boundary.specs.Outline.{circlesOf}
+use Rattle.boundary.specs.Outline.{noCircle, circlesOf}
 use Rattle.boundary.specs.Set.{headsOf, circleAt, membersOf}
 use Rattle.outline.specs.Points.{collected}
 use Rattle.outline.specs.Counts.{heads-below, outline-few}

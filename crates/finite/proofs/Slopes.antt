@@ -19,8 +19,7 @@ use Rattle.geometry.specs.declared.bounds.Bounds.{Bounds}
 use Rattle.geometry.specs.declared.circle.Circle.{Circle}
 use Rattle.boundary.specs.declared.arcs.BoundaryArc.{BoundaryArc}
 use Rattle.boundary.specs.Every.{Every, every-map, every-at}
-use Rattle.boundary.specs.Outline.{circlesOf, outline}
-use Rattle.boundary.specs.Outline.{noCircle}
+use Rattle.boundary.specs.Outline.{circlesOf, outline, noCircle}
 use Rattle.outline.specs.Area.{addAt, subAt}
 use Rattle.clip.specs.declared.edges.Edge.{Edge}
 use Rattle.inside.specs.Breaks.{breaks}

@@ -48,8 +48,9 @@ ClippedAreaFinite =
     (box : Bounds) (all own : List Circle) (arcs : List BoundaryArc) → BoxInDomain box → Every InDomain all → Every InDomain own
     → Every ShortArc arcs → length arcs ≤ 180 → Most 41197685760000 1074 (clippedAreaOf box all own arcs)
 
--- Likewise the area that goes with the gradient; and each entry of the gradient grows by at most 31,490,604,288: 880,000 for each of 26
--- parts of 180 arcs, and 6,843,051,072 for each of four edges, which is a span and twice a quarter of the side across times it.
+-- Likewise the area that goes with the gradient; and each entry of the gradient grows by at most 31,490,604,288: 880,000 for each part,
+-- of which 26 are allowed an arc, of 180 arcs, and 6,843,051,072 for each of four edges, which is a span and twice a quarter of the
+-- side across times it.
 abbrev pub ClippedGradientFinite : Type 0
 ClippedGradientFinite =
     (box : Bounds) (all own : List Circle) (arcs : List BoundaryArc) (k : ℕ) (g : List Float) → BoxInDomain box → Every InDomain all

@@ -12,8 +12,7 @@ use Rattle.plan.specs.declared.Answer.the-variants.{Taken}
 use Rattle.plan.specs.declared.Ground.{Ground}
 use Rattle.plan.specs.declared.Plan.{Plan}
 use Rattle.plan.specs.Checks.{planAnswer}
-use Rattle.plan.specs.Limits.{HeadWithin}
-use Rattle.plan.specs.Limits.{GroundWithin}
+use Rattle.plan.specs.Limits.{HeadWithin, GroundWithin}
 use Rattle.plan.specs.Table.{gradientWidth}
 use Rattle.regions.specs.Row.{rowArea}
 use Rattle.regions.specs.Table.{headAt, afresh}

@@ -10,11 +10,10 @@ use lib.Ieee.{Float}
 use Rattle.geometry.specs.declared.circle.Circle.{Circle}
 use Rattle.boundary.specs.declared.points.IntersectionPoint.{IntersectionPoint}
 use Rattle.boundary.specs.declared.arcs.BoundaryArc.{BoundaryArc}
-use Rattle.boundary.specs.Outline.{Member, circlesOf, fullCircle, anglesOf, angleAbout, arcsAt, outlineFrom, outline}
+use Rattle.boundary.specs.Outline.{Member, circlesOf, fullCircle, anglesOf, angleAbout, arcsAt, outlineFrom, outline, noCircle}
 use Rattle.boundary.specs.Sort.{sorted}
 use Rattle.binary64.specs.Constants.{zero64, half64}
 use Rattle.geometry.specs.Floats.{_*ᶠ_}
-use Rattle.boundary.specs.Outline.{noCircle}
 use Rattle.outline.specs.Area.{addArc, addArcs, areaOf, openArea}
 use Rattle.outline.proofs.Summing.{addArcs-append}
 use Rattle.outline.proofs.Listing.{take-compose}

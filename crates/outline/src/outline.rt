@@ -1,4 +1,4 @@
-// The outline of a set as a list of arcs, each with its head's number. Rests on `regionArcs` of specs/Set.antt.
+// The outline of a set as a list of arcs, each with its head's number. Rests on `regionArcs` of boundary/specs/Set.antt.
 use boundary::arcs::Arcs;
 use boundary::arcs::BoundaryArc;
 use boundary::arcs::Candidate;

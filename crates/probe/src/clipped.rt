@@ -1,4 +1,4 @@
-// Exports of crate `clip`: spans of edges, areas and gradients in the box of a set of the first n_sets circles. Each works the
+// Exports of crates `inside` and `clip`: spans of edges, areas and gradients in the box of a set of the first n_sets circles. Each works the
 // meeting points out anew.
 ghost use mathlib.Core.Path.{_≡_};
 ghost use Rattle.clip.specs.Area.{clippedAreaOf, clippedArea};

@@ -1,5 +1,5 @@
-// Exports of crate `outline`: meeting points, arcs, open areas and gradients of a set of the first n_sets circles. Each works
-// the meeting points out anew.
+// Exports of crates `boundary` and `outline`: wrapped angles; meeting points, arcs, open areas and gradients of a set of the first
+// n_sets circles. Each works the meeting points out anew.
 ghost use mathlib.Core.Path.{_≡_};
 ghost use lib.ListN.{length, take};
 ghost use Rattle.outline.specs.Area.{areaOf, openArea, addGradient};

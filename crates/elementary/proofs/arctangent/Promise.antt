@@ -15,8 +15,7 @@ use Rattle.series.proofs.Integers.{dist, dist-trans, dist-scale, abs-mul, *ℤ-
 use Rattle.series.proofs.Polynomial.{hval, finer-value}
 use Rattle.series.proofs.Quarter.{dist-signed}
 use Rattle.series.proofs.Sums.{scale, sinFrom, cosFrom, sin79, cos79}
-use Rattle.binary64.specs.Units.{one, Finite, mag, negative}
-use Rattle.binary64.specs.Units.{signedZero}
+use Rattle.binary64.specs.Units.{one, Finite, mag, negative, signedZero}
 use Rattle.binary64.specs.Constants.{zero64, pi}
 use Rattle.binary64.specs.Functions.{absolute}
 use Rattle.binary64.proofs.Units.{pow2-split, one-pos, neg-mag, neg-sign, neg-finite, zero64-finite, zero64-mag}

@@ -1,7 +1,6 @@
 -- `heads::relation_of` meets its contract: a distance cut at the greatest u64 gives the same relation.
 use mathlib.Core.Path.{_≡_, _∙_}
-use Rattle.heads.proofs.Signed.{read-back}
-use Rattle.heads.proofs.Signed.{aboveZero-lt}
+use Rattle.heads.proofs.Signed.{read-back, aboveZero-lt}
 use Rattle.heads.specs.Pair.{radiusOf, squaredDistance}
 use Rattle.heads.specs.Distance.{relation-capped}
 use borrow.Author.Needs.{needs}

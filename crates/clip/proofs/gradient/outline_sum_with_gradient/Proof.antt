@@ -6,8 +6,7 @@ use native.Mathlib.Omega.{arith}
 use lib.ListN.{length, drop, length-take}
 use lib.Seq.{getD-take}
 use Rattle.binary64.specs.Constants.{zero64}
-use Rattle.boundary.specs.Outline.{outlineFrom}
-use Rattle.boundary.specs.Outline.{noCircle}
+use Rattle.boundary.specs.Outline.{outlineFrom, noCircle}
 use Rattle.boundary.specs.Set.{membersWith}
 use Rattle.boundary.specs.Lists.{pointList, headList, circleList}
 use Rattle.boundary.proofs.Arrays.{length-of-values}

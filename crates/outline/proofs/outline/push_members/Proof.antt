@@ -7,8 +7,7 @@ use Prim.Native.Nat.{_+_, _-_, _≤_, _<_}
 use native.Mathlib.Omega.{arith}
 use lib.ListN.{length, take, drop, length-take}
 use lib.Seq.{getD-take, take-all}
-use Rattle.boundary.specs.Outline.{outlineFrom}
-use Rattle.boundary.specs.Outline.{noCircle}
+use Rattle.boundary.specs.Outline.{outlineFrom, noCircle}
 use Rattle.boundary.specs.Set.{membersWith, numbered, arcsHeld}
 use Rattle.boundary.specs.Lists.{pointList, headList, circleList, arcList}
 use Rattle.boundary.proofs.Arrays.{length-of-values}
