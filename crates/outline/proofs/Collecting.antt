@@ -4,11 +4,13 @@ use mathlib.Core.List.{List, [], _++_}
 use Prim.Native.Nat.{ℕ, suc, _+_, _-_, _≤_}
 use native.Mathlib.Numerals.{add-one}
 use native.Mathlib.Omega.{arith}
-use lib.ListN.{take}
+use lib.ListN.{length, take}
+use lib.Seq.{take-all}
 use Rattle.regions.specs.Row.{upTo}
 use Rattle.geometry.specs.declared.circle.Circle.{Circle}
 use Rattle.boundary.specs.declared.points.IntersectionPoint.{IntersectionPoint}
-use Rattle.outline.specs.Points.{pairPoints, rowPoints}
+use Rattle.outline.specs.Points.{pairPoints, rowPoints, collected}
+use Rattle.outline.specs.Counts.{collected-few}
 use Rattle.outline.proofs.Listing.{pushed-on}
 
 -- the points of head i with one head more, pushed
@@ -29,3 +31,9 @@ pub rows-on : (m : ℕ) (cs : List Circle) (i : ℕ) (l more : List Intersection
     → l ≡ take m (upTo (rowPoints cs) i) → more ≡ take m (l ++ rowPoints cs i) → more ≡ take m (upTo (rowPoints cs) (i + 1))
 unfolding upTo
 rows-on m cs i l more e f = rw (add-one i) (pushed-on m [] l more (upTo (rowPoints cs) i) (rowPoints cs i) e f)
+
+-- those of all heads: ten circles have no more than the list holds
+pub rows-end : (cs : List Circle) (i : ℕ) (l : List IntersectionPoint) → length cs ≤ 10 → i ≡ length cs
+    → l ≡ take 90 (upTo (rowPoints cs) i) → l ≡ collected cs
+unfolding collected
+rows-end cs i l few e f = f ∙ rw e (take-all 90 (collected cs) (collected-few cs few))

@@ -3,6 +3,7 @@ use boundary::points::IntersectionPoint;
 use boundary::points::Intersections;
 use geometry::circle::Circle;
 use geometry::meeting::Meeting;
+use geometry::pair::Pair;
 use geometry::point::Point;
 ghost use mathlib.Core.Path.{_≡_};
 ghost use mathlib.Core.Bool.{cond};
@@ -103,13 +104,14 @@ fn push_pair(
     ensures { λ r. ⌜ (list .n ≡ length (pointList list) → r .n ≡ length (pointList r)) ⌝ }
 {
     let first = circles[i];
-    let meeting = first.intersection_points(circles[j]);
+    let pair = Pair::new(i, j, first, circles[j]);
+    let meeting = pair.meeting;
     match meeting {
         Meeting::None => list,
-        Meeting::One(x, y) => push_met(list, circles, n, i, j, Point::new(x, y)),
+        Meeting::One(x, y) => push_met(list, circles, n, pair.first, pair.second, Point::new(x, y)),
         Meeting::Two(x, y, u, v) => {
-            let one = push_met(list, circles, n, i, j, Point::new(x, y));
-            push_met(one, circles, n, i, j, Point::new(u, v))
+            let one = push_met(list, circles, n, pair.first, pair.second, Point::new(x, y));
+            push_met(one, circles, n, pair.first, pair.second, Point::new(u, v))
         }
     }
 }

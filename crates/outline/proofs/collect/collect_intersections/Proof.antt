@@ -5,12 +5,10 @@ use mathlib.Core.Path.{_≡_, refl, ap, _∙_}
 use Prim.Native.Nat.{_-_, _≤_}
 use native.Mathlib.Omega.{arith}
 use lib.ListN.{length, take, length-take}
-use lib.Seq.{take-all}
 use Rattle.regions.specs.Row.{upTo}
-use Rattle.outline.specs.Points.{rowPoints, collected}
+use Rattle.outline.specs.Points.{rowPoints}
 use Rattle.boundary.specs.Lists.{pointList}
-use Rattle.outline.specs.Counts.{collected-few}
-use Rattle.outline.proofs.Collecting.{rows-on}
+use Rattle.outline.proofs.Collecting.{rows-on, rows-end}
 use Rattle.outline.proofs.collect.collect_intersections.Statement.{statement}
 use Rattle.outline.proofs.collect.collect_intersections.Tie as tie
 
@@ -32,10 +30,9 @@ unfolding upTo
 loop-holds c = (ten (c .before), omega arith, omega arith, refl, refl)
 
 returns : tie.Need-returns Inv-loop μ-loop
-unfolding collected
 returns c = let l = c .before .before .loop in let a = c .before .before .before .before .args in
-    let e : l .i ≡ length (take (a .n-sets) (a .circles)) = omega (arith, length-take (a .n-sets) (a .circles)) in
-    let listed : pointList (l .list) ≡ collected (take (a .n-sets) (a .circles)) = (rw e at (l .inv .3)) ∙ take-all 90 (collected (take (a .n-sets) (a .circles))) (collected-few (take (a .n-sets) (a .circles)) (omega (arith, length-take (a .n-sets) (a .circles)))) in
+    let many = length-take (a .n-sets) (a .circles) in
+    let listed = rows-end (take (a .n-sets) (a .circles)) (l .i) (pointList (l .list)) (omega (arith, many)) (omega (arith, many)) (l .inv .3) in
     (listed, l .inv .4 ∙ ap length listed)
 
 push-row-requires : tie.Need-push-row-requires Inv-loop μ-loop
@@ -52,10 +49,9 @@ loop-again c = let l = c .before .before .before .loop in let a = c .before .bef
     (l .inv .0, omega arith, omega arith, rows-on 90 (take (a .n-sets) (a .circles)) (l .i) (pointList (l .list)) (pointList (c .push-row .result)) (l .inv .3) (c .push-row .ensures .0), c .push-row .ensures .1 (l .inv .4))
 
 returns-2 : tie.Need-returns-2 Inv-loop μ-loop
-unfolding collected
 returns-2 c = let l = c .before .loop in let a = c .before .before .before .args in
-    let e : l .i ≡ length (take (a .n-sets) (a .circles)) = omega (arith, length-take (a .n-sets) (a .circles)) in
-    let listed : pointList (l .list) ≡ collected (take (a .n-sets) (a .circles)) = (rw e at (l .inv .3)) ∙ take-all 90 (collected (take (a .n-sets) (a .circles))) (collected-few (take (a .n-sets) (a .circles)) (omega (arith, length-take (a .n-sets) (a .circles)))) in
+    let many = length-take (a .n-sets) (a .circles) in
+    let listed = rows-end (take (a .n-sets) (a .circles)) (l .i) (pointList (l .list)) (omega (arith, many)) (omega (arith, many)) (l .inv .3) in
     (listed, l .inv .4 ∙ ap length listed)
 
 pub collect-intersections-spec : {M : Type 1} → statement M

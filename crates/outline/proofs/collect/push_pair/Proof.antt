@@ -20,11 +20,17 @@ within : (c : tie.Start) {i : ℕ} → i < length (take (c .args .n) (c .args .t
 within c h = let long : length (c .args .t2) ≡ 10 = search needs in let e = length-take (c .args .n) (c .args .t2) in (omega arith, omega arith)
 
 -- the points of the pair are those of the meeting that was found
-found : (c : tie.After-intersection-points) → let a = c .before .before .before .args in
-    pairPoints (take (a .n) (a .t2)) (a .i) (a .j) ≡ map (met (take (a .n) (a .t2)) (a .i) (a .j)) (points (c .intersection-points .result))
+found : (d : tie.After-new) → let a = d .before .before .before .args in let pair = d .new .result in
+    pairPoints (take (a .n) (a .t2)) (a .i) (a .j) ≡ map (met (take (a .n) (a .t2)) (pair .first) (pair .second)) (points (pair .meeting))
 unfolding pairPoints
-found c = let s = c .before .before .before in let a = s .args in
-    rw (getD-take (a .n) (a .t2) (a .i) noCircle (within s (s .pre .0) .1), getD-take (a .n) (a .t2) (a .j) noCircle (within s (s .pre .1) .1)) (ap (map (met (take (a .n) (a .t2)) (a .i) (a .j))) (sym (c .intersection-points .ensures)))
+found d = let s = d .before .before .before in let a = s .args in let made = d .new .ensures in
+    rw (made .0, made .1, getD-take (a .n) (a .t2) (a .i) noCircle (within s (s .pre .0) .1), getD-take (a .n) (a .t2) (a .j) noCircle (within s (s .pre .1) .1))
+    (ap (map (met (take (a .n) (a .t2)) (a .i) (a .j))) (sym (made .2)))
+
+-- its heads are among the first n
+parents : (d : tie.After-new) → let a = d .before .before .before .args in let pair = d .new .result in
+    (pair .first < length (take (a .n) (a .t2))) × (pair .second < length (take (a .n) (a .t2)))
+parents d = rw (d .new .ensures .0, d .new .ensures .1) (d .before .before .before .pre)
 
 -- the array of points has 90 places
 long : (c : tie.Start) → length (c .args .list .all) ≡ 90
@@ -36,14 +42,14 @@ mul-first c = omega (arith, within c (c .pre .0))
 array-copy-out-first : tie.Need-array-copy-out-first
 array-copy-out-first c = within c (c .pre .0) .0
 
-mul-intersection-points : tie.Need-mul-intersection-points
-mul-intersection-points c = let s = c .before in omega (arith, within s (s .pre .1))
+mul-new : tie.Need-mul-new
+mul-new c = let s = c .before in omega (arith, within s (s .pre .1))
 
-array-copy-out-intersection-points : tie.Need-array-copy-out-intersection-points
-array-copy-out-intersection-points c = let s = c .before in within s (s .pre .1) .0
+array-copy-out-new : tie.Need-array-copy-out-new
+array-copy-out-new c = let s = c .before in within s (s .pre .1) .0
 
-intersection-points-requires : tie.Need-intersection-points-requires
-intersection-points-requires c κs = search needs
+new-requires : tie.Need-new-requires
+new-requires c κs = search needs
 
 enum-told : tie.Need-enum-told
 enum-told c = search needs
@@ -51,26 +57,26 @@ enum-told c = search needs
 enum-known-meeting : tie.Need-enum-known-meeting
 enum-known-meeting c = search needs
 
-new-requires : tie.Need-new-requires
-new-requires c κs = search needs
+new-requires-2 : tie.Need-new-requires-2
+new-requires-2 c κs = search needs
 
 push-met-requires : tie.Need-push-met-requires
-push-met-requires c κs = search needs
+push-met-requires c κs = parents (c .before .before .before .before)
 
 enum-known-meeting-2 : tie.Need-enum-known-meeting-2
 enum-known-meeting-2 c = search needs
 
-new-requires-2 : tie.Need-new-requires-2
-new-requires-2 c κs = search needs
-
-push-met-requires-2 : tie.Need-push-met-requires-2
-push-met-requires-2 c κs = search needs
-
 new-requires-3 : tie.Need-new-requires-3
 new-requires-3 c κs = search needs
 
+push-met-requires-2 : tie.Need-push-met-requires-2
+push-met-requires-2 c κs = parents (c .before .before .before .before)
+
+new-requires-4 : tie.Need-new-requires-4
+new-requires-4 c κs = search needs
+
 push-met-requires-3 : tie.Need-push-met-requires-3
-push-met-requires-3 c κs = search needs
+push-met-requires-3 c κs = parents (c .before .before .before .before .before .before)
 
 returns : tie.Need-returns
 returns c = let d = c .before .before in let s = d .before .before .before in (
@@ -80,17 +86,18 @@ returns c = let d = c .before .before in let s = d .before .before .before in (
 
 returns-2 : tie.Need-returns-2
 returns-2 c = let d = c .before .before .before .before .before in (
-  rw (found d, c .before .before .before .meeting .given .1, ← (c .before .new .ensures)) (c .push-met .ensures .0),
+  rw (found d, c .before .before .before .meeting .given .1, ← (c .before .new2 .ensures)) (c .push-met .ensures .0),
   c .push-met .ensures .1,
 )
 
 returns-3 : tie.Need-returns-3
 returns-3 c = let d = c .before .before .before .before .before .before .before in let a = d .before .before .before .args in
+    let pair = d .new .result in
     let one = c .before .before .before in
     let pushed = c .before .before .push-met2 .ensures in (
-      rw (found d, one .before .before .meeting2 .given .1, ← (one .new2 .ensures), ← (c .before .new3 .ensures))
+      rw (found d, one .before .before .meeting2 .given .1, ← (one .new3 .ensures), ← (c .before .new4 .ensures))
           (pushed-on 90 (pointList (a .list)) (pointList (c .before .before .push-met2 .result)) (pointList (c .push-met3 .result))
-          (met (take (a .n) (a .t2)) (a .i) (a .j) (one .new2 .result) ∷ []) (met (take (a .n) (a .t2)) (a .i) (a .j) (c .before .new3 .result) ∷ [])
+          (met (take (a .n) (a .t2)) (pair .first) (pair .second) (one .new3 .result) ∷ []) (met (take (a .n) (a .t2)) (pair .first) (pair .second) (c .before .new4 .result) ∷ [])
           (pushed .0) (c .push-met3 .ensures .0)),
       λ h. c .push-met3 .ensures .1 (pushed .1 h),
     )
@@ -101,17 +108,17 @@ push-pair-spec =
     (tie.spec
     mul-first
     array-copy-out-first
-    mul-intersection-points
-    array-copy-out-intersection-points
-    intersection-points-requires
+    mul-new
+    array-copy-out-new
+    new-requires
     enum-told
     enum-known-meeting
-    new-requires
+    new-requires-2
     push-met-requires
     enum-known-meeting-2
-    new-requires-2
-    push-met-requires-2
     new-requires-3
+    push-met-requires-2
+    new-requires-4
     push-met-requires-3
     returns
     returns-2
