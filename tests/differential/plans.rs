@@ -1,4 +1,4 @@
-// Plans of 1 to 10 heads and a box, by category and seed. The tolerances of arcs and of the box show only where heads, and an
+// Plans of up to 10 heads and a box, by category and seed. The tolerances of arcs and of the box show only where heads, and an
 // edge or a corner of the box, go through one point exactly: more than a third of the plans are of that kind. In a plan no two
 // heads are identical (docs/DIFFERENCES.md).
 
@@ -90,13 +90,25 @@ fn small(random: &mut Random) -> Plan {
 
 // ---- through one point
 
+const SMALL: i64 = 25;
+
 // Whole legs and a whole distance of at most 25: an axis, or a triple of 3 4 5, 5 12 13, 8 15 17, 7 24 25 and their multiples.
 fn small_triple(random: &mut Random) -> (i64, i64, i64) {
     const TRIPLES: [(i64, i64, i64); 5] = [(1, 0, 1), (3, 4, 5), (5, 12, 13), (8, 15, 17), (7, 24, 25)];
     let (a, b, d) = TRIPLES[(random.next() % 5) as usize];
-    let scale = random.whole(1, 25 / d);
+    let scale = random.whole(1, SMALL / d);
     let (a, b) = (a * scale * random.sign(), b * scale * random.sign());
     if random.sign() > 0 { (a, b, d * scale) } else { (b, a, d * scale) }
+}
+
+// Such legs with a distance above 25.
+fn large_triple(random: &mut Random) -> (i64, i64, i64) {
+    loop {
+        let legs = triple(random, LARGEST);
+        if legs.2 > SMALL {
+            return legs;
+        }
+    }
 }
 
 #[derive(Clone, Copy)]
@@ -109,17 +121,17 @@ enum Size {
 fn legs(random: &mut Random, size: Size) -> (i64, i64, i64) {
     match size {
         Size::Small => small_triple(random),
-        Size::Large => triple(random, LARGEST),
-        Size::Mixed => if random.sign() > 0 { small_triple(random) } else { triple(random, LARGEST) },
+        Size::Large => large_triple(random),
+        Size::Mixed => if random.sign() > 0 { small_triple(random) } else { large_triple(random) },
     }
 }
 
 // Half a side of the box.
 fn half(random: &mut Random, size: Size) -> i64 {
     match size {
-        Size::Small => random.whole(1, 25),
+        Size::Small => random.whole(1, SMALL),
         Size::Large => random.whole(1, WIDEST / 2),
-        Size::Mixed => if random.sign() > 0 { random.whole(1, 25) } else { random.whole(1, WIDEST / 2) },
+        Size::Mixed => if random.sign() > 0 { random.whole(1, SMALL) } else { random.whole(1, WIDEST / 2) },
     }
 }
 
@@ -139,18 +151,24 @@ fn box_at(random: &mut Random, x: i64, y: i64, size: Size, corner: bool) -> Side
     }
 }
 
-// Heads whose edges go through one point, with the box there.
+// Heads whose edges go through one point, with the box there. Of mixed ones the first is small, the second large.
 fn through_a_point(random: &mut Random, size: Size, corner: bool) -> Plan {
     let reach = match size {
         Size::Small => 12,
         _ => random.whole(0, FURTHEST / 2),
     };
     let (x, y) = (random.whole(-reach, reach), random.whole(-reach, reach));
-    let n = number(random);
-    let heads = heads(n, |_| {
-        let (dx, dy, d) = legs(random, size);
+    let mixed = matches!(size, Size::Mixed);
+    let n = if mixed { several(random) } else { number(random) };
+    let heads = heads(n, |i| {
+        let (dx, dy, d) = match (mixed, i) {
+            (true, 0) => small_triple(random),
+            (true, 1) => large_triple(random),
+            _ => legs(random, size),
+        };
         (x + dx, y + dy, d)
     });
+    assert!(!mixed || heads[0].r <= SMALL as f64 && heads[1].r > SMALL as f64);
     Plan { heads, sides: box_at(random, x, y, size, corner) }
 }
 
@@ -355,6 +373,24 @@ fn single(random: &mut Random) -> Plan {
     plan
 }
 
+// Document 01's plan of no heads at all: its one set is the box.
+fn no_heads(random: &mut Random) -> Plan {
+    Plan { heads: Vec::new(), sides: if random.sign() > 0 { small_sides(random) } else { any_sides(random) } }
+}
+
+// ---- out of the domain: a box of no area
+
+fn empty_box(random: &mut Random) -> Plan {
+    let mut plan = if random.sign() > 0 { small(random) } else { corner_inside(random) };
+    let side = random.whole(-1, 0) as f64;
+    if random.sign() > 0 {
+        plan.sides.width = side;
+    } else {
+        plan.sides.height = side;
+    }
+    plan
+}
+
 // ---- out of the domain: floats with all their digits
 
 fn fraction(random: &mut Random, most: f64) -> f64 {
@@ -488,9 +524,9 @@ pub struct Category {
     pub plan: fn(&mut Random) -> Plan,
 }
 
-pub const CATEGORIES: [Category; 23] = [
-    Category { name: "through a point on an edge of the box, small heads", share: 8, plan: point_on_an_edge },
-    Category { name: "through a point at a corner of the box, small heads", share: 8, plan: point_at_a_corner },
+pub const CATEGORIES: [Category; 25] = [
+    Category { name: "through a point on an edge of the box, small heads", share: 7, plan: point_on_an_edge },
+    Category { name: "through a point at a corner of the box, small heads", share: 7, plan: point_at_a_corner },
     Category { name: "through a point on an edge of the box, large heads", share: 6, plan: large_point_on_an_edge },
     Category { name: "through a point at a corner of the box, large heads", share: 6, plan: large_point_at_a_corner },
     Category { name: "through a point on an edge of the box, small and large", share: 6, plan: mixed_point_on_an_edge },
@@ -512,4 +548,6 @@ pub const CATEGORIES: [Category; 23] = [
     Category { name: "fractions", share: 3, plan: fractions },
     Category { name: "moved a little from a point or a touch", share: 2, plan: nearly_through_a_point },
     Category { name: "at a tolerance exactly, or a few floats from it", share: 6, plan: at_a_tolerance },
+    Category { name: "no heads", share: 1, plan: no_heads },
+    Category { name: "box of no area", share: 1, plan: empty_box },
 ];
