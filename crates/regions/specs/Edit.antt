@@ -55,7 +55,7 @@ met values h n k = gather n (λ j. not (eqb j k) && meetsAny values (h j))
 unfoldable pub reworked : ℕ → ℕ → (ℕ → Bool) → ℕ → Bool
 reworked own met before S = overlaps S own || (not (before S) || (not (isSingle S) && overlaps S met))
 
--- A row after an edit. Row 0 keeps its number; a row reworked has its area; "still present" and not reworked, it keeps the
+-- A row after an edit. Row 0, where there is a box, keeps its number; a row reworked has its area; "still present" and not reworked, it keeps the
 -- number handed in, even a false one; no set any more, it is absent. The byte handed in is not read.
 unfoldable pub editedRow : Bool → ℕ → ℕ → (ℕ → Float) → (ℕ → Bool) → (ℕ → Bool) → (ℕ → Row) → ℕ → Row
 unfolding reworked
