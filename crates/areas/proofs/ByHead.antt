@@ -8,22 +8,24 @@ use lib.ListN.{length, replicate, length-map, length-append, length-replicate}
 use lib.Seq.{take-all}
 use lib.Ieee.{Float}
 use Rattle.binary64.specs.Constants.{zero64, half64}
-use Rattle.geometry.specs.Floats.{_*ᶠ_}
+use Rattle.binary64.specs.Floats.{_*ᶠ_}
 use Rattle.geometry.specs.declared.bounds.Bounds.{Bounds}
 use Rattle.geometry.specs.declared.circle.Circle.{Circle}
-use Rattle.boundary.specs.declared.points.IntersectionPoint.{IntersectionPoint}
-use Rattle.boundary.specs.Every.{Every, every-append, every-map}
-use Rattle.boundary.specs.Outline.{Member, circlesOf, outline}
+use Rattle.intersections.specs.declared.points.IntersectionPoint.{IntersectionPoint}
+use Rattle.lists.specs.Every.{Every, every-append, every-map}
+use Rattle.intersections.specs.Members.{Member, circlesOf, headsOf, circleAt, membersOf}
+use Rattle.boundary.specs.Outline.{outline}
 use Rattle.outline.specs.Area.{areaOf, addGradient, openArea, openGradient}
-use Rattle.boundary.specs.Set.{headsOf, circleAt, membersOf, numbered, arcsHeld, regionArcs}
-use Rattle.outline.specs.Counts.{heads-below, outline-few}
+use Rattle.boundary.specs.Set.{numbered, arcsHeld, regionArcs}
+use Rattle.intersections.specs.Counts.{heads-below}
+use Rattle.outline.specs.Counts.{outline-few}
 use Rattle.outline.proofs.Walking.{circles-of-members, members-many}
 use Rattle.clip.specs.Area.{emptyBox, addEdges, clippedAreaOf, clippedArea}
 use Rattle.clip.specs.Gradient.{with-gradient, clippedWithGradient, clippedOnto, clippedGradient}
-use Rattle.outline.specs.Points.{collected}
-use Rattle.areas.specs.Open.{circlesOfHeads}
-use Rattle.areas.proofs.Open.{circles-length}
-use Rattle.areas.specs.Scatter.{PlanByHead, entriesOf, boxEntries, put, scatter, scatterInBox, Fits, circlesIn, ByHead}
+use Rattle.intersections.specs.Points.{collected}
+use Rattle.drawn.specs.Drawn.{planCircles}
+use Rattle.drawn.proofs.Circles.{circles-few}
+use Rattle.areas.specs.Scatter.{PlanByHead, entriesOf, boxEntries, put, scatter, scatterClipped, Fits, circlesIn, ByHead}
 use Rattle.areas.proofs.Naming.{Below, outline-named}
 use Rattle.areas.proofs.Scattering.{Increasing, increasing-append, heads-increasing, entries-below, entries-increasing, entries-many, put-equal, entries-stand, box-stands, stand-append}
 use Rattle.areas.proofs.Summing.{arcs-sum, clipped-sum}
@@ -114,8 +116,8 @@ module _ (circles : List Circle) (points : List IntersectionPoint) (S : ℕ) (fi
 
   clipped-by-head : (box : Bounds)
       → clippedWithGradient box circles (circlesIn circles S) (regionArcs circles points S) (replicate (length circles * 3 + 4) zero64)
-      ≡ with-gradient (clippedGradient box ms .sum) (scatterInBox heads (length circles) (clippedGradient box ms .grad))
-  unfolding scatterInBox
+      ≡ with-gradient (clippedGradient box ms .sum) (scatterClipped heads (length circles) (clippedGradient box ms .grad))
+  unfolding scatterClipped
   clipped-by-head box =
       rw (clipped-gradient-is box)
       (ap (clippedWithGradient box circles (circlesIn circles S) (regionArcs circles points S)) (sym (put-equal places (length ms * 3 + 4) (length circles * 3 + 4) zero64))
@@ -135,6 +137,4 @@ by-head circles points S fits =
 
 -- Of the heads of a plan, with nothing asked: the outline fits.
 pub plan-by-head : PlanByHead
-plan-by-head h n S few =
-    let cs = circlesOfHeads h n in
-    by-head cs (collected cs) S (outline-few cs S (rw (circles-length h n) few))
+plan-by-head p S few = let cs = planCircles p in by-head cs (collected cs) S (outline-few cs S (circles-few p few))

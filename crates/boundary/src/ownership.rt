@@ -1,13 +1,13 @@
 // Which member of a set has a point of its edge: where edges coincide, the one at the lowest position.
 // Rests on `lets` and `owned` of specs/Outline.antt.
-use crate::members::Members;
 use binary64::abs;
 use binary64::larger;
 use geometry::circle::Circle;
 use geometry::point::Point;
+use intersections::members::Members;
 ghost use mathlib.Core.Path.{_≡_};
 ghost use Rattle.boundary.specs.Outline.{implicitValue, tolerance, lets, owned};
-ghost use Rattle.boundary.specs.Lists.{circleList};
+ghost use Rattle.intersections.specs.Counted.{circleList};
 
 // The implicit form of a circle at a point: below 1 inside, 1 on the edge, above 1 outside.
 pub fn circle_implicit_value(p: Point, c: Circle) -> f64

@@ -20,7 +20,7 @@ use Rattle.binary64.specs.Magnitude.{Most, Least}
 use Rattle.geometry.specs.declared.circle.Circle.{Circle}
 use Rattle.geometry.specs.declared.meeting.Meeting.{Meeting}
 use Rattle.geometry.specs.Meeting as meeting
-use Rattle.geometry.specs.Floats.{_+ᶠ_, _-ᶠ_, _≤ᶠ_}
+use Rattle.binary64.specs.Floats.{_+ᶠ_, _-ᶠ_, _≤ᶠ_}
 use Rattle.geometry.specs.Point.{distance}
 use Rattle.geometry.specs.Circle.{intersectionArea, contains, intersects, intersectionPoints}
 use Rattle.exact.specs.Circle.{circleOf}

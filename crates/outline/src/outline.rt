@@ -5,13 +5,13 @@ use boundary::arcs::Candidate;
 use boundary::arcs::full_circle;
 use boundary::candidates::arc_from;
 use boundary::candidates::whole_circle;
-use boundary::members::Members;
 use boundary::members::angles_for;
-use boundary::members::members_of;
-use boundary::points::Intersections;
 use boundary::sort::Angles;
 use boundary::sort::count;
 use geometry::circle::Circle;
+use intersections::members::Members;
+use intersections::members::members_of;
+use intersections::points::Intersections;
 ghost use mathlib.Core.Path.{_≡_};
 ghost use mathlib.Core.Bool.{cond};
 ghost use mathlib.Core.List.{[], _∷_, _++_, map};
@@ -19,8 +19,10 @@ ghost use Prim.Native.Nat.{_+_};
 ghost use lib.Dec.{ltb};
 ghost use lib.ListN.{length, take};
 ghost use Rattle.boundary.specs.Outline.{arcsAt, outlineFrom};
-ghost use Rattle.boundary.specs.Set.{membersWith, numbered, arcsHeld, regionArcs};
-ghost use Rattle.boundary.specs.Lists.{angleList, pointList, headList, circleList, candidateList, arcList};
+ghost use Rattle.intersections.specs.Members.{membersWith};
+ghost use Rattle.boundary.specs.Set.{numbered, arcsHeld, regionArcs};
+ghost use Rattle.intersections.specs.Counted.{pointList, headList, circleList};
+ghost use Rattle.boundary.specs.Counted.{angleList, candidateList, arcList};
 
 // No arcs; the places are filled with some arc.
 pub fn no_arcs(filler: BoundaryArc) -> Arcs

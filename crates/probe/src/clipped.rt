@@ -4,22 +4,22 @@ ghost use mathlib.Core.Path.{_≡_};
 ghost use Rattle.clip.specs.Area.{clippedAreaOf, clippedArea};
 ghost use Rattle.clip.specs.Gradient.{with-gradient, clippedWithGradient, clippedOnto};
 ghost use Rattle.inside.specs.Span.{horizontalSpan, verticalSpan};
-ghost use Rattle.probe.specs.Lists as spec;
+ghost use Rattle.probe.specs.Handed as spec;
 use crate::Extents;
-use crate::lists::Circles;
-use crate::lists::Ends;
-use crate::lists::bounds_of;
-use crate::lists::circles_of;
-use crate::lists::ends_of;
+use crate::given::Circles;
+use crate::given::Ends;
+use crate::given::bounds_of;
+use crate::given::circles_of;
+use crate::given::ends_of;
 use crate::outlines::arcs_of;
 use crate::outlines::points_of;
-use boundary::members::members_of;
 use clip::area::area_from_clipped_arcs;
 use clip::area::clipped_region_area;
 use clip::gradient::area_and_gradient_from_clipped_arcs;
 use clip::gradient::clipped_region_area_and_gradient;
 use inside::span::horizontal_edge_inside_interval;
 use inside::span::vertical_edge_inside_interval;
+use intersections::members::members_of;
 
 // The span of the edge at y from x_min to x_max.
 #[no_mangle]

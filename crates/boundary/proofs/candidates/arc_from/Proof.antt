@@ -4,7 +4,8 @@ use Prim.Native.Nat.{_≤_, _<_, _+_, _%_}
 use native.Mathlib.Omega.{arith}
 use borrow.Author.Tests.{le-ltb, lt-ltb}
 use lib.ListN.{length, length-take}
-use Rattle.boundary.specs.Lists.{circleList, angleList}
+use Rattle.intersections.specs.Counted.{circleList}
+use Rattle.boundary.specs.Counted.{angleList}
 use Rattle.boundary.proofs.Gaps.{next-below, gap-arc}
 use borrow.Author.Needs.{needs}
 use Rattle.boundary.proofs.candidates.arc_from.Statement.{statement}

@@ -7,9 +7,10 @@ use mathlib.Core.Bool.{true, false}
 use borrow.Author.Tests.{not-true, not-false}
 use lib.ListN.{getD, length, drop, length-take}
 use lib.Seq.{getD-take}
-use Rattle.boundary.specs.Outline.{ownedFrom, owned, lets, noCircle}
-use Rattle.boundary.specs.Lists.{circleList}
-use Rattle.boundary.proofs.Arrays.{length-of-values}
+use Rattle.intersections.specs.Members.{noCircle}
+use Rattle.boundary.specs.Outline.{ownedFrom, owned, lets}
+use Rattle.intersections.specs.Counted.{circleList}
+use Rattle.lists.proofs.Arrays.{length-of-values}
 use Rattle.boundary.proofs.Owning.{owned-on, owned-not, owned-all}
 use Rattle.boundary.proofs.ownership.owned.Statement.{statement}
 use Rattle.boundary.proofs.ownership.owned.Tie as tie

@@ -3,11 +3,10 @@ use borrow.Author.Needs.{needs}
 use mathlib.Core.Path.{refl, sym, _∙_}
 use lib.ListN.{take}
 use Rattle.binary64.specs.Constants.{zero64}
-use Rattle.boundary.specs.Set.{membersOf}
-use Rattle.boundary.specs.Lists.{pointList, circleList}
-use Rattle.outline.proofs.Walking.{circles-of-members, members-many}
+use Rattle.intersections.specs.Members.{membersOf}
+use Rattle.intersections.specs.Counted.{pointList, circleList}
+use Rattle.outline.proofs.Walking.{circles-of-members, members-many, fold-one, fold-other}
 use Rattle.clip.specs.Area.{addClippedArc}
-use Rattle.clip.proofs.Walking.{fold-one, fold-other}
 use Rattle.clip.proofs.Rows.{area-of-nothing, area-by-sum}
 use Rattle.clip.proofs.area.clipped_region_area.Statement.{statement}
 use Rattle.clip.proofs.area.clipped_region_area.Tie as tie

@@ -5,12 +5,11 @@ use Prim.Native.Nat.{_≤_}
 use native.Mathlib.Omega.{arith}
 use lib.ListN.{length, take, length-take}
 use Rattle.binary64.specs.Constants.{zero64}
-use Rattle.outline.specs.Counts.{heads-few}
-use Rattle.boundary.specs.Set.{membersOf}
-use Rattle.boundary.specs.Lists.{pointList, circleList}
-use Rattle.outline.proofs.Walking.{circles-of-members, members-many}
+use Rattle.intersections.specs.Counts.{heads-few}
+use Rattle.intersections.specs.Members.{membersOf}
+use Rattle.intersections.specs.Counted.{pointList, circleList}
+use Rattle.outline.proofs.Walking.{circles-of-members, members-many, fold-one, fold-other}
 use Rattle.clip.specs.Gradient.{with-gradient, addClippedArcWithGradient}
-use Rattle.clip.proofs.Walking.{fold-one, fold-other}
 use Rattle.clip.proofs.Rows.{gradient-of-members, gradient-of-members-nothing}
 use Rattle.clip.proofs.gradient.clipped_region_area_and_gradient.Statement.{statement}
 use Rattle.clip.proofs.gradient.clipped_region_area_and_gradient.Tie as tie

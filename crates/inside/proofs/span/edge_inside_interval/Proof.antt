@@ -5,8 +5,8 @@ use Prim.Native.Nat.{_-_, _≤_, _<_}
 use native.Mathlib.Omega.{arith}
 use mathlib.Core.List.{map}
 use lib.ListN.{length, drop, length-take, length-map}
-use Rattle.boundary.specs.Lists.{circleList}
-use Rattle.boundary.proofs.Arrays.{length-of-values}
+use Rattle.intersections.specs.Counted.{circleList}
+use Rattle.lists.proofs.Arrays.{length-of-values}
 use Rattle.inside.specs.Span.{misses, horizontalSpan, seen}
 use Rattle.inside.proofs.Spanning.{span-step, span-none, span-end, seen-at}
 use Rattle.inside.proofs.span.edge_inside_interval.Statement.{statement}

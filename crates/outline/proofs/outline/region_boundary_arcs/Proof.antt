@@ -3,9 +3,10 @@ use mathlib.Core.Path.{_≡_, sym, ap, _∙_}
 use native.Mathlib.Omega.{arith}
 use lib.ListN.{length, take, getD}
 use lib.Seq.{getD-take}
-use Rattle.boundary.specs.Outline.{noCircle}
+use Rattle.intersections.specs.Members.{noCircle}
 use Rattle.boundary.specs.Set.{regionArcs}
-use Rattle.boundary.specs.Lists.{pointList, headList, circleList, arcList}
+use Rattle.intersections.specs.Counted.{pointList, headList, circleList}
+use Rattle.boundary.specs.Counted.{arcList}
 use Rattle.outline.proofs.Walking.{circles-of-members, members-many, members-are, arcs-one, arcs-other}
 use borrow.Author.Needs.{needs}
 use Rattle.outline.proofs.outline.region_boundary_arcs.Statement.{statement}
