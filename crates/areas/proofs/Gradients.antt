@@ -17,7 +17,8 @@ use Rattle.intersections.specs.Counts.{heads-below}
 use Rattle.plan.specs.declared.Plan.{Plan}
 use Rattle.areas.specs.Scatter.{entriesOf, boxEntries, put, scatter, scatterClipped}
 use Rattle.areas.specs.Open.{openGradientRow}
-use Rattle.areas.specs.Clipped.{boxOf, clippedGradientRow}
+use Rattle.drawn.specs.Drawn.{boxOf}
+use Rattle.areas.specs.Clipped.{clippedGradientRow}
 use Rattle.areas.specs.Gradients.{ScattersClipped, boxSlopes, clippedGradients, openGradients, ClippedGradients, OpenGradients}
 use Rattle.areas.proofs.Scattering.{Increasing, increasing-append, heads-increasing, entries-every, entries-below, entries-increasing, entries-many, put-other, put-at, put-length, heads-in, Stands, entries-stand, stand-append, box-stands}
 

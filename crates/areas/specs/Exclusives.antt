@@ -10,7 +10,7 @@ use Rattle.lists.proofs.Lists.{upTo-cong}
 use Rattle.masks.specs.Mask.{strictSubset}
 use Rattle.binary64.specs.Constants.{zero64}
 use Rattle.binary64.specs.Functions.{clampToZero}
-use Rattle.geometry.specs.Floats.{_-ᶠ_}
+use Rattle.binary64.specs.Floats.{_-ᶠ_}
 use Rattle.exclusive.specs.RowOrder.{rowsOf, rowOrder}
 use Rattle.exclusive.specs.Exclusive.{sumOnto, above, subtracted, unclamped, exclusiveRow}
 use Rattle.exclusive.proofs.Unclamped.{unclamped-cong}

@@ -13,7 +13,8 @@ use Rattle.intersections.specs.Members.{headsOf}
 use Rattle.plan.specs.declared.Plan.{Plan}
 use Rattle.areas.specs.Scatter.{scatter, scatterClipped}
 use Rattle.areas.specs.Open.{openGradientRow}
-use Rattle.areas.specs.Clipped.{boxOf, clippedGradientRow}
+use Rattle.drawn.specs.Drawn.{boxOf}
+use Rattle.areas.specs.Clipped.{clippedGradientRow}
 
 -- What `scatterClipped` does to a gradient g of the heads of a set S among n, and of the box.
 pub record ScattersClipped (n S : ℕ) (g : List Float) : Type 0 where

@@ -14,7 +14,7 @@ use Rattle.binary64.proofs.Operations.{add-zero-sum}
 use Rattle.lists.specs.Lists.{upTo}
 use Rattle.lists.specs.Every.{Every, every-append, every-map, every-upTo}
 use Rattle.elementary.proofs.arctangent.Promise.{atan2-promise}
-use Rattle.geometry.specs.Floats.{_+ᶠ_, _*ᶠ_}
+use Rattle.binary64.specs.Floats.{_+ᶠ_, _*ᶠ_}
 use Rattle.geometry.specs.declared.circle.Circle.{Circle}
 use Rattle.geometry.specs.declared.point.Point.{Point}
 use Rattle.intersections.specs.Members.{Member, circlesOf}

@@ -9,7 +9,7 @@ use Rattle.binary64.proofs.Magnitude.{most-weaken, sub-most}
 use Rattle.geometry.specs.Circle.{intersectionPoints}
 use Rattle.geometry.specs.declared.circle.Circle.{Circle}
 use Rattle.geometry.specs.declared.point.Point.{Point}
-use Rattle.lists.specs.Every.{Every, every-map, every-upTo, every-at}
+use Rattle.lists.specs.Every.{Every, every-map, every-upTo, every-at, every-mapped, every-take, every-keep}
 use Rattle.lists.specs.Lists.{keep}
 use Rattle.exact.specs.Points.{Placed, AllPlaced}
 use Rattle.exact.proofs.Theorem.{stays-bounded}
@@ -20,11 +20,10 @@ use Rattle.intersections.specs.Points.{withAdopters, pairPoints, laterPoints, c
 use Rattle.plan.specs.Limits.{Acceptable}
 use Rattle.plan.specs.declared.Plan.{Plan}
 use Rattle.plan.proofs.Exactly.{plan-taken, within-limits}
-use Rattle.regions.specs.Table.{planCircles}
-use Rattle.regions.proofs.Rows.{circles-many, circle-at}
+use Rattle.drawn.specs.Drawn.{planCircles}
+use Rattle.drawn.proofs.Circles.{circles-many, circle-at}
 use Rattle.finite.specs.Open.{InDomain}
 use Rattle.finite.specs.Domains.{PointInDomain, ArgumentsInDomain}
-use Rattle.finite.proofs.Every.{keep-every, every-mapped, every-take}
 use Rattle.finite.proofs.Rows.{circles-domain}
 
 -- ---- meeting points
@@ -57,7 +56,7 @@ module _ (cs : List Circle) (pair : (i j : ℕ) → i < length cs → j < length
   counted-placed S j =
       let here = keep (countedFor S j) (collected cs) in
       every-take Placed pointsHeld (map (λ (q : IntersectionPoint). q .point) here)
-      (every-mapped Placed (λ (q : IntersectionPoint). q .point) here (keep-every PointPlaced (countedFor S j) (collected cs) collected-placed))
+      (every-mapped Placed (λ (q : IntersectionPoint). q .point) here (every-keep PointPlaced (countedFor S j) (collected cs) collected-placed))
 
 -- ---- arguments
 
@@ -73,7 +72,7 @@ plan-placed : (p : Plan) → length (p .heads) ≡ 10 → Acceptable p → (i j 
 plan-placed p ten ok i j hi hj =
     let gi : i < p .n = subst (λ n. i < n) (circles-many p ten (ok .count)) hi in
     let gj : j < p .n = subst (λ n. j < n) (circles-many p ten (ok .count)) hj in
-    rw (circle-at p ten (ok .count) i gi, circle-at p ten (ok .count) j gj)
+    rw (circle-at p ten (ok .count) i noCircle gi, circle-at p ten (ok .count) j noCircle gj)
     (stays-bounded _ _ (within-limits _ (ok .heads i gi)) (within-limits _ (ok .heads j gj)) .placed)
 
 -- Both arguments of every atan2 of a taken plan's rows are within 2^20.

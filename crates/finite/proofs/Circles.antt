@@ -20,7 +20,7 @@ use Rattle.elementary.specs.Root.{root}
 use Rattle.elementary.proofs.root.Promise.{root-promise}
 use Rattle.elementary.proofs.root.Squares.{root-most}
 use Rattle.geometry.specs.Circle.{lens}
-use Rattle.geometry.specs.Floats.{_+ᶠ_, _-ᶠ_, _*ᶠ_, _/ᶠ_, _≤ᶠ_}
+use Rattle.binary64.specs.Floats.{_+ᶠ_, _-ᶠ_, _*ᶠ_, _/ᶠ_, _≤ᶠ_}
 use Rattle.geometry.specs.Point.{distance}
 use Rattle.exact.specs.Circle.{circleOf}
 use Rattle.exact.proofs.Theorem.{is-drawn, stays-bounded}

@@ -23,12 +23,12 @@ use Rattle.binary64.proofs.Units.{plus-minus, one-sided, units-of-lt, zero64-fi
 use Rattle.elementary.specs.Arctangent.{acos, asin}
 use Rattle.elementary.specs.ArctangentPromise.{UpToPi}
 use Rattle.elementary.specs.SinePromise.{Domain}
-use Rattle.geometry.specs.Floats.{_+ᶠ_, _-ᶠ_, _*ᶠ_, _/ᶠ_, _<ᶠ_, _≤ᶠ_}
+use Rattle.binary64.specs.Floats.{_+ᶠ_, _-ᶠ_, _*ᶠ_, _/ᶠ_, _<ᶠ_, _≤ᶠ_}
 use Rattle.geometry.specs.Tolerances.{clipAngle}
 use Rattle.geometry.specs.declared.bounds.Bounds.{Bounds}
 use Rattle.geometry.specs.declared.circle.Circle.{Circle}
 use Rattle.lists.specs.Lists.{keep}
-use Rattle.lists.specs.Every.{Every, every-append, every-map, every-both, every-at}
+use Rattle.lists.specs.Every.{Every, every-append, every-map, every-both, every-at, every-mapped, every-take}
 use Rattle.intersections.specs.declared.points.IntersectionPoint.{IntersectionPoint}
 use Rattle.intersections.specs.Members.{Member, headsOf, membersOf}
 use Rattle.boundary.specs.declared.arcs.BoundaryArc.{BoundaryArc}
@@ -36,7 +36,7 @@ use Rattle.boundary.specs.Outline.{fullCircle, between, anglesOf, outline}
 use Rattle.boundary.specs.Set.{numbered, arcsHeld, regionArcs}
 use Rattle.inside.specs.Breaks.{strictlyInside, copies, periodicInRange, verticalCrossings, horizontalCrossings, crossings, breaksBetween, breaks}
 use Rattle.finite.specs.Domains.{UpToTurn, ArcInDomain, middleOfGap, AnglesInDomain, RegionInDomain, QuotientInDomain}
-use Rattle.finite.proofs.Every.{sorted-every, every-mapped, every-take}
+use Rattle.boundary.proofs.Ordering.{sorted-every}
 use Rattle.finite.proofs.Promises.{up-to-four}
 use Rattle.finite.proofs.Turns.{seven, sorted-within, wrapped-within, gap-at, outline-every}
 use Rattle.finite.proofs.Clipped.{Angle, half-most, crossings-most}

@@ -20,7 +20,7 @@ use Rattle.binary64.proofs.Operations.{add-result, sub-result, result-le}
 use Rattle.binary64.proofs.Remainder.{rem-euclid-within}
 use Rattle.binary64.proofs.Units.{pow2-pos, mag-digits, plus-minus, plus-is, one-sided, units-of-lt, units-of-not-lt, units-of-le, zero64-finite, zero64-plus, zero64-minus}
 use Rattle.elementary.specs.ArctangentPromise.{UpToPi}
-use Rattle.geometry.specs.Floats.{_+ᶠ_, _-ᶠ_, _*ᶠ_, _<ᶠ_, _≤ᶠ_}
+use Rattle.binary64.specs.Floats.{_+ᶠ_, _-ᶠ_, _*ᶠ_, _<ᶠ_, _≤ᶠ_}
 use Rattle.geometry.specs.declared.point.Point.{Point}
 use Rattle.geometry.specs.declared.circle.Circle.{Circle}
 use Rattle.boundary.specs.declared.arcs.BoundaryArc.{BoundaryArc}
@@ -28,7 +28,7 @@ use Rattle.lists.specs.Every.{Every, every-append, every-upTo, every-at}
 use Rattle.intersections.specs.Members.{Member, circlesOf}
 use Rattle.boundary.specs.Outline.{angleAbout, wrapAngle, gap, collapsed, owned, pointAt, probe, fullCircle, between, arcFrom, arcsAt, anglesOf, outlineFrom, outline}
 use Rattle.finite.specs.Domains.{UpToTurn}
-use Rattle.finite.proofs.Every.{sorted-every}
+use Rattle.boundary.proofs.Ordering.{sorted-every}
 use Rattle.finite.proofs.Promises.{up-to-four, arctangent-within}
 
 -- ---- constants

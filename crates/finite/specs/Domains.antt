@@ -14,7 +14,7 @@ use Rattle.binary64.specs.Magnitude.{Most}
 use Rattle.binary64.specs.Units.{Finite, mag}
 use Rattle.elementary.specs.ArctangentPromise.{UpToPi}
 use Rattle.elementary.specs.SinePromise.{Domain}
-use Rattle.geometry.specs.Floats.{_+ᶠ_, _-ᶠ_, _*ᶠ_, _≤ᶠ_}
+use Rattle.binary64.specs.Floats.{_+ᶠ_, _-ᶠ_, _*ᶠ_, _≤ᶠ_}
 use Rattle.geometry.specs.declared.bounds.Bounds.{Bounds}
 use Rattle.geometry.specs.declared.circle.Circle.{Circle}
 use Rattle.geometry.specs.declared.point.Point.{Point}

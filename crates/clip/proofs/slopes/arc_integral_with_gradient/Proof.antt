@@ -9,9 +9,9 @@ use lib.Ieee.{nan}
 use Rattle.binary64.specs.Constants.{zero64}
 use Rattle.boundary.specs.Counted.{angleList}
 use Rattle.inside.specs.Breaks.{breaks}
-use Rattle.inside.specs.Parts.{overPairs}
+use Rattle.lists.specs.Lists.{overPairs}
 use Rattle.clip.specs.Gradient.{with-gradient, addPartWithGradient, clippedArcIntegralWithGradient}
-use Rattle.inside.proofs.Pairing.{pairs-on, pairs-end}
+use Rattle.lists.proofs.Folds.{pairs-on, pairs-end}
 use Rattle.clip.proofs.slopes.arc_integral_with_gradient.Statement.{statement}
 use Rattle.clip.proofs.slopes.arc_integral_with_gradient.Tie as tie
 
@@ -79,7 +79,7 @@ loop-again c = let p = c .before .before in
       l .inv .4,
       p .add-part-with-gradient .kept .1 .0 ∙ l .inv .5,
       rw (p .add-part-with-gradient .ensures, ← getD-take (list .n) (list .phi) (l .i) nan (omega arith), ← getD-take (list .n) (list .phi) (l .i + 1) nan below)
-          (pairs-on f (with-gradient (l .sum) (l .grad)) (angleList list) (l .i) (omega (arith, l .inv .1)) ∙ l .inv .6),
+          (pairs-on f (with-gradient (l .sum) (l .grad)) (angleList list) (l .i) nan (omega (arith, l .inv .1)) ∙ l .inv .6),
     )
 
 same-length : tie.Need-same-length Inv-loop μ-loop
