@@ -8,9 +8,13 @@ use native.Mathlib.Nat.{lt-of-lt-of-le}
 use native.Mathlib.Omega.{arith}
 use lib.Dec.{eqb}
 use lib.Ieee.{Float, nan}
+use lib.IntN.{ℤ}
 use lib.ListN.{length, getD, set, drop, replicate, getD-replicate}
 use lib.Pow.{pow-pos}
 use lib.Seq.{getD-set-same, drop-set-lt}
+use mir.Facts.{toZ-ofZ}
+use mir.Syntax.{w32}
+use mir.Val.{SFits, toZ, ofZ}
 use Rattle.lists.proofs.Writing.{written-before, written-cong}
 use Rattle.masks.specs.Presence.{byte, stands, byte-stands}
 use Rattle.plan.specs.declared.Answer.{Answer}
@@ -35,7 +39,7 @@ use Rattle.table.specs.declared.ready.Ready.{Ready}
 use Rattle.table.specs.Method.{methodOver, clippedTable}
 use Rattle.table.specs.Ready.{areaOf, Of, setsWritten}
 use Rattle.table.specs.Rows.{rowsWritten}
-use Rattle.table.specs.Tables.{changeOf, tablesWritten, afreshOver, editedOver}
+use Rattle.table.specs.Tables.{editOf, changeOf, tablesWritten, afreshOver, editedOver}
 use Rattle.table.proofs.Second.{rows-most}
 use Rattle.table.proofs.Writing.{row-cong, afresh-edited}
 
@@ -173,6 +177,11 @@ edit-step sets d e earlier later next t q before after f g =
     λ S h. row-cong true (c .own) (c .met) area area (stands earlier) (sets p) (stands later) (sets (applied p e)) rows rows S refl (before S h) (after S h) refl in
     edit-step-taken m d e next t q f
     (g ∙ tables-cong (p .n) _ _ (u .rows .bytes) (u .rows .numbers) (u .rows .numbers) (u .exclusives .bytes) (u .exclusives .numbers) row refl)
+
+-- an edit of signed numbers of 32 bits comes back from their bits
+pub edit-kept : (head : ℕ) (x y radius : ℤ) → SFits w32 x → SFits w32 y → SFits w32 radius
+    → editOf head (toZ w32 (ofZ w32 x)) (toZ w32 (ofZ w32 y)) (toZ w32 (ofZ w32 radius)) ≡ editOf head x y radius
+edit-kept head x y radius a b c = rw (toZ-ofZ a, toZ-ofZ b, toZ-ofZ c)
 
 -- a taken edit over slices, in demand 3's words
 pub edit-reworks : (m : Method) (d left : PlanSlices) (e : Edit) (a : Answer) → stepOf left a ≡ editSlices m d e → a ≡ Taken
