@@ -39,6 +39,12 @@ abbrev μ-loop : tie.MeasureT-loop
 μ-loop head x y radius answers₀ presence₀ rows₀ exclusive-presence₀ exclusives₀ count left₀ i₀ answers presence rows exclusive-presence exclusives left i =
     count - i
 
+abbrev entry : tie.At-loop Inv-loop μ-loop → tie.Start Inv-loop μ-loop
+entry c = c .before .before .before .before .before .before .before .before .before .before .before
+
+abbrev looping : tie.After-answer-number Inv-loop μ-loop → tie.In-loop Inv-loop μ-loop
+looping c = c .before .before .before .before .before .before .before .before .before .before .before .before .before .before .before .before
+
 -- the plan and the slices handed in, and edit i of the lists
 abbrev given : tie.Start Inv-loop μ-loop → PlanSlices
 given c = let a = c .args in planSlices (a .plan) (a .presence .now) (a .rows .now) (a .exclusive-presence .now) (a .exclusives .now)
@@ -62,7 +68,8 @@ shorter-requires-4 : tie.Need-shorter-requires-4 Inv-loop μ-loop
 shorter-requires-4 c κs = search needs
 
 -- the shortest of five
-counted : (c : tie.After-shorter4 Inv-loop μ-loop) → c .shorter4 .result ≡ count-of (c .before .before .before .before .before .before .before .before .before .before)
+counted : (c : tie.After-shorter4 Inv-loop μ-loop)
+    → c .shorter4 .result ≡ count-of (c .before .before .before .before .before .before .before .before .before .before)
 counted c = rw (c .shorter4 .ensures, c .before .shorter3 .ensures, c .before .before .shorter2 .ensures, c .before .before .before .shorter .ensures)
 
 loop-holds : tie.Need-loop-holds Inv-loop μ-loop
@@ -81,7 +88,7 @@ record Within (a : tie.Start Inv-loop μ-loop) (i : ℕ) : Type 0 where
   radius : i < length (a .args .radius .now)
   answers : i < length (a .args .answers .now)
 
-within : (c : tie.In-loop Inv-loop μ-loop) → Within (c .before .before .before .before .before .before .before .before .before .before .before .before) (c .before .loop .i)
+within : (c : tie.In-loop Inv-loop μ-loop) → Within (entry (c .before)) (c .before .loop .i)
 within c =
     let test = c .loop-test .taken in
     let many = c .before .loop .inv .1 in
@@ -98,22 +105,23 @@ answer-number-requires c κs = search needs
 
 slice-write-answers : tie.Need-slice-write-answers Inv-loop μ-loop
 slice-write-answers c =
-    let w = within (c .before .before .before .before .before .before .before .before .before .before .before .before .before .before .before .before) .answers in
-    let same = c .before .before .before .before .before .before .before .before .before .before .before .before .before .before .before .before .before .loop .inv .2 .many in
+    let w = within (looping c) .answers in
+    let same = looping c .before .loop .inv .2 .many in
     omega arith
 
 add-i : tie.Need-add-i Inv-loop μ-loop
-add-i c = let w = within (c .before .before .before .before .before .before .before .before .before .before .before .before .before .before .before .before) .head in omega arith
+add-i c = let w = within (looping c) .head in omega arith
 
 loop-less : tie.Need-loop-less Inv-loop μ-loop
-loop-less c = let test = c .before .before .before .before .before .before .before .before .before .before .before .before .before .before .before .before .loop-test .taken in omega arith
+loop-less c = let test = looping c .loop-test .taken in omega arith
 
 loop-again : tie.Need-loop-again Inv-loop μ-loop
 loop-again c =
-    let l = c .before .before .before .before .before .before .before .before .before .before .before .before .before .before .before .before .before .loop in
-    let s = c .before .before .before .before .before .before .before .before .before .before .before .before .before .before .before .before .before .before .before .before .before .before .before .before .before .before .before .before in
+    let at-loop = looping c .before in
+    let l = at-loop .loop in
+    let s = entry at-loop in
     let so-far = l .inv .2 in
-    let test = c .before .before .before .before .before .before .before .before .before .before .before .before .before .before .before .before .loop-test .taken in
+    let test = looping c .loop-test .taken in
     let next = c .before .before .before .before .before .before .before .before .before .before .before .before .before .before .before .edit-at in
     let tried = c .before .before .before .before .before .before .before .before .before .before .edit-one in
     let kept = tried .kept .1 .1 in
@@ -124,7 +132,7 @@ loop-again c =
         slices = slices-next clippedTable (given s) (edit-of s) (l .i) now _ (next .result) (tried .result .answer) (so-far .slices) (next .ensures)
             (tried .ensures);
         answers = answers-next clippedTable (given s) (edit-of s) (l .i) now _ (next .result) (tried .result .answer) (so-far .slices) (next .ensures)
-            (tried .ensures) (s .args .answers .now) (l .answers) _ (so-far .answers) (within (c .before .before .before .before .before .before .before .before .before .before .before .before .before .before .before .before) .answers) (c .answer-number .ensures);
+            (tried .ensures) (s .args .answers .now) (l .answers) _ (so-far .answers) (within (looping c) .answers) (c .answer-number .ensures);
         many = length-set (l .answers) (l .i) _ ∙ so-far .many;
         lengths = record {
           bytes = kept .0 ∙ so-far .lengths .bytes;
@@ -153,7 +161,7 @@ same-length-5 c = c .before .loop .inv .2 .lengths .areas
 returns : tie.Need-returns Inv-loop μ-loop
 returns c =
     let l = c .before .loop in
-    let s = c .before .before .before .before .before .before .before .before .before .before .before .before in
+    let s = entry (c .before) in
     let start = given s in
     let f = edit-of s in
     let es = tab f (count-of s) in
