@@ -44,7 +44,13 @@ pub fn run(
     exclusive_presence: &mut [u8],
     exclusives: &mut [f64],
 ) -> Ran
-    ensures { λ r. ⌜ list.Ran clippedTable (planSlices plan (now (presence .entry)) (now (rows .entry)) (now («exclusive_presence» .entry)) (now (exclusives .entry))) (now (head .entry)) (now (x .entry)) (now (y .entry)) (now (radius .entry)) (now (answers .entry)) (r .count) (planSlices (r .plan) (now (presence .exit)) (now (rows .exit)) (now («exclusive_presence» .exit)) (now (exclusives .exit))) (now (answers .exit)) ⌝ }
+    ensures { λ r. ⌜
+        list.Ran clippedTable
+        (planSlices plan (now (presence .entry)) (now (rows .entry)) (now («exclusive_presence» .entry)) (now (exclusives .entry)))
+        (now (head .entry)) (now (x .entry)) (now (y .entry)) (now (radius .entry)) (now (answers .entry))
+        (r .count) (planSlices (r .plan) (now (presence .exit)) (now (rows .exit)) (now («exclusive_presence» .exit)) (now (exclusives .exit)))
+        (now (answers .exit))
+        ⌝ }
 {
     let count = shorter(
         head.len(),
