@@ -31,11 +31,11 @@ use Rattle.areas.specs.Exclusives.{toExclusives}
 use Rattle.areas.specs.Sets.{planSets}
 use Rattle.regions.specs.Demand.{Reworks}
 use Rattle.regions.specs.Edit.{Row, boxRow, afreshRow, editedRow}
-use Rattle.regions.specs.Slices.{slicesOf, rowAt, withRows, LentTables, tablesOf, PlanSlices, settledTables, stepOf, planTable, entryOf}
+use Rattle.regions.specs.Slices.{slicesOf, rowAt, withRows, LentTables, tablesOf, PlanSlices, settledTables, stepOf}
 use Rattle.regions.specs.Slices.{afreshAnswer, afreshSlices, sliceAnswer, editSlices}
 use Rattle.regions.specs.Table.{Method, areaAt, afresh, edited}
-use Rattle.regions.proofs.Demand.{edit-reworks-exactly}
-use Rattle.regions.proofs.Slices.{slices-are-tables, afresh-taken, edit-step-taken}
+use Rattle.regions.proofs.Run.{slices-rework}
+use Rattle.regions.proofs.Slices.{afresh-taken, edit-step-taken}
 use Rattle.table.specs.declared.ready.Ready.{Ready}
 use Rattle.table.specs.Method.{methodOver, clippedTable}
 use Rattle.table.specs.Ready.{areaOf, Of, setsWritten}
@@ -186,11 +186,9 @@ pub edit-kept : (head : ℕ) (x y radius : ℤ) → SFits w32 x → SFits w32 y 
     → editOf head (toZ w32 (ofZ w32 x)) (toZ w32 (ofZ w32 y)) (toZ w32 (ofZ w32 radius)) ≡ editOf head x y radius
 edit-kept head x y radius a b c = rw (toZ-ofZ a, toZ-ofZ b, toZ-ofZ c)
 
--- a taken edit over slices, in demand 3's words
+-- what a taken edit leaves is in demand 3's words what it reworked
 pub edit-reworks : (m : Method) (d left : PlanSlices) (e : Edit) (a : Answer) → stepOf left a ≡ editSlices m d e → a ≡ Taken
     → Reworks m (d .plan) e (rowAt (d .tables .rows)) (rowAt (left .tables .rows))
 edit-reworks m d left e a s k =
-    let same = slices-are-tables m in
-    let taken = sym (same .edit-answer d e) ∙ sym (ap (λ t. t .answer) s) ∙ k in
-    let rows = ap (λ t. t .rows) (sym (same .edit-left d e)) ∙ ap (λ t. rowAt (t .left .tables .rows)) (sym s) in
-    subst (Reworks m (d .plan) e (rowAt (d .tables .rows))) rows (edit-reworks-exactly m (planTable d) (entryOf (d .tables) e) taken .1)
+    subst (Reworks m (d .plan) e (rowAt (d .tables .rows))) (ap (λ t. rowAt (t .left .tables .rows)) (sym s))
+    (slices-rework m d e (sym (ap (λ t. t .answer) s) ∙ k))
