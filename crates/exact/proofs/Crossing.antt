@@ -5,20 +5,22 @@ use mathlib.Core.Logic.{_⊎_, inl, inr}
 use Prim.Native.Nat.{ℕ, _+_, _-_, _*_, _^_, _≤_, _<_}
 use native.Mathlib.Nat.{le-refl, le-trans, le-of-lt, lt-of-lt-of-le, mul-pos, mul-le-mul, mul-le-mul-left, mul-le-mul-right}
 use native.Mathlib.Omega.{arith}
-use lib.Ieee.{Float, binary64, add, mul}
+use lib.Ieee.{Float, binary64, add, sub, mul}
 use Rattle.heads.specs.Relation.{gap}
 use Rattle.binary64.specs.Units.{pow2, one, Finite, mag, plus, minus}
 use Rattle.binary64.specs.Constants.{two64}
 use Rattle.binary64.specs.Magnitude.{Most}
 use Rattle.binary64.proofs.Naturals.{lt-or-ge}
-use Rattle.binary64.proofs.Units.{pow2-pos, pow2-split}
-use Rattle.binary64.proofs.Operations.{add-result, result-finite, result-le}
-use Rattle.binary64.proofs.Magnitude.{bound-digits, bound-limit}
+use Rattle.binary64.proofs.Units.{pow2-pos, pow2-split, plus-minus}
+use Rattle.binary64.proofs.Operations.{add-result, sub-result, result-finite, result-le, result-rounded}
+use Rattle.binary64.proofs.Rounding.{plus-ge, minus-none}
+use Rattle.binary64.proofs.Magnitude.{bound-digits, bound-limit, most-finer, add-most}
 use Rattle.elementary.specs.Root.{wholeRoot}
 use Rattle.elementary.proofs.root.Whole.{Floor, floor}
+use Rattle.exact.specs.Decisions.{cosineOf}
 use Rattle.exact.proofs.Chord.{gap-within, reach, reach-square, reach-most, inside}
-use Rattle.exact.proofs.Distance.{margin, Is, whole-is, is-mag, rootOf, root-is-finite, root-most, root-at-most-fine, root-at-least-fine}
-use Rattle.exact.proofs.Steps.{two-is, difference, along, square-parts, difference-exact}
+use Rattle.exact.proofs.Distance.{margin, Is, whole-is, is-mag, is-most, rootOf, root-is-finite, root-most, root-at-most-fine, root-at-least-fine}
+use Rattle.exact.proofs.Steps.{two-is, float, difference, along, square-parts, square-is, difference-exact}
 use Rattle.exact.proofs.Coordinates.{product-most, quotient-most, product-least}
 
 module _ (r₁ r₂ D : ℕ) (P₁ : 1 ≤ r₁) (L₁ : r₁ ≤ 20000) (P₂ : 1 ≤ r₂) (L₂ : r₂ ≤ 20000) (low : gap r₁ r₂ * gap r₁ r₂ < D) (high : D < (r₁ + r₂) * (r₁ + r₂)) where
@@ -120,18 +122,105 @@ module _ (r₁ r₂ D : ℕ) (P₁ : 1 ≤ r₁) (L₁ : r₁ ≤ 20000) (P₂ :
   twice-pos : 0 < mag (mul binary64 two64 d)
   twice-pos = lt-of-lt-of-le (mul-pos q-pos (pow2-pos 1038)) twice-least
 
+  -- the chord over whole numbers
+  crux : (reach r₁ r₂ D * 2 ^ 20 + 1) * 2 ^ 49 + q ≤ r₁ * 2 ^ 33 * q
+  crux =
+      inside r₁ r₂ D (reach r₁ r₂ D) q (mul-pos P₁ P₂) L₁ L₂ (omega arith) (reach-square r₁ r₂ D low high (mul-pos P₁ P₂)) (reach-most r₁ r₂ D low high) (omega (arith, q-floor .most)) q-most
+
   -- the foot lies inside by 2 ^ -33
   pub along-most : Most (r₁ * 2 ^ 33 - 1) 1041 (along r₁ r₂ d)
   along-most =
       quotient-most (numerator-most .finite) twice-finite (omega arith) (omega arith) twice-pos
       (le-trans (mul-le-mul-right one (numerator-most .bound)) (le-trans (scaled (reach r₁ r₂ D) (r₁ * 2 ^ 33 - 1) (less (r₁ * 2 ^ 33 - 1) (omega arith) crux)) (mul-le-mul-left ((r₁ * 2 ^ 33 - 1) * pow2 1041) twice-least)))
     where
-      crux : (reach r₁ r₂ D * 2 ^ 20 + 1) * 2 ^ 49 + q ≤ r₁ * 2 ^ 33 * q
-      crux =
-          inside r₁ r₂ D (reach r₁ r₂ D) q (mul-pos P₁ P₂) L₁ L₂ (omega arith) (reach-square r₁ r₂ D low high (mul-pos P₁ P₂)) (reach-most r₁ r₂ D low high) (omega (arith, q-floor .most)) q-most
-
       less : (w : ℕ) {m : ℕ} → w + 1 ≡ r₁ * 2 ^ 33 → m + q ≤ r₁ * 2 ^ 33 * q → m ≤ w * q
       less w e h = omega (arith, ap (λ (k : ℕ). k * q) e)
 
       scaled : (A w : ℕ) → (A * 2 ^ 20 + 1) * 2 ^ 49 ≤ w * q → (A * 2 ^ 20 + 1) * pow2 1054 * one ≤ w * pow2 1041 * (q * pow2 1038)
       scaled A w h = rw (pow2-split 17 1037, pow2-split 37 1037, pow2-split 4 1037, pow2-split 1 1037) (omega (arith, mul-le-mul-right (margin * margin) h))
+
+  -- ---- the angle of the chord: the quotient that intersection_area hands to acos
+
+  -- d² + r₁² is D + r₁², give or take 2 ^ -20
+  abbrev sum : Float
+  sum = add binary64 (mul binary64 d d) (mul binary64 (float r₁) (float r₁))
+
+  sum-most : Most (D * 2 ^ 20 + 1 + r₁ * r₁ * 2 ^ 20) 1054 sum
+  sum-most =
+      add-most squared-most (most-finer 20 (is-most (square-is r₁ L₁) (le-refl (r₁ * r₁)))) (omega (arith, far, mul-le-mul L₁ L₁)) (omega arith)
+
+  sum-parts : (plus sum ≡ mag sum) × (minus sum ≡ 0)
+  sum-parts =
+      let a = square-parts (root-is-finite D D-below) (squared-most .finite) in
+      let b = square-is r₁ L₁ in
+      let none = minus-none (le-refl 1) (result-rounded (le-refl 1) (add-result (squared-most .finite) (b .finite)) (sum-most .finite)) (omega (arith, a .1, b .down)) in
+      (omega (arith, plus-minus sum, none), none)
+
+  sum-least : (D + r₁ * r₁) * 2 ^ 20 * pow2 1054 ≤ mag sum + pow2 1054
+  sum-least = go ((D + r₁ * r₁) * 2 ^ 20 - 1) (omega arith)
+    where
+      go : (w : ℕ) → w + 1 ≡ (D + r₁ * r₁) * 2 ^ 20 → (D + r₁ * r₁) * 2 ^ 20 * pow2 1054 ≤ mag sum + pow2 1054
+      go w e =
+          let a = square-parts (root-is-finite D D-below) (squared-most .finite) in
+          let b = square-is r₁ L₁ in
+          let u : plus (mul binary64 (float r₁) (float r₁)) ≡ r₁ * r₁ * (2 ^ 20 * pow2 1054) = rw (pow2-split 20 1054) at (b .up) in
+          let exact = ap (λ (k : ℕ). k * pow2 1054) e in
+          let above : w * pow2 1054 ≤ plus sum =
+          plus-ge (le-refl 1) (result-rounded (le-refl 1) (add-result (squared-most .finite) (b .finite)) (sum-most .finite))
+          (bound-digits 1054 (omega (arith, far, mul-le-mul L₁ L₁))) (omega (arith, a .0, a .1, b .down, u, squared-least, exact)) in
+          omega (arith, above, sum-parts .0, exact)
+
+  -- d² + r₁² - r₂² is X, give or take as much
+  abbrev cosineNumerator : Float
+  cosineNumerator = sub binary64 sum (mul binary64 (float r₂) (float r₂))
+
+  reach-few : reach r₁ r₂ D * 2 ^ 20 + 1 ≤ 2 ^ 53
+  reach-few = omega (arith, reach-most r₁ r₂ D low high, mul-le-mul L₁ L₁, mul-le-mul L₁ L₂)
+
+  cosine-numerator-most : Most (reach r₁ r₂ D * 2 ^ 20 + 1) 1054 cosineNumerator
+  cosine-numerator-most = go (reach r₁ r₂ D) (gap-within (r₁ * r₁ + D) (r₂ * r₂) .0) (gap-within (r₁ * r₁ + D) (r₂ * r₂) .1) reach-few
+    where
+      go : (A : ℕ) → r₁ * r₁ + D ≤ r₂ * r₂ + A → r₂ * r₂ ≤ r₁ * r₁ + D + A → A * 2 ^ 20 + 1 ≤ 2 ^ 53 → Most (A * 2 ^ 20 + 1) 1054 cosineNumerator
+      go A h k few =
+          let b = square-is r₂ L₂ in
+          let u : plus (mul binary64 (float r₂) (float r₂)) ≡ r₂ * r₂ * (2 ^ 20 * pow2 1054) = rw (pow2-split 20 1054) at (b .up) in
+          let r = sub-result (sum-most .finite) (b .finite) in
+          let over = mul-le-mul-right (pow2 1054) h in
+          let under = mul-le-mul-right (pow2 1054) k in
+          let square = mul binary64 (float r₂) (float r₂) in
+          let up : plus sum + minus square ≤ minus sum + plus square + (A * 2 ^ 20 + 1) * pow2 1054 * 1 =
+          omega (arith, sum-most .bound, sum-parts .0, sum-parts .1, b .down, u, over) in
+          let down : minus sum + plus square ≤ plus sum + minus square + (A * 2 ^ 20 + 1) * pow2 1054 * 1 =
+          omega (arith, sum-least, sum-parts .0, sum-parts .1, b .down, u, under) in
+          let f = result-finite (le-refl 1) r (bound-digits 1054 few) up down (bound-limit few (omega arith)) in
+          record { finite = f; bound = result-le (le-refl 1) r (bound-digits 1054 few) up down f }
+
+  -- 2 d r₁ is no less than that may be
+  radius-is : Is (float r₁) r₁
+  radius-is = whole-is r₁ (omega arith)
+
+  denominator-finite : Finite (mul binary64 (mul binary64 two64 d) (float r₁))
+  denominator-finite =
+      product-most twice-finite (radius-is .finite) {j = 2 ^ 32} {a = 1074} (omega arith) (omega arith)
+      (rw (is-mag radius-is) (omega (arith, mul-le-mul twice-most (mul-le-mul-right one L₁)))) .finite
+    where
+      twice-most : mag (mul binary64 two64 d) ≤ 2 ^ 17 * one
+      twice-most = product-most (two-whole .finite) (root-is-finite D D-below) {j = 2 ^ 17} {a = 1074} (omega arith) (omega arith) (rw (is-mag two-whole) (omega (arith, mul-le-mul-left (2 * one) (root-most D D-below .bound)))) .bound
+
+  denominator-least : (reach r₁ r₂ D * 2 ^ 20 + 1) * pow2 1054 ≤ mag (mul binary64 (mul binary64 two64 d) (float r₁))
+  denominator-least =
+      product-least twice-finite (radius-is .finite) 1054 reach-few denominator-finite
+      (rw (is-mag radius-is)
+      (le-trans (scaled (reach r₁ r₂ D * 2 ^ 20 + 1) q r₁ one (within (reach r₁ r₂ D * 2 ^ 20 + 1) q r₁ crux)) (mul-le-mul-right (r₁ * one) twice-least)))
+    where
+      within : (w q r : ℕ) → w * 2 ^ 49 + q ≤ r * 2 ^ 33 * q → w * 2 ^ 16 ≤ q * r
+      within w q r h = omega arith
+
+      scaled : (w q r u : ℕ) → w * 2 ^ 16 ≤ q * r → w * pow2 1054 * u ≤ q * pow2 1038 * (r * u)
+      scaled w q r u h = rw (pow2-split 16 1038) (omega (arith, mul-le-mul-right (pow2 1038 * u) h))
+
+  -- (d² + r₁² - r₂²) / (2 d r₁) lies from -1 to 1
+  pub cosine-most : Most 1 1074 (cosineOf (float r₁) (float r₂) d)
+  cosine-most =
+      quotient-most (cosine-numerator-most .finite) denominator-finite (omega arith) (omega arith) (lt-of-lt-of-le (mul-pos (omega arith) (pow2-pos 1054)) denominator-least)
+      (le-trans (mul-le-mul-right one (le-trans (cosine-numerator-most .bound) denominator-least)) (omega arith))

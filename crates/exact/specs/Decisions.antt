@@ -2,11 +2,12 @@
 -- below rounding changes none of these." Each statement equates what the definitions of `geometry` give, with f64, with what those of `heads` give, over
 -- whole numbers. proofs/Theorem.antt proves these records for every ordered pair of heads within document 01's limits.
 use Prim.Native.Nat.{ℕ, _+_, _*_, _≤_, _<_}
-use mathlib.Core.Path.{_≡_}
+use mathlib.Core.Path.{_≡_, refl}
 use mathlib.Core.Bool.{Bool, true, false, _&&_}
 use mathlib.Core.List.{[]}
 use mathlib.Core.Logic.{_↔_}
 use lib.Dec.{T, ltb, leb}
+use lib.Ieee.{Float}
 use lib.ListN.{length}
 use Rattle.heads.specs.declared.Head.{Head}
 use Rattle.heads.specs.declared.Relation.the-variants.{Crossing}
@@ -15,14 +16,16 @@ use Rattle.heads.specs.Relation.{gap, points}
 use Rattle.heads.specs.Pair.{squaredDistance, radiusOf, relationOf, meetsOf, meetsOnceOf, containsOf}
 use Rattle.binary64.specs.Units.{negative}
 use Rattle.binary64.specs.Functions.{absolute}
-use Rattle.binary64.specs.Constants.{zero64}
+use Rattle.binary64.specs.Constants.{zero64, half64, two64}
 use Rattle.binary64.specs.Magnitude.{Most, Least}
+use Rattle.elementary.specs.Arctangent.{acos}
+use Rattle.elementary.specs.Root.{root}
 use Rattle.geometry.specs.declared.circle.Circle.{Circle}
 use Rattle.geometry.specs.declared.meeting.Meeting.{Meeting}
 use Rattle.geometry.specs.Meeting as meeting
-use Rattle.binary64.specs.Floats.{_+ᶠ_, _-ᶠ_, _≤ᶠ_}
+use Rattle.binary64.specs.Floats.{_+ᶠ_, _-ᶠ_, _*ᶠ_, _/ᶠ_, _≤ᶠ_}
 use Rattle.geometry.specs.Point.{distance}
-use Rattle.geometry.specs.Circle.{intersectionArea, contains, intersects, intersectionPoints}
+use Rattle.geometry.specs.Circle.{lens, intersectionArea, contains, intersects, intersectionPoints}
 use Rattle.exact.specs.Circle.{circleOf}
 use Rattle.exact.specs.Points.{AllPlaced}
 
@@ -101,3 +104,21 @@ NoPointsUnlessMet = (a b : Head) → T (isDrawn a) → T (isDrawn b) → meetsOf
 abbrev pub NoAreaBeyond : Type 0
 NoAreaBeyond = (a b : Head) → T (isDrawn a) → T (isDrawn b) → sum a b * sum a b ≤ squaredDistance a b
     → intersectionArea (circleOf a) (circleOf b) ≡ zero64
+
+-- ---- what intersection_area hands to acos
+
+-- The cosine of half the angle that the chord has at a circle of radius r, for circles of radii r and s whose centres are at the distance d.
+abbrev pub cosineOf : Float → Float → Float → Float
+cosineOf r s d = (d *ᶠ d +ᶠ r *ᶠ r -ᶠ s *ᶠ s) /ᶠ (two64 *ᶠ d *ᶠ r)
+
+-- It is what the two sectors of the lens are worked out from.
+pub lens-is : (r s d : Float)
+    → lens r s d ≡ r *ᶠ r *ᶠ acos (cosineOf r s d) +ᶠ s *ᶠ s *ᶠ acos (cosineOf s r d)
+    -ᶠ half64 *ᶠ root ((r +ᶠ s -ᶠ d) *ᶠ (d +ᶠ r -ᶠ s) *ᶠ (d -ᶠ r +ᶠ s) *ᶠ (d +ᶠ r +ᶠ s))
+lens-is r s d = refl
+
+-- Wherever intersection_area comes to the lens, both are of the domain of acos, -1 to 1.
+abbrev pub CosinesWithin : Type 0
+CosinesWithin = (a b : Head) → T (isDrawn a) → T (isDrawn b) → beyond (circleOf a) (circleOf b) ≡ false → within (circleOf a) (circleOf b) ≡ false
+    → Most 1 1074 (cosineOf (circleOf a .radius) (circleOf b .radius) (distance (circleOf a .center) (circleOf b .center)))
+    × Most 1 1074 (cosineOf (circleOf b .radius) (circleOf a .radius) (distance (circleOf a .center) (circleOf b .center)))
