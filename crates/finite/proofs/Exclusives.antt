@@ -75,7 +75,7 @@ unclamped-finite n k present number few small bounded S hs =
 
 -- ---- not below zero
 
-zero-not-below : NotBelowZero zero64
+pub zero-not-below : NotBelowZero zero64
 unfolding lt ofBits isNan
 zero-not-below = record { not-below = refl; plus-signed = refl; number = refl }
 
