@@ -18,7 +18,7 @@ use Rattle.binary64.specs.Functions.{clampToZero}
 use Rattle.binary64.specs.Magnitude.{Most}
 use Rattle.binary64.proofs.Magnitude.{most-zero, most-weaken, most-coarser, most-either, add-most, sub-most}
 use Rattle.plan.proofs.Exactly.{plan-taken}
-use Rattle.exclusive.specs.Exclusive.{sumOnto, above, subtracted, unclamped, exclusiveRow}
+use Rattle.exclusive.specs.Exclusive.{sumOnto, above, subtracted, unclamped}
 use Rattle.exclusive.proofs.Places.{above-few, masks-le}
 use Rattle.exclusive.proofs.Unclamped.{above-every}
 use Rattle.finite.specs.Exclusives.{MostTwoTo, UnclampedFinite, NotBelowZero, NoExclusiveBelowZero}

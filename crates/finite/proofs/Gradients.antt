@@ -1,22 +1,18 @@
 -- Exclusives with gradients are finite: each entry of a gradient goes the way of an area, so that the bound by levels serves both. Scattering puts
 -- numbers of a gradient among zeros, and the plan's gradients by position are bounded in proofs/Rows.antt and proofs/ClippedRows.antt.
-use mathlib.Core.Path.{_≡_, refl, sym, ap, _∙_, subst}
+use mathlib.Core.Path.{_≡_, refl}
 use mathlib.Core.Bool.{Bool, true, false, cond}
 use mathlib.Core.List.{List, [], _∷_, _++_}
 use Prim.Native.Nat.{ℕ, zero, suc, _+_, _*_, _^_, _≤_, _<_}
 use native.Mathlib.Omega.{arith}
 use lib.Dec.{lit≤}
 use lib.Ieee.{Float, nan, lt, sub, ofBits}
-use lib.ListN.{length, getD, set, replicate}
+use lib.ListN.{getD, set, replicate}
 use Rattle.lists.specs.Every.{Every, every-at, every-set, every-replicate}
-use Rattle.lists.specs.Lists.{upTo}
 use Rattle.binary64.specs.Constants.{zero64}
 use Rattle.binary64.specs.Magnitude.{Most}
 use Rattle.binary64.proofs.Magnitude.{most-zero, most-weaken, most-coarser, most-either}
 use Rattle.geometry.specs.Rectangle.{area}
-use Rattle.plan.specs.declared.Answer.the-variants.{Taken}
-use Rattle.plan.specs.declared.Plan.{Plan}
-use Rattle.plan.specs.Checks.{planAnswer}
 use Rattle.plan.proofs.Exactly.{plan-taken}
 use Rattle.drawn.specs.Drawn.{boxOf}
 use Rattle.intersections.specs.Members.{headsOf}
@@ -97,9 +93,13 @@ unfolding unclamped lt sub ofBits
 only-below-replaced = record { not-below = none-below; nan-stays = refl; minus-zero-stays = refl }
 
 gradients-finite : (k j n width : ℕ) (present : ℕ → Bool) (areas : ℕ → Float) (rows : ℕ → List Float) → n ≤ 10 → k ≤ 862 → j ≤ 862
-    → ((S : ℕ) → S < 2 ^ n → MostTwoTo k (areas S)) → ((S i : ℕ) → i < width → MostTwoTo j (getD (rows S) i nan)) → GradientsFinite k j n width present areas rows
+    → ((S : ℕ) → S < 2 ^ n → MostTwoTo k (areas S)) → ((S i : ℕ) → i < width → MostTwoTo j (getD (rows S) i nan))
+    → GradientsFinite k j n width present areas rows
 gradients-finite k j n width present areas rows few hk hj bounded entries = record {
-  exclusive = λ S h. most-either (present S) (most-either (replaced n present areas S) most-zero (unclamped-finite n k present areas few hk bounded S h)) most-zero;
+  exclusive = λ S h.
+      most-either (present S)
+      (most-either (replaced n present areas S) most-zero (unclamped-finite n k present areas few hk bounded S h))
+      most-zero;
   not-below = none-below n present areas;
   entries = λ S i h l.
       most-either (present S)

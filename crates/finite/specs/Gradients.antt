@@ -2,7 +2,7 @@
 -- claimed, and proved in proofs/Gradients.antt. Over any list of sets. `Most j 1074 x` says that x is finite and |x| ≤ j; `MostTwoTo k x`, |x| ≤ 2^k.
 use mathlib.Core.Path.{_≡_}
 use mathlib.Core.Bool.{Bool, true, false}
-use Prim.Native.Nat.{ℕ, _+_, _*_, _^_, _≤_, _<_}
+use Prim.Native.Nat.{ℕ, _+_, _*_, _^_, _<_}
 use lib.Ieee.{Float, nan, lt}
 use lib.ListN.{length, getD}
 use mathlib.Core.List.{List}
