@@ -1,14 +1,14 @@
--- Exclusives with gradients are finite: each entry of a gradient goes the way of an area, so that the bound by levels serves both. Scattering puts
--- numbers of a gradient among zeros, and the plan's gradients by position are bounded in proofs/Rows.antt and proofs/ClippedRows.antt.
+-- Exclusives with gradients are finite: each entry of a gradient goes the way of an area, so that the bound by levels serves both. The
+-- plan's gradients by position are bounded in proofs/Rows.antt and proofs/ClippedRows.antt.
 use mathlib.Core.Path.{_≡_, refl}
 use mathlib.Core.Bool.{Bool, true, false, cond}
-use mathlib.Core.List.{List, [], _∷_, _++_}
+use mathlib.Core.List.{List, []}
 use Prim.Native.Nat.{ℕ, zero, suc, _+_, _*_, _^_, _≤_, _<_}
 use native.Mathlib.Omega.{arith}
 use lib.Dec.{lit≤}
 use lib.Ieee.{Float, nan, lt, sub, ofBits}
-use lib.ListN.{getD, set, replicate}
-use Rattle.lists.specs.Every.{Every, every-at, every-set, every-replicate}
+use lib.ListN.{getD, replicate}
+use Rattle.lists.specs.Every.{Every, every-at}
 use Rattle.binary64.specs.Constants.{zero64}
 use Rattle.binary64.specs.Magnitude.{Most}
 use Rattle.binary64.proofs.Magnitude.{most-zero, most-weaken, most-coarser, most-either}
@@ -18,7 +18,7 @@ use Rattle.drawn.specs.Drawn.{boxOf}
 use Rattle.intersections.specs.Members.{headsOf}
 use Rattle.exclusive.specs.Exclusive.{unclamped}
 use Rattle.exclusive.specs.Gradient.{replaced}
-use Rattle.areas.specs.Scatter.{entriesOf, boxEntries, put, scatter, scatterClipped}
+use Rattle.areas.specs.Scatter.{scatter, scatterClipped}
 use Rattle.areas.specs.Clipped.{clippedGradientRow}
 use Rattle.areas.specs.Open.{openGradientRow}
 use Rattle.areas.specs.Gradients.{boxSlopes, clippedGradients, openGradients}
@@ -26,28 +26,12 @@ use Rattle.areas.proofs.Gradients.{clipped-gradients, open-gradients}
 use Rattle.finite.specs.Exclusives.{MostTwoTo}
 use Rattle.finite.specs.Gradients.{ClippedGradientRowsFinite, OpenGradientRowsFinite}
 use Rattle.finite.specs.Gradients.{clippedSums, GradientsFinite, ClippedGradientsFinite, OpenGradientsFinite, OnlyBelowReplaced}
+use Rattle.finite.proofs.Scattering.{zeros, scatter-most, clipped-most}
 use Rattle.finite.proofs.Rows.{plan-finite, afresh-most, table-finite}
 use Rattle.finite.proofs.ClippedRows.{plan-clipped-finite, plan-box-finite}
 use Rattle.finite.proofs.Exclusives.{unclamped-finite, zero-not-below}
 
--- ---- scattering
-
-every-put : (P : Float → Type 0) (ps : List ℕ) (g out : List Float) → Every P g → Every P out → Every P (put ps g out)
-unfolding put
-every-put P [] g out hg ho = ho
-every-put P (p ∷ ps) [] out hg ho = ho
-every-put P (p ∷ ps) (x ∷ g) out hg ho = every-put P ps g (set out p x) (hg .1) (every-set P out p x ho (λ h. hg .0))
-
-zeros : (j m : ℕ) → Every (Most j 1074) (replicate m zero64)
-zeros j m = every-replicate (Most j 1074) m zero64 most-zero
-
-scatter-most : (j : ℕ) (js : List ℕ) (n : ℕ) (g : List Float) → Every (Most j 1074) g → Every (Most j 1074) (scatter js n g)
-unfolding scatter
-scatter-most j js n g h = every-put (Most j 1074) (entriesOf js) g (replicate (3 * n) zero64) h (zeros j (3 * n))
-
-clipped-most : (j : ℕ) (js : List ℕ) (n : ℕ) (g : List Float) → Every (Most j 1074) g → Every (Most j 1074) (scatterClipped js n g)
-unfolding scatterClipped
-clipped-most j js n g h = every-put (Most j 1074) (entriesOf js ++ boxEntries n) g (replicate (n * 3 + 4) zero64) h (zeros j (n * 3 + 4))
+-- ---- before the subtraction
 
 either-every : (P : Float → Type 0) (b : Bool) (l k : List Float) → Every P l → Every P k → Every P (cond b l k)
 either-every P true l k h g = h

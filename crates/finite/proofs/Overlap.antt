@@ -5,7 +5,7 @@ use Prim.Native.Nat.{_^_, _-_, _≤_, _<_}
 use native.Mathlib.Omega.{arith}
 use lib.Dec.{T, lit≤}
 use lib.ListN.{length, length-map}
-use Rattle.lists.specs.Every.{Every, every-map, every-mapped, every-at, every-by-index}
+use Rattle.lists.specs.Every.{Every, every-map, every-both, every-mapped, every-by-index}
 use Rattle.binary64.specs.Magnitude.{Most}
 use Rattle.binary64.proofs.Magnitude.{most-weaken}
 use Rattle.heads.specs.declared.Head.{Head}
@@ -22,9 +22,11 @@ use Rattle.intersections.specs.Members.{noCircle, circleAt, headsOf, membersOf}
 use Rattle.intersections.specs.Points.{collected}
 use Rattle.intersections.specs.Counts.{heads-below, heads-few}
 use Rattle.outline.specs.Counts.{outline-few}
+use Rattle.regions.specs.Table.{headAt}
+use Rattle.areas.proofs.Scattering.{heads-in}
 use Rattle.overlaps.specs.Overlap.{ofAll, overlap, chosen}
 use Rattle.finite.specs.Open.{InDomain}
-use Rattle.finite.specs.Overlap.{OverlapFinite}
+use Rattle.finite.specs.Overlap.{OverlapOfFinite, OverlapFinite}
 use Rattle.finite.proofs.Circles.{circle-finite, shared-finite}
 use Rattle.finite.proofs.Open.{area-finite}
 use Rattle.finite.proofs.Rows.{members-domain}
@@ -64,18 +66,25 @@ circles-of-heads p ten ok =
     let g : i < p .n = subst (λ n. i < n) (circles-many p ten (ok .count)) h in
     record { head = _; limits = within-limits _ (ok .heads i g); is = circle-at p ten (ok .count) i noCircle g })
 
+-- What the heads of a mask water together.
+pub overlap-of-finite : OverlapOfFinite
+overlap-of-finite p ten few S limits =
+    let cs = planCircles p in
+    let js = headsOf (length cs) S in
+    let fewer : length (chosen cs S) ≤ 10 = omega (arith, length-map js (circleAt cs), heads-few (length cs) S, circles-few p few) in
+    overlap-most (chosen cs S) fewer
+    (every-mapped OfHead (circleAt cs) js
+    (every-both js
+    (λ j h t.
+    let g : j < p .n = subst (λ n. j < n) (circles-many p ten few) h in
+    record { head = headAt p j; limits = limits j g t; is = circle-at p ten few j noCircle g })
+    (heads-below (length cs) S) (heads-in (length cs) S)))
+
 -- What the heads of a taken plan water together.
 pub overlap-finite : OverlapFinite
 overlap-finite p ten taken =
     let ok = plan-taken p ten .0 taken in
-    let cs = planCircles p in
-    let few = circles-few p (ok .count) in
-    let of = circles-of-heads p ten ok in
     record {
-      all = overlap-most cs few of;
-      some = λ S.
-          let js = headsOf (length cs) S in
-          let fewer : length (chosen cs S) ≤ 10 = omega (arith, length-map js (circleAt cs), heads-few (length cs) S) in
-          overlap-most (chosen cs S) fewer
-          (every-mapped OfHead (circleAt cs) js (every-map js (λ j g. every-at OfHead cs j noCircle g of) (heads-below (length cs) S)));
+      all = overlap-most (planCircles p) (circles-few p (ok .count)) (circles-of-heads p ten ok);
+      some = λ S. overlap-of-finite p ten (ok .count) S (λ j h t. within-limits (headAt p j) (ok .heads j h));
     }
