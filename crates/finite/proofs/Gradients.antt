@@ -3,7 +3,8 @@
 use mathlib.Core.Path.{_≡_, refl}
 use mathlib.Core.Bool.{Bool, true, false, cond}
 use mathlib.Core.List.{List, []}
-use Prim.Native.Nat.{ℕ, zero, suc, _+_, _*_, _^_, _≤_, _<_}
+use Prim.Native.Nat.{ℕ, zero, suc, _+_, _*_, _/_, _%_, _^_, _≤_, _<_}
+use native.Mathlib.Nat.{div-lt-iff-lt-mul, mod-lt}
 use native.Mathlib.Omega.{arith}
 use lib.Dec.{lit≤}
 use lib.Ieee.{Float, nan, lt, sub, ofBits}
@@ -17,7 +18,7 @@ use Rattle.plan.proofs.Exactly.{plan-taken}
 use Rattle.drawn.specs.Drawn.{boxOf}
 use Rattle.intersections.specs.Members.{headsOf}
 use Rattle.exclusive.specs.Exclusive.{unclamped}
-use Rattle.exclusive.specs.Gradient.{replaced}
+use Rattle.exclusive.specs.Gradient.{replaced, unlessReplaced}
 use Rattle.areas.specs.Scatter.{scatter, scatterClipped}
 use Rattle.areas.specs.Clipped.{clippedGradientRow}
 use Rattle.areas.specs.Open.{openGradientRow}
@@ -79,18 +80,27 @@ only-below-replaced = record { not-below = none-below; nan-stays = refl; minus-z
 gradients-finite : (k j n width : ℕ) (present : ℕ → Bool) (areas : ℕ → Float) (rows : ℕ → List Float) → n ≤ 10 → k ≤ 862 → j ≤ 862
     → ((S : ℕ) → S < 2 ^ n → MostTwoTo k (areas S)) → ((S i : ℕ) → i < width → MostTwoTo j (getD (rows S) i nan))
     → GradientsFinite k j n width present areas rows
-gradients-finite k j n width present areas rows few hk hj bounded entries = record {
+gradients-finite k j n width present areas rows few hk hj bounded small = record {
   exclusive = λ S h.
       most-either (present S)
       (most-either (replaced n present areas S) most-zero (unclamped-finite n k present areas few hk bounded S h))
       most-zero;
   not-below = none-below n present areas;
-  entries = λ S i h l.
-      most-either (present S)
-      (most-either (replaced n present areas S) most-zero
-      (unclamped-finite n j present (λ T. getD (rows T) i nan) few hj (λ T g. entries T i l) S h))
-      most-zero;
+  entries = entries;
+  numbers = λ x h.
+      let some : 0 < width = at-least-one width x h in
+      entries (x / width) (x % width) (div-lt-iff-lt-mul some .1 h) (mod-lt x some);
 }
+  where
+    entries : (S i : ℕ) → S < 2 ^ n → i < width → MostTwoTo (j + 11 * (n + 1)) (unlessReplaced n present areas (λ T. getD (rows T) i nan) S)
+    entries S i h l =
+        most-either (present S)
+        (most-either (replaced n present areas S) most-zero (unclamped-finite n j present (λ T. getD (rows T) i nan) few hj (λ T g. small T i l) S h))
+        most-zero
+
+    at-least-one : (w x : ℕ) → x < 2 ^ n * w → 0 < w
+    at-least-one zero x h = absurd (omega arith)
+    at-least-one (suc w) x h = omega arith
 
 -- The exclusives of a taken plan in its box, with their gradients,
 pub clipped-gradients-finite : ClippedGradientsFinite

@@ -2,7 +2,7 @@
 -- claimed, and proved in proofs/Gradients.antt. Over any list of sets. `Most j 1074 x` says that x is finite and |x| ≤ j; `MostTwoTo k x`, |x| ≤ 2^k.
 use mathlib.Core.Path.{_≡_}
 use mathlib.Core.Bool.{Bool, true, false}
-use Prim.Native.Nat.{ℕ, _+_, _*_, _^_, _<_}
+use Prim.Native.Nat.{ℕ, _+_, _*_, _/_, _%_, _^_, _<_}
 use lib.Ieee.{Float, nan, lt}
 use lib.ListN.{length, getD}
 use mathlib.Core.List.{List}
@@ -47,6 +47,9 @@ pub record GradientsFinite (k j n width : ℕ) (present : ℕ → Bool) (areas :
   pub exclusive : (S : ℕ) → S < 2 ^ n → MostTwoTo (k + 11 * (n + 1)) (exclusiveWithGradient n present areas S)
   pub not-below : (S : ℕ) → lt (exclusiveWithGradient n present areas S) zero64 ≡ false
   pub entries : (S i : ℕ) → S < 2 ^ n → i < width → MostTwoTo (j + 11 * (n + 1)) (unlessReplaced n present areas (λ T. getD (rows T) i nan) S)
+  -- the rows one after another in a lent table: number x is entry x % width of row x / width
+  pub numbers : (x : ℕ) → x < 2 ^ n * width
+      → MostTwoTo (j + 11 * (n + 1)) (unlessReplaced n present areas (λ T. getD (rows T) (x % width) nan) (x / width))
 
 -- In the box: areas of at most 2^(46 + 11(n+1)), entries of at most 2^(35 + 11(n+1)), which for ten heads are 2^167 and 2^156.
 abbrev pub ClippedGradientsFinite : Type 0
