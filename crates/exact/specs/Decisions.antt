@@ -11,7 +11,7 @@ use lib.Ieee.{Float}
 use lib.ListN.{length}
 use Rattle.heads.specs.declared.Head.{Head}
 use Rattle.heads.specs.declared.Relation.the-variants.{Crossing}
-use Rattle.heads.specs.Limits.{inLimits}
+use Rattle.heads.specs.Limits.{isDrawn}
 use Rattle.heads.specs.Relation.{gap, points}
 use Rattle.heads.specs.Pair.{squaredDistance, radiusOf, relationOf, meetsOf, meetsOnceOf, containsOf}
 use Rattle.binary64.specs.Units.{negative}
@@ -85,24 +85,24 @@ pub record Bounded (a b : Head) : Type 0 where
   -- each meeting point is finite, its coordinates at most 80000 from zero
   pub placed : AllPlaced (intersectionPoints (circleOf a) (circleOf b))
 
--- For every head within the limits, and for every ordered pair of them.
+-- For every head that is drawn (`isDrawn`), and for every ordered pair of them.
 abbrev pub IsDrawn : Type 0
-IsDrawn = (h : Head) → T (inLimits h) → Drawn h
+IsDrawn = (h : Head) → T (isDrawn h) → Drawn h
 
 abbrev pub DecidesExactly : Type 0
-DecidesExactly = (a b : Head) → T (inLimits a) → T (inLimits b) → Decided a b
+DecidesExactly = (a b : Head) → T (isDrawn a) → T (isDrawn b) → Decided a b
 
 abbrev pub StaysBounded : Type 0
-StaysBounded = (a b : Head) → T (inLimits a) → T (inLimits b) → Bounded a b
+StaysBounded = (a b : Head) → T (isDrawn a) → T (isDrawn b) → Bounded a b
 
 -- Heads that do not meet have no meeting points, in either order of the pair: what the theorem on lists of edits asks of the geometry.
 abbrev pub NoPointsUnlessMet : Type 0
-NoPointsUnlessMet = (a b : Head) → T (inLimits a) → T (inLimits b) → meetsOf a b ≡ false
+NoPointsUnlessMet = (a b : Head) → T (isDrawn a) → T (isDrawn b) → meetsOf a b ≡ false
     → (intersectionPoints (circleOf a) (circleOf b) ≡ []) × (intersectionPoints (circleOf b) (circleOf a) ≡ [])
 
 -- "Giving heads that touch from outside an `intersection_area` above zero" is a slip: heads that touch from outside or are apart have +0.
 abbrev pub NoAreaBeyond : Type 0
-NoAreaBeyond = (a b : Head) → T (inLimits a) → T (inLimits b) → sum a b * sum a b ≤ squaredDistance a b
+NoAreaBeyond = (a b : Head) → T (isDrawn a) → T (isDrawn b) → sum a b * sum a b ≤ squaredDistance a b
     → intersectionArea (circleOf a) (circleOf b) ≡ zero64
 
 -- ---- the area of a lens
