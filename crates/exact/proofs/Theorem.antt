@@ -12,7 +12,7 @@ use lib.ListN.{length}
 use lib.IntN.{ℤ, pos}
 use lib.Ieee.{Float, binary64, ofInt}
 use mir.Facts.{and-yes}
-use borrow.Author.Tests.{leb-false, lt-ltb, le-ltb, le-leb, eq-eqb, ne-eqb}
+use borrow.Author.Tests.{lt-ltb, le-ltb, le-leb, leb-false, eq-eqb, ne-eqb}
 use Rattle.heads.specs.declared.Head.{Head}
 use Rattle.heads.specs.declared.Relation.{Relation}
 use Rattle.heads.specs.declared.Relation.the-variants.{Apart, TouchingOutside, Crossing, TouchingInside, Holding, Identical}
@@ -29,11 +29,11 @@ use Rattle.geometry.specs.Circle as circle
 use Rattle.geometry.specs.Meeting.{number-of-points}
 use Rattle.geometry.specs.Point.{at, distance}
 use Rattle.exact.specs.Circle.{circleOf}
-use Rattle.exact.specs.Decisions.{IsDrawn, DecidesExactly, StaysBounded, NoPointsUnlessMet, NoAreaBeyond, cosineOf, CosinesWithin, sum, difference}
+use Rattle.exact.specs.Decisions.{IsDrawn, DecidesExactly, StaysBounded, NoPointsUnlessMet, NoAreaBeyond, QuotientsWithin, sum, difference, quotient}
 use Rattle.exact.proofs.Chord.{gap-either}
-use Rattle.exact.proofs.Crossing.{cosine-most}
-use Rattle.exact.proofs.Distance.{rootOf, distance-is, root-is-finite, root-most, root-at-least}
+use Rattle.exact.proofs.Crossing.{quotient-within}
 use Rattle.exact.proofs.Steps.{float}
+use Rattle.exact.proofs.Distance.{rootOf, distance-is, root-is-finite, root-most, root-at-least}
 use Rattle.exact.proofs.Tests.{identical-is, apart-is, intersects-is, contains-heads, beyond-is, within-is}
 use Rattle.exact.proofs.Meeting.{Found, touching as found-touching, crossed as found-crossed}
 
@@ -260,41 +260,20 @@ no-points-unless-met a b ha hb e = (decides-exactly a b ha hb .none .1 e, decide
 pub no-area-beyond : NoAreaBeyond
 no-area-beyond a b ha hb h = rw (decides-exactly a b ha hb .outside ∙ le-leb (sum a b * sum a b) (squaredDistance a b) h)
 
--- Where intersection_area comes to the lens the circles cross, and what it hands to acos lies from -1 to 1.
-pub cosines-within : CosinesWithin
-cosines-within a b ha hb beyond within = (
-  as-floats (λ (r s : Float). Most 1 1074 (cosineOf r s (distance (circleOf a .center) (circleOf b .center)))) (circle-radius a la) (circle-radius b lb)
-      (subst (λ (d : Float). Most 1 1074 (cosineOf (float (radiusOf a)) (float (radiusOf b)) d)) (sym e)
-      (cosine-most (radiusOf a) (radiusOf b) D (la .least) (la .most) (lb .least) (lb .most) low high)),
-  as-floats (λ (r s : Float). Most 1 1074 (cosineOf r s (distance (circleOf a .center) (circleOf b .center)))) (circle-radius b lb) (circle-radius a la)
-      (subst (λ (d : Float). Most 1 1074 (cosineOf (float (radiusOf b)) (float (radiusOf a)) d)) (sym e)
-      (cosine-most (radiusOf b) (radiusOf a) D (lb .least) (lb .most) (la .least) (la .most)
-      (subst (λ (t : ℕ). t * t < D) (gap-comm (radiusOf a) (radiusOf b)) low) (omega (arith, high)))),
-)
-  where
-    la : InLimits a
-    la = limits-of a ha
+-- both quotients, over whole numbers
+both-within : (r₁ r₂ D : ℕ) → 1 ≤ r₁ → r₁ ≤ 20000 → 1 ≤ r₂ → r₂ ≤ 20000 → gap r₁ r₂ * gap r₁ r₂ < D → D < (r₁ + r₂) * (r₁ + r₂)
+    → Most 1 1074 (quotient (float r₁) (float r₂) (rootOf D)) × Most 1 1074 (quotient (float r₂) (float r₁) (rootOf D))
+both-within r₁ r₂ D P₁ L₁ P₂ L₂ low high =
+    (quotient-within r₁ r₂ D P₁ L₁ P₂ L₂ low high, quotient-within r₂ r₁ D P₂ L₂ P₁ L₁ (rw (gap-comm r₂ r₁) low) (omega arith))
 
-    lb : InLimits b
-    lb = limits-of b hb
-
-    L : squaredDistance a b < 2 ^ 32
-    L = distance-fits a b ha hb
-
-    D : ℕ
-    D = squaredDistance a b
-
-    e : distance (circleOf a .center) (circleOf b .center) ≡ rootOf (squaredDistance a b)
-    e = distance-is la lb L
-
-    circle-radius : (h : Head) → InLimits h → float (radiusOf h) ≡ circleOf h .radius
-    circle-radius h l = ap (ofInt binary64) (sym (l .whole))
-
-    as-floats : (P : Float → Float → Type 0) {r r' s s' : Float} → r ≡ r' → s ≡ s' → P r s → P r' s'
-    as-floats P f g p = subst₂ P f g p
-
-    high : squaredDistance a b < (radiusOf a + radiusOf b) * (radiusOf a + radiusOf b)
-    high = leb-false (sum a b * sum a b) (squaredDistance a b) (sym (decides-exactly a b ha hb .outside) ∙ beyond)
-
-    low : gap (radiusOf a) (radiusOf b) * gap (radiusOf a) (radiusOf b) < squaredDistance a b
-    low = leb-false (squaredDistance a b) (difference a b * difference a b) (sym (decides-exactly a b ha hb .inside) ∙ within)
+-- Where a lens is worked out, what is handed to acos is within -1 to 1.
+pub quotients-within : QuotientsWithin
+quotients-within a b ha hb out held =
+    let la = limits-of a ha in
+    let lb = limits-of b hb in
+    let D = squaredDistance a b in
+    let t = difference a b in
+    let s = sum a b in
+    rw (distance-is la lb (distance-fits a b ha hb), la .whole, lb .whole)
+    (both-within (radiusOf a) (radiusOf b) D (la .least) (la .most) (lb .least) (lb .most)
+    (leb-false D (t * t) (sym (decides-exactly a b ha hb .inside) ∙ held)) (leb-false (s * s) D (sym (decides-exactly a b ha hb .outside) ∙ out)))

@@ -18,12 +18,12 @@ use Rattle.binary64.specs.Units.{negative}
 use Rattle.binary64.specs.Functions.{absolute}
 use Rattle.binary64.specs.Constants.{zero64, half64, two64}
 use Rattle.binary64.specs.Magnitude.{Most, Least}
-use Rattle.elementary.specs.Arctangent.{acos}
-use Rattle.elementary.specs.Root.{root}
 use Rattle.geometry.specs.declared.circle.Circle.{Circle}
 use Rattle.geometry.specs.declared.meeting.Meeting.{Meeting}
 use Rattle.geometry.specs.Meeting as meeting
 use Rattle.binary64.specs.Floats.{_+ᶠ_, _-ᶠ_, _*ᶠ_, _/ᶠ_, _≤ᶠ_}
+use Rattle.elementary.specs.Arctangent.{acos}
+use Rattle.elementary.specs.Root.{root}
 use Rattle.geometry.specs.Point.{distance}
 use Rattle.geometry.specs.Circle.{lens, intersectionArea, contains, intersects, intersectionPoints}
 use Rattle.exact.specs.Circle.{circleOf}
@@ -105,20 +105,20 @@ abbrev pub NoAreaBeyond : Type 0
 NoAreaBeyond = (a b : Head) → T (isDrawn a) → T (isDrawn b) → sum a b * sum a b ≤ squaredDistance a b
     → intersectionArea (circleOf a) (circleOf b) ≡ zero64
 
--- ---- what intersection_area hands to acos
+-- ---- the area of a lens
 
--- The cosine of half the angle that the chord has at a circle of radius r, for circles of radii r and s whose centres are at the distance d.
-abbrev pub cosineOf : Float → Float → Float → Float
-cosineOf r s d = (d *ᶠ d +ᶠ r *ᶠ r -ᶠ s *ᶠ s) /ᶠ (two64 *ᶠ d *ᶠ r)
+-- what is handed to acos for the sector of a circle of radius r, beside one of radius s at the distance d
+abbrev pub quotient : Float → Float → Float → Float
+quotient r s d = (d *ᶠ d +ᶠ r *ᶠ r -ᶠ s *ᶠ s) /ᶠ (two64 *ᶠ d *ᶠ r)
 
--- It is what the two sectors of the lens are worked out from.
-pub lens-is : (r s d : Float)
-    → lens r s d ≡ r *ᶠ r *ᶠ acos (cosineOf r s d) +ᶠ s *ᶠ s *ᶠ acos (cosineOf s r d)
+-- the two sectors of a lens are worked out from these quotients, and from nothing else of acos
+pub lens-sectors : (r s d : Float) → lens r s d
+    ≡ r *ᶠ r *ᶠ acos (quotient r s d) +ᶠ s *ᶠ s *ᶠ acos (quotient s r d)
     -ᶠ half64 *ᶠ root ((r +ᶠ s -ᶠ d) *ᶠ (d +ᶠ r -ᶠ s) *ᶠ (d -ᶠ r +ᶠ s) *ᶠ (d +ᶠ r +ᶠ s))
-lens-is r s d = refl
+lens-sectors r s d = refl
 
--- Wherever intersection_area comes to the lens, both are of the domain of acos, -1 to 1.
-abbrev pub CosinesWithin : Type 0
-CosinesWithin = (a b : Head) → T (isDrawn a) → T (isDrawn b) → beyond (circleOf a) (circleOf b) ≡ false → within (circleOf a) (circleOf b) ≡ false
-    → Most 1 1074 (cosineOf (circleOf a .radius) (circleOf b .radius) (distance (circleOf a .center) (circleOf b .center)))
-    × Most 1 1074 (cosineOf (circleOf b .radius) (circleOf a .radius) (distance (circleOf a .center) (circleOf b .center)))
+-- Where a lens is worked out, both quotients are within -1 to 1: acos's domain. So no area rests on the +0 outside it.
+abbrev pub QuotientsWithin : Type 0
+QuotientsWithin = (a b : Head) → T (isDrawn a) → T (isDrawn b) → beyond (circleOf a) (circleOf b) ≡ false → within (circleOf a) (circleOf b) ≡ false
+    → Most 1 1074 (quotient (circleOf a .radius) (circleOf b .radius) (distance (circleOf a .center) (circleOf b .center)))
+    × Most 1 1074 (quotient (circleOf b .radius) (circleOf a .radius) (distance (circleOf a .center) (circleOf b .center)))
