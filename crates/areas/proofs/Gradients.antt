@@ -2,7 +2,7 @@
 use mathlib.Core.Path.{_≡_, refl, sym, ap, _∙_, subst}
 use mathlib.Core.Logic.{_⊎_, inl, inr}
 use mathlib.Core.Bool.{Bool, true, false, cond, true≢false}
-use mathlib.Core.List.{List, [], _∷_, _++_}
+use mathlib.Core.List.{List, [], _++_}
 use Prim.Native.Nat.{ℕ, zero, suc, _+_, _-_, _*_, _≤_, _<_}
 use native.Mathlib.Omega.{arith}
 use lib.ListN.{length, getD, replicate, length-append, length-replicate, getD-replicate}
@@ -15,49 +15,27 @@ use Rattle.lists.specs.Every.{Every, every-append, every-map}
 use Rattle.intersections.specs.Members.{headsOf}
 use Rattle.intersections.specs.Counts.{heads-below}
 use Rattle.plan.specs.declared.Plan.{Plan}
-use Rattle.areas.specs.Scatter.{entriesOf, boxEntries, put, scatter, scatterClipped}
+use Rattle.areas.specs.Scatter.{entriesOf, boxEntries, scatter, scatterClipped}
 use Rattle.areas.specs.Open.{openGradientRow}
 use Rattle.drawn.specs.Drawn.{boxOf}
 use Rattle.areas.specs.Clipped.{clippedGradientRow}
 use Rattle.areas.specs.Gradients.{ScattersClipped, boxSlopes, clippedGradients, openGradients, ClippedGradients, OpenGradients}
-use Rattle.areas.proofs.Scattering.{Increasing, increasing-append, heads-increasing, entries-every, entries-below, entries-increasing, entries-many, put-other, put-at, put-length, heads-in, Stands, entries-stand, stand-append, box-stands}
+use Rattle.areas.proofs.Scattering.{Increasing, heads-increasing, entries-every, entries-many, places-increasing, places-below, put-other, put-at, put-length, heads-in, Stands, entries-stand, stand-append, box-stands}
 
 -- ---- scattering in a box
-
-box-increasing : (n : ℕ) → Increasing (boxEntries n)
-box-increasing n = ((omega arith, (omega arith, (omega arith, tt))), ((omega arith, (omega arith, tt)), ((omega arith, tt), (tt, tt))))
-
-box-from : (n : ℕ) → Every (λ p. n * 3 ≤ p) (boxEntries n)
-box-from n = (omega arith, (omega arith, (omega arith, (omega arith, tt))))
 
 -- a place below the box's is none of them
 box-past : (n p : ℕ) → p < n * 3 → Every (λ q. p ≡ q → ⊥) (boxEntries n)
 box-past n p h = (λ d. omega arith, (λ d. omega arith, (λ d. omega arith, (λ d. omega arith, tt))))
 
-box-below : (n : ℕ) → Every (λ p. p < n * 3 + 4) (boxEntries n)
-box-below n = (omega arith, (omega arith, (omega arith, (omega arith, tt))))
-
--- the places of a set's heads and of the box, among n heads
 module _ (n : ℕ) (js : List ℕ) (below : Every (λ j. j < n) js) (up : Increasing js) where
-  places : List ℕ
-  places = entriesOf js ++ boxEntries n
-
-  places-increasing : Increasing places
-  unfolding places
-  places-increasing = increasing-append (n * 3) (entriesOf js) (boxEntries n) (entries-increasing js up) (box-increasing n) (entries-below n js below) (box-from n)
-
-  places-below : Every (λ p. p < n * 3 + 4) places
-  unfolding places
-  places-below =
-      every-append (λ p. p < n * 3 + 4) (entriesOf js) (boxEntries n) (every-map (entriesOf js) (λ p h. omega (arith, h)) (entries-below n js below)) (box-below n)
-
   -- the entry that stands at p
   put-stands : (g : List Float) (q p : ℕ) → length g ≡ length js * 3 + 4 → Stands (entriesOf js ++ boxEntries n) q p
       → getD (scatterClipped js n g) p nan ≡ getD g q nan
-  unfolding scatterClipped places
+  unfolding scatterClipped
   put-stands g q p lg at =
       rw (at .1)
-      (put-at (entriesOf js ++ boxEntries n) g (replicate (n * 3 + 4) zero64) (n * 3 + 4) q nan places-increasing places-below
+      (put-at (entriesOf js ++ boxEntries n) g (replicate (n * 3 + 4) zero64) (n * 3 + 4) q nan (places-increasing n js below up) (places-below n js below)
       (length-replicate (n * 3 + 4) zero64) (omega (arith, lg, entries-many js, length-append (entriesOf js) (boxEntries n))) (at .0))
 
 clipped-many : (n : ℕ) (js : List ℕ) (g : List Float) → length (scatterClipped js n g) ≡ n * 3 + 4

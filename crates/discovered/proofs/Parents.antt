@@ -2,14 +2,13 @@
 use mathlib.Core.Path.{_≡_, refl, sym, ap, ap₂, _∙_}
 use mathlib.Core.Bool.{Bool, true, false, _&&_, _||_}
 use mathlib.Core.List.{List, [], _∷_, map}
-use Prim.Native.Nat.{ℕ, zero, suc, _+_, _-_, _<_}
+use Prim.Native.Nat.{ℕ, _+_, _-_, _<_}
 use native.Mathlib.Omega.{arith}
 use borrow.Author.Tests.{eqb-true, eq-eqb}
 use lib.Dec.{eqb}
 use lib.ListN.{length}
-use Rattle.lists.specs.Lists.{upTo}
 use Rattle.lists.specs.Some.{some, any}
-use Rattle.lists.proofs.Somes.{some-of, some-none, some-cong, any-append}
+use Rattle.lists.proofs.Somes.{some-of, some-none, some-cong, any-upTo}
 use Rattle.masks.specs.Subset.{and-both}
 use Rattle.geometry.specs.Circle.{intersectionPoints}
 use Rattle.geometry.specs.declared.point.Point.{Point}
@@ -19,11 +18,6 @@ use Rattle.intersections.specs.Points.{withAdopters, pairPoints, laterPoints, c
 use Rattle.sets.specs.Regions.{parents, meetsAt}
 
 -- ---- a test on the parents of the collected points
-
-any-upTo : {A : Type 0} (p : A → Bool) (f : ℕ → List A) (m : ℕ) → any p (upTo f m) ≡ some m (λ k. any p (f k))
-unfolding upTo some any
-any-upTo p f zero = refl
-any-upTo p f (suc m) = any-append p (upTo f m) (f m) ∙ ap (λ (b : Bool). b || any p (f m)) (any-upTo p f m)
 
 -- some point
 abbrev pub nonempty : {A : Type 0} → List A → Bool

@@ -1,26 +1,24 @@
 -- A list of edits over slices: the next edit of a run, and demand 3's list of the slices themselves, from that of their rows.
-use Prim.Native.Nat.{ℕ, suc, _+_, _^_, _≤_, _<_}
+use Prim.Native.Nat.{ℕ, suc, _+_, _^_, _<_}
 use mathlib.Core.Path.{_≡_, refl, sym, ap, ap₂, _∙_, subst}
 use mathlib.Core.List.{List, [], _∷_, _++_, map, map-append, append-assoc}
 use native.Mathlib.Numerals.{add-one}
-use native.Mathlib.Omega.{arith}
 use lib.ListN.{length, getD, set, drop, length-map, length-set}
-use lib.Seq.{drop-cons, drop-at, set-at}
+use lib.Seq.{drop-cons, set-at}
 use Rattle.lists.specs.Run as Run
 use Rattle.lists.specs.Run.{Step}
-use Rattle.lists.specs.Written.{tab, written}
-use Rattle.lists.proofs.Writing.{length-tab, length-written}
+use Rattle.lists.specs.Written.{tab}
+use Rattle.lists.proofs.Writing.{length-tab, length-written, drop-written}
 use Rattle.plan.specs.declared.Answer.{Answer}
 use Rattle.plan.specs.declared.Answer.the-variants.{Taken, Refused}
 use Rattle.plan.specs.declared.Edit.{Edit}
-use Rattle.plan.specs.declared.Lent.{Lent}
-use Rattle.plan.specs.Book.{AnyTaken, headOf, applied, leaves}
+use Rattle.plan.specs.Book.{AnyTaken, headOf, leaves}
 use Rattle.plan.specs.Table.{answerNumber}
 use Rattle.regions.specs.Edit.{Row}
-use Rattle.regions.specs.Demand.{Fresh, Ends}
+use Rattle.regions.specs.Demand.{Ends}
 use Rattle.regions.specs.Table.{Method, edited, tableStep}
-use Rattle.regions.specs.Slices.{Slices, rowAt, withRows, LentTables, lentOf, PlanSlices, settledTables, stepOf, sliceAnswer, editedLeft, editSlices, planTable, entryOf}
-use Rattle.regions.specs.Run.{slicesAfter, answersAfter, answersWritten, entriesOf, BytesStay, SlicesEnd, RunEnds}
+use Rattle.regions.specs.Slices.{rowAt, withRows, LentTables, lentOf, PlanSlices, settledTables, stepOf, sliceAnswer, editedLeft, editSlices, planTable, entryOf}
+use Rattle.regions.specs.Run.{slicesAfter, answersAfter, answersWritten, entriesOf, BytesStay, RunEnds}
 use Rattle.regions.proofs.Demand.{list-ends-afresh}
 use Rattle.regions.proofs.Slices.{Room, edit-room, edited-left, slices-are-tables}
 use Rattle.regions.proofs.Steps.{none-taken}
@@ -87,9 +85,6 @@ module _ (m : Method) (start : PlanSlices) (f : ℕ → Edit) (i : ℕ) where
       ∙ ap₂ (λ l n. l ++ drop n out) (sym (number-next d left e a h k s)) (sym (length-tab f (i + 1) ∙ add-one i))
 
 -- ---- what a list of edits keeps of the slices
-
-drop-written : {A : Type 0} (f : ℕ → A) (count : ℕ) (l : List A) → drop count (written f count l) ≡ drop count l
-drop-written f count l = drop-at (tab f count) (drop count l) count (length-tab f count)
 
 settled-stays : (m : Method) (n : ℕ) (F : ℕ → Row) (t : LentTables) → Room n t → BytesStay (2 ^ n) t (settledTables m (2 ^ n) n F t)
 settled-stays m n F t r =
