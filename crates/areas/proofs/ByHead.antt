@@ -27,7 +27,8 @@ use Rattle.drawn.specs.Drawn.{planCircles}
 use Rattle.drawn.proofs.Circles.{circles-few}
 use Rattle.areas.specs.Scatter.{PlanByHead, entriesOf, boxEntries, put, scatter, scatterClipped, Fits, circlesIn, ByHead}
 use Rattle.areas.proofs.Naming.{Below, outline-named}
-use Rattle.areas.proofs.Scattering.{heads-increasing, entries-below, entries-increasing, entries-many, places-increasing, places-below, put-equal, entries-stand, box-stands, stand-append}
+use Rattle.areas.proofs.Scattering.{heads-increasing, entries-below, entries-increasing, entries-many, places-increasing, places-below}
+use Rattle.areas.proofs.Scattering.{put-equal, entries-stand, box-stands, stand-append}
 use Rattle.areas.proofs.Summing.{arcs-sum, clipped-sum}
 use Rattle.areas.proofs.Slopes.{gradient-kept, clipped-kept}
 
@@ -58,7 +59,8 @@ module _ (circles : List Circle) (points : List IntersectionPoint) (S : ℕ) (fi
   unfolding clippedAreaOf clippedArea
   clipped-area-by-head box =
       rw (arcs-are, circles-of-members circles points S)
-      (ap (λ v. cond (emptyBox box) zero64 (half64 *ᶠ addEdges box (circlesIn circles S) v)) (sym (clipped-sum circles heads below box (outline ms) named zero64)))
+      (ap (λ v. cond (emptyBox box) zero64 (half64 *ᶠ addEdges box (circlesIn circles S) v))
+      (sym (clipped-sum circles heads below box (outline ms) named zero64)))
 
   gradient-onto-by-head : (g out : List Float) → length g ≡ 3 * length ms → 3 * length circles ≤ length out
       → addGradient circles (put (entriesOf heads) g out) (regionArcs circles points S)
@@ -94,7 +96,10 @@ module _ (circles : List Circle) (points : List IntersectionPoint) (S : ℕ) (fi
       (every-map places (λ p h. omega (arith, h, lo)) (places-below (length circles) heads below))
       circles heads below (λ k h i l. stand-append (entriesOf heads) (boxEntries (length circles)) _ _ (entries-stand heads k h i l))
       box (outline ms) named (λ i l. rw (length-map heads (circleAt circles)) (box-stands heads (length circles) i l)) g (put places g out)
-      (record { many = omega (arith, lg, members-many circles points S, entries-many heads, length-append (entriesOf heads) (boxEntries (length circles))); same = refl }) in
+      (record {
+        many = omega (arith, lg, members-many circles points S, entries-many heads, length-append (entriesOf heads) (boxEntries (length circles)));
+        same = refl;
+      }) in
       ap₂ with-gradient (sym (r .sums)) (r .grads .same))
 
   clipped-gradient-is : (box : Bounds) → clippedGradient box ms ≡ clippedOnto box ms (replicate (length ms * 3 + 4) zero64)
@@ -107,7 +112,8 @@ module _ (circles : List Circle) (points : List IntersectionPoint) (S : ℕ) (fi
   unfolding scatterClipped
   clipped-by-head box =
       rw (clipped-gradient-is box)
-      (ap (clippedWithGradient box circles (circlesIn circles S) (regionArcs circles points S)) (sym (put-equal places (length ms * 3 + 4) (length circles * 3 + 4) zero64))
+      (ap (clippedWithGradient box circles (circlesIn circles S) (regionArcs circles points S))
+      (sym (put-equal places (length ms * 3 + 4) (length circles * 3 + 4) zero64))
       ∙ clipped-onto-by-head box (replicate (length ms * 3 + 4) zero64) (replicate (length circles * 3 + 4) zero64)
       (length-replicate (length ms * 3 + 4) zero64) (rw (length-replicate (length circles * 3 + 4) zero64) (omega arith)))
 

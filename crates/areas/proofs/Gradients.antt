@@ -20,7 +20,8 @@ use Rattle.areas.specs.Open.{openGradientRow}
 use Rattle.drawn.specs.Drawn.{boxOf}
 use Rattle.areas.specs.Clipped.{clippedGradientRow}
 use Rattle.areas.specs.Gradients.{ScattersClipped, boxSlopes, clippedGradients, openGradients, ClippedGradients, OpenGradients}
-use Rattle.areas.proofs.Scattering.{Increasing, heads-increasing, entries-every, entries-many, places-increasing, places-below, put-other, put-at, put-length, heads-in, Stands, entries-stand, stand-append, box-stands}
+use Rattle.areas.proofs.Scattering.{Increasing, heads-increasing, entries-every, entries-many, places-increasing, places-below, put-other}
+use Rattle.areas.proofs.Scattering.{put-at, put-length, heads-in, Stands, entries-stand, stand-append, box-stands}
 
 -- ---- scattering in a box
 
@@ -43,11 +44,13 @@ unfolding scatterClipped
 clipped-many n js g = put-length (entriesOf js ++ boxEntries n) g (replicate (n * 3 + 4) zero64) ∙ length-replicate (n * 3 + 4) zero64
 
 -- the entries of a head that is not among those scattered
-clipped-elsewhere : (n : ℕ) (js : List ℕ) (g : List Float) (j i : ℕ) → j < n → i < 3 → Every (λ j'. j ≡ j' → ⊥) js → getD (scatterClipped js n g) (j * 3 + i) nan ≡ zero64
+clipped-elsewhere : (n : ℕ) (js : List ℕ) (g : List Float) (j i : ℕ) → j < n → i < 3 → Every (λ j'. j ≡ j' → ⊥) js
+    → getD (scatterClipped js n g) (j * 3 + i) nan ≡ zero64
 unfolding scatterClipped
 clipped-elsewhere n js g j i h l e =
     put-other (entriesOf js ++ boxEntries n) g (replicate (n * 3 + 4) zero64) (j * 3 + i) nan
-    (every-append (λ q. j * 3 + i ≡ q → ⊥) (entriesOf js) (boxEntries n) (entries-every (λ j'. j ≡ j' → ⊥) (λ q. j * 3 + i ≡ q → ⊥) other js e) (box-past n (j * 3 + i) (omega arith)))
+    (every-append (λ q. j * 3 + i ≡ q → ⊥) (entriesOf js) (boxEntries n) (entries-every (λ j'. j ≡ j' → ⊥) (λ q. j * 3 + i ≡ q → ⊥) other js e)
+    (box-past n (j * 3 + i) (omega arith)))
     ∙ getD-replicate (n * 3 + 4) (j * 3 + i) zero64 nan (omega arith)
   where
     other : (j' : ℕ) → (j ≡ j' → ⊥) → (j * 3 + i ≡ j' * 3 → ⊥) × ((j * 3 + i ≡ j' * 3 + 1 → ⊥) × (j * 3 + i ≡ j' * 3 + 2 → ⊥))
@@ -58,8 +61,10 @@ scatters-clipped n S g lg = record {
   many = clipped-many n (headsOf n S) g;
   own = λ k i h l. put-stands n (headsOf n S) (heads-below n S) (heads-increasing n S) g (k * 3 + i) (getD (headsOf n S) k 0 * 3 + i) lg
       (stand-append (entriesOf (headsOf n S)) (boxEntries n) (k * 3 + i) (getD (headsOf n S) k 0 * 3 + i) (entries-stand (headsOf n S) k h i l));
-  box = λ i l. put-stands n (headsOf n S) (heads-below n S) (heads-increasing n S) g (length (headsOf n S) * 3 + i) (n * 3 + i) lg (box-stands (headsOf n S) n i l);
-  elsewhere = λ j i h l e. clipped-elsewhere n (headsOf n S) g j i h l (every-map (headsOf n S) (λ j' t d. true≢false (sym t ∙ ap (inSet S) (sym d) ∙ e)) (heads-in n S));
+  box = λ i l. put-stands n (headsOf n S) (heads-below n S) (heads-increasing n S) g (length (headsOf n S) * 3 + i) (n * 3 + i) lg
+      (box-stands (headsOf n S) n i l);
+  elsewhere = λ j i h l e. clipped-elsewhere n (headsOf n S) g j i h l
+      (every-map (headsOf n S) (λ j' t d. true≢false (sym t ∙ ap (inSet S) (sym d) ∙ e)) (heads-in n S));
 }
 
 -- ---- rows
@@ -67,7 +72,9 @@ scatters-clipped n S g lg = record {
 -- row 0: the box's slopes after the entries of n heads
 module _ (n : ℕ) (a : Float) where
   zero-box : (i : ℕ) → i < 4 → getD (scatterClipped [] n (boxSlopes a)) (n * 3 + i) nan ≡ getD (boxSlopes a) i nan
-  zero-box i l = put-stands n [] tt tt (boxSlopes a) i (n * 3 + i) refl (subst (λ (q : ℕ). Stands (entriesOf [] ++ boxEntries n) q (n * 3 + i)) first (box-stands [] n i l))
+  zero-box i l =
+      put-stands n [] tt tt (boxSlopes a) i (n * 3 + i) refl
+      (subst (λ (q : ℕ). Stands (entriesOf [] ++ boxEntries n) q (n * 3 + i)) first (box-stands [] n i l))
     where
       first : length {A = ℕ} [] * 3 + i ≡ i
       first = omega arith

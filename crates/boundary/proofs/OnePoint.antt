@@ -20,7 +20,8 @@ use Rattle.geometry.specs.declared.point.Point.{Point}
 use Rattle.intersections.specs.Members.{Member, circlesOf}
 use Rattle.boundary.specs.declared.arcs.BoundaryArc.{BoundaryArc}
 use Rattle.boundary.specs.NoArc.{NoneOf, OnePointNoArc}
-use Rattle.boundary.specs.Outline.{gap, collapsed, owned, pointAt, probe, fullCircle, between, angleAbout, arcFrom, arcsAt, anglesOf, outlineFrom, outline}
+use Rattle.boundary.specs.Outline.{gap, collapsed, owned, pointAt, probe, fullCircle, between, angleAbout, arcFrom, arcsAt, anglesOf}
+use Rattle.boundary.specs.Outline.{outlineFrom, outline}
 use Rattle.boundary.specs.Sort.{insert, sortOnto, sorted}
 
 opposite-signs : (x : Float) → Finite x → (negative x && negative (neg x)) ≡ false
@@ -99,7 +100,8 @@ none-from cs j (m' ∷ before) after m e =
     (every-map (outlineFrom cs (suc j) (before ++ (m ∷ after))) (λ arc h d. h (omega (arith, d))) (none-from cs (suc j) before after m e))
 
 -- from the first position on
-none-at : (cs : List Circle) (before after : List Member) (m : Member) → length (m .points) ≡ 1 → NoneOf (length before) (outlineFrom cs 0 (before ++ (m ∷ after)))
+none-at : (cs : List Circle) (before after : List Member) (m : Member) → length (m .points) ≡ 1
+    → NoneOf (length before) (outlineFrom cs 0 (before ++ (m ∷ after)))
 none-at cs before after m e =
     let first : 0 + length before ≡ length before = omega arith in
     subst (λ (k : ℕ). NoneOf k (outlineFrom cs 0 (before ++ (m ∷ after)))) first (none-from cs 0 before after m e)

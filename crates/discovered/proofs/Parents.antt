@@ -48,7 +48,8 @@ module _ (cs : List Circle) (i j : ℕ) where
   unfolding collected laterPoints pairPoints
   of-pairs =
       any-upTo (parents i j) (laterPoints cs) (length cs)
-      ∙ some-cong (length cs) (λ a. any (parents i j) (laterPoints cs a)) (λ a. some (length cs - (a + 1)) (λ d. these a (a + 1 + d) && nonempty (points a (a + 1 + d))))
+      ∙ some-cong (length cs) (λ a. any (parents i j) (laterPoints cs a))
+      (λ a. some (length cs - (a + 1)) (λ d. these a (a + 1 + d) && nonempty (points a (a + 1 + d))))
       (λ a h. any-upTo (parents i j) (λ d. pairPoints cs a (a + 1 + d)) (length cs - (a + 1))
       ∙ some-cong (length cs - (a + 1)) (λ d. any (parents i j) (pairPoints cs a (a + 1 + d))) (λ d. these a (a + 1 + d) && nonempty (points a (a + 1 + d)))
       (λ d k. of-points a (a + 1 + d) (points a (a + 1 + d))))
@@ -68,7 +69,8 @@ module _ (cs : List Circle) (i j : ℕ) where
       second true b e = refl
       second false b e = e
 
-      go : (t : Bool) → nonempty (points j i) ≡ t → some (length cs) (λ a. some (length cs - (a + 1)) (λ d. these a (a + 1 + d) && nonempty (points a (a + 1 + d)))) ≡ t
+      go : (t : Bool) → nonempty (points j i) ≡ t
+          → some (length cs) (λ a. some (length cs - (a + 1)) (λ d. these a (a + 1 + d) && nonempty (points a (a + 1 + d)))) ≡ t
       go true e =
           some-of (length cs) (λ a. some (length cs - (a + 1)) (λ d. these a (a + 1 + d) && nonempty (points a (a + 1 + d)))) j (omega arith)
           (some-of (length cs - (j + 1)) (λ d. these j (j + 1 + d) && nonempty (points j (j + 1 + d))) (i - (j + 1)) (omega arith)
@@ -76,7 +78,8 @@ module _ (cs : List Circle) (i j : ℕ) where
           ∙ ap₂ _&&_ (second (eqb j i && eqb i j) (eqb j j && eqb i i) (ap₂ _&&_ (eq-eqb j j refl) (eq-eqb i i refl))) e))
       go false e =
           some-none (length cs) (λ a. some (length cs - (a + 1)) (λ d. these a (a + 1 + d) && nonempty (points a (a + 1 + d))))
-          (λ a l. some-none (length cs - (a + 1)) (λ d. these a (a + 1 + d) && nonempty (points a (a + 1 + d))) (λ d m. no a (a + 1 + d) (omega arith) (these a (a + 1 + d)) refl))
+          (λ a l. some-none (length cs - (a + 1)) (λ d. these a (a + 1 + d) && nonempty (points a (a + 1 + d)))
+          (λ d m. no a (a + 1 + d) (omega arith) (these a (a + 1 + d)) refl))
         where
           no : (a b : ℕ) → a < b → (t : Bool) → these a b ≡ t → (these a b && nonempty (points a b)) ≡ false
           no a b l false f = ap (λ (t : Bool). t && nonempty (points a b)) f
@@ -87,4 +90,6 @@ module _ (cs : List Circle) (i j : ℕ) where
                 where
                   ways : (t : Bool) → (eqb a i && eqb b j) ≡ t → (a ≡ j) × (b ≡ i)
                   ways true g = let w = and-both (eqb a i) (eqb b j) g in absurd (omega (arith, eqb-true a i (w .0), eqb-true b j (w .1)))
-                  ways false g = let w = and-both (eqb a j) (eqb b i) (sym (ap (λ (t : Bool). t || (eqb a j && eqb b i)) g) ∙ f) in (eqb-true a j (w .0), eqb-true b i (w .1))
+                  ways false g =
+                      let w = and-both (eqb a j) (eqb b i) (sym (ap (λ (t : Bool). t || (eqb a j && eqb b i)) g) ∙ f) in
+                      (eqb-true a j (w .0), eqb-true b i (w .1))

@@ -17,7 +17,8 @@ use Rattle.plan.specs.Table.{answerNumber}
 use Rattle.regions.specs.Edit.{Row}
 use Rattle.regions.specs.Demand.{Ends}
 use Rattle.regions.specs.Table.{Method, edited, tableStep}
-use Rattle.regions.specs.Slices.{rowAt, withRows, LentTables, lentOf, PlanSlices, settledTables, stepOf, sliceAnswer, editedLeft, editSlices, planTable, entryOf}
+use Rattle.regions.specs.Slices.{rowAt, withRows, LentTables, lentOf, PlanSlices, settledTables, stepOf, sliceAnswer, editedLeft, editSlices}
+use Rattle.regions.specs.Slices.{planTable, entryOf}
 use Rattle.regions.specs.Run.{slicesAfter, answersAfter, answersWritten, entriesOf, BytesStay, RunEnds}
 use Rattle.regions.proofs.Demand.{list-ends-afresh}
 use Rattle.regions.proofs.Slices.{Room, edit-room, edited-left, slices-are-tables}
@@ -121,7 +122,8 @@ module _ (m : Method) (start : PlanSlices) where
         ten = length-set (d .plan .heads) (e .head) (headOf e) ∙ k .ten;
         count = k .count;
         stay = stay-stays (2 ^ start .plan .n) (start .tables) (d .tables) _ (k .stay)
-            (subst (λ n. BytesStay (2 ^ n) (d .tables) (settledTables m (2 ^ d .plan .n) (d .plan .n) (edited m (d .plan) e (rowAt (d .tables .rows))) (d .tables))) (k .count)
+            (subst (λ n. BytesStay (2 ^ n) (d .tables)
+            (settledTables m (2 ^ d .plan .n) (d .plan .n) (edited m (d .plan) e (rowAt (d .tables .rows))) (d .tables))) (k .count)
             (settled-stays m (d .plan .n) (edited m (d .plan) e (rowAt (d .tables .rows))) (d .tables) (edit-room d e (k .ten) q .0)));
       })
 
@@ -143,12 +145,14 @@ module _ (m : Method) (start : PlanSlices) where
   step-table : (d : PlanSlices) (e : Edit) → Kept d → planTable (editSlices m d e .left) ≡ tableStep m (planTable d) (entryOf (start .tables) e) .left
   step-table d e k =
       slices-are-tables m .edit-left d e
-      ∙ ap (λ lent. tableStep m (planTable d) (record { edit = e; lent = lent }) .left) (same-lengths (2 ^ start .plan .n) (start .tables) (d .tables) (k .stay))
+      ∙ ap (λ lent. tableStep m (planTable d) (record { edit = e; lent = lent }) .left)
+      (same-lengths (2 ^ start .plan .n) (start .tables) (d .tables) (k .stay))
 
   step-answer : (d : PlanSlices) (e : Edit) → Kept d → editSlices m d e .answer ≡ tableStep m (planTable d) (entryOf (start .tables) e) .answer
   step-answer d e k =
       slices-are-tables m .edit-answer d e
-      ∙ ap (λ lent. tableStep m (planTable d) (record { edit = e; lent = lent }) .answer) (same-lengths (2 ^ start .plan .n) (start .tables) (d .tables) (k .stay))
+      ∙ ap (λ lent. tableStep m (planTable d) (record { edit = e; lent = lent }) .answer)
+      (same-lengths (2 ^ start .plan .n) (start .tables) (d .tables) (k .stay))
 
   after-table : (es : List Edit) (d : PlanSlices) → Kept d → planTable (slicesAfter m d es) ≡ Run.after (tableStep m) (planTable d) (entriesOf start es)
   unfolding Run.after
@@ -175,7 +179,11 @@ refused-slices m d e n = go (sliceAnswer d e) n
 -- Demand 3's list, of the slices.
 pub run-ends : (m : Method) → RunEnds m
 run-ends m d es begin =
-    let start : Kept m d d = record { ten = begin .room; count = refl; stay = record { bytes = (refl, refl); numbers = (refl, refl); others = (refl, refl); areas = (refl, refl) } } in
+    let start : Kept m d d = record {
+      ten = begin .room;
+      count = refl;
+      stay = record { bytes = (refl, refl); numbers = (refl, refl); others = (refl, refl); areas = (refl, refl) };
+    } in
     let end = list-ends-afresh m (planTable d) begin (entriesOf d es) in
     let answered = answers-table m d es d start in
     record {

@@ -29,7 +29,12 @@ returns c =
     let ground = c .before .before .before .before .before .before .before .before .before .before .args .ground in
     let told = c .before .struct-told4 .given in
     rw (c .new2 .ensures, c .before .before .before .before .before .new .ensures)
-    (simp (read-back (ground .x) (told .0 .1), read-back (ground .y) (told .1 .0 .1), read-back (ground .width) (told .1 .1 .0 .1), read-back (ground .height) (told .1 .1 .1 .0 .1)))
+    (simp (
+      read-back (ground .x) (told .0 .1),
+      read-back (ground .y) (told .1 .0 .1),
+      read-back (ground .width) (told .1 .1 .0 .1),
+      read-back (ground .height) (told .1 .1 .1 .0 .1),
+    ))
 
 pub box-of-spec : {M : Type 1} → statement M
 box-of-spec =
