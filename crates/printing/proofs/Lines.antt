@@ -11,12 +11,13 @@ use lib.Dec.{eqb, ltb}
 use lib.Ieee.{Float, nan, binary64, toBits}
 use lib.ListN.{length, getD, set, length-append}
 use Rattle.lists.specs.Lists.{upTo}
+use Rattle.lists.proofs.Lists.{upTo-cong, upTo-through}
 use Rattle.masks.specs.Presence.{stands}
 use Rattle.exclusive.specs.RowOrder.{rowsOf, rowOrder}
 use Rattle.exclusive.proofs.Places.{few-rows, masks-le, level-next, rows-next}
 use Rattle.exclusive.proofs.RowOrder.{row}
 use Rattle.printing.specs.Text.{digits, decimal, lineEnd, put}
-use Rattle.printing.specs.Rows.{lineOf, rowLine, rowLines, tableLines, LinesFew, refusedWord, atWord, refusalLine}
+use Rattle.printing.specs.Rows.{lineOf, rowLine, rowLines, tableLines, LinesFew, LinesSame, refusedWord, atWord, refusalLine}
 use Rattle.printing.proofs.Putting.{put-append, put-one}
 use Rattle.printing.proofs.Digits.{length-digits}
 
@@ -174,3 +175,34 @@ lines-few n bytes numbers = by (ltb 10 n) refl
     by : (b : Bool) → ltb 10 n ≡ b → length (tableLines n bytes numbers) ≤ 21504
     by true e = rw (lines-none n bytes numbers (ltb-true 10 n e)) (omega arith)
     by false e = rw (← lines-all n bytes numbers (ltb-false 10 n e)) (few (ltb-false 10 n e))
+
+-- ---- what the lines look at
+
+module _ (n : ℕ) (present : ℕ → Bool) (number : ℕ → Float) where
+  -- the line of mask S among the rows of c heads, or none
+  lineAt : ℕ → ℕ → List ℕ
+  lineAt c S = flatMap (rowLine number) (row present c S)
+
+  by-mask : rowLines n present number ≡ upTo (λ c. upTo (lineAt c) (2 ^ n)) (suc n)
+  unfolding rowLines rowOrder rowsOf lineAt
+  by-mask =
+      upTo-through (flatMap (rowLine number)) (flat-none (rowLine number)) (flat-append (rowLine number)) (λ c. rowsOf present c (2 ^ n)) (suc n)
+      ∙ upTo-cong _ _ (suc n)
+      (λ c h. upTo-through (flatMap (rowLine number)) (flat-none (rowLine number)) (flat-append (rowLine number)) (row present c) (2 ^ n))
+
+pub lines-same : LinesSame
+unfolding lineAt
+lines-same n present present' number number' e =
+    by-mask n present number
+    ∙ upTo-cong (λ c. upTo (lineAt n present number c) (2 ^ n)) (λ c. upTo (lineAt n present' number' c) (2 ^ n)) (suc n)
+    (λ c h. upTo-cong (lineAt n present number c) (lineAt n present' number' c) (2 ^ n) (λ S k. same c S (e S k .0) (e S k .1)))
+    ∙ sym (by-mask n present' number')
+  where
+    one : (b : Bool) (S : ℕ) → number S ≡ number' S → flatMap (rowLine number) (cond b (S ∷ []) []) ≡ flatMap (rowLine number') (cond b (S ∷ []) [])
+    one true S q = flat-one (rowLine number) S ∙ ap (λ v. lineOf S (toBits binary64 v)) q ∙ sym (flat-one (rowLine number') S)
+    one false S q = flat-none (rowLine number) ∙ sym (flat-none (rowLine number'))
+
+    same : (c S : ℕ) → present S ≡ present' S → number S ≡ number' S → lineAt n present number c S ≡ lineAt n present' number' c S
+    same c S p q =
+        one (present S && eqb (ones S) c) S q
+        ∙ ap (λ b. flatMap (rowLine number') (cond (b && eqb (ones S) c) (S ∷ []) [])) p

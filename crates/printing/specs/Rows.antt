@@ -1,5 +1,5 @@
 -- What the program prints: the lines of a table, and the line of a refusal. Over any presence and any numbers: no plan and no geometry.
-use Prim.Native.Nat.{ℕ, _*_, _^_, _≤_}
+use Prim.Native.Nat.{ℕ, _<_, _≤_, _^_}
 use mathlib.Core.Path.{_≡_}
 use mathlib.Core.Bool.{Bool, cond}
 use mathlib.Core.List.{List, [], _∷_, _++_, flatMap}
@@ -38,6 +38,12 @@ levelLines bytes numbers c m = flatMap (rowLine (λ S. getD numbers S nan)) (row
 -- A line has 21 bytes and there are at most 2^n rows: 21504 bytes are enough for every table. Proved as `lines-few`, proofs/Lines.antt.
 abbrev pub LinesFew : Type 0
 LinesFew = (n : ℕ) (bytes : List ℕ) (numbers : List Float) → length (tableLines n bytes numbers) ≤ 21504
+
+-- They look at rows 0 to 2^n - 1 only. Proved as `lines-same`.
+abbrev pub LinesSame : Type 0
+LinesSame =
+    (n : ℕ) (present present' : ℕ → Bool) (number number' : ℕ → Float)
+    → ((S : ℕ) → S < 2 ^ n → (present S ≡ present' S) × (number S ≡ number' S)) → rowLines n present number ≡ rowLines n present' number'
 
 -- ---- a refusal
 

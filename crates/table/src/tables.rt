@@ -16,7 +16,7 @@ use plan::rows_needed;
 use plan::shorter;
 
 // What four slices of these lengths lend.
-pub(crate) fn lent_by(
+pub fn lent_by(
     presence: usize,
     rows: usize,
     exclusive_presence: usize,
