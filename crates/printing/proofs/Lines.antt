@@ -206,3 +206,9 @@ lines-same n present present' number number' e =
     same c S p q =
         one (present S && eqb (ones S) c) S q
         ∙ ap (λ b. flatMap (rowLine number') (cond (b && eqb (ones S) c) (S ∷ []) [])) p
+
+-- the lines of slices of at most ten heads
+pub table-lines : (n : ℕ) (bytes : List ℕ) (numbers : List Float) → n ≤ 10
+    → tableLines n bytes numbers ≡ rowLines n (stands bytes) (λ S. getD numbers S nan)
+unfolding tableLines
+table-lines n bytes numbers h = rw (le-ltb 10 n h)
