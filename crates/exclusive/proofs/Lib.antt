@@ -6,3 +6,4 @@ pub mod Entries
 pub mod Passing
 pub mod Answers
 pub mod Closing
+pub mod Replacing
