@@ -3,11 +3,10 @@
 use mathlib.Core.Path.{_≡_, refl, sym, ap, ap₂, _∙_}
 use mathlib.Core.Bool.{Bool, true, false, cond, not, _&&_}
 use mathlib.Core.List.{List}
-use Prim.Native.Nat.{ℕ, zero, suc, _+_, _*_, _/_, _%_, _-_, _^_, _≤_, _<_}
-use native.Mathlib.Nat.{mul-le-mul-right, mod-lt, div-lt-iff-lt-mul, div-add-mod'}
+use Prim.Native.Nat.{ℕ, suc, _+_, _*_, _/_, _%_, _^_, _≤_, _<_}
+use native.Mathlib.Nat.{mod-lt, div-add-mod'}
 use native.Mathlib.Omega.{arith}
 use borrow.Author.Tests.{ltb-true, ltb-false}
-use lib.Arith.{digits-div}
 use lib.Dec.{ltb}
 use lib.Ieee.{Float, nan, lt}
 use lib.ListN.{length, getD, set, drop}
@@ -18,18 +17,8 @@ use Rattle.binary64.specs.Constants.{zero64}
 use Rattle.exclusive.specs.Exclusive.{unclamped}
 use Rattle.exclusive.specs.Entries.{entry, keptRow, Subtracted}
 use Rattle.exclusive.specs.Gradient.{unlessReplaced, exclusiveWithGradient, gradientEntry}
+use Rattle.exclusive.proofs.TableRows.{row-of-place, place}
 use Rattle.exclusive.proofs.Closing.{subtracted-row, subtracted-one, rest-one}
-
--- the row of a place
-row-of-place : (width s x : ℕ) → s * width ≤ x → x < suc s * width → x / width ≡ s
-row-of-place width s x h k =
-    let e : s * width + (x - s * width) ≡ x = omega arith in
-    ap (λ (y : ℕ). y / width) (sym e) ∙ digits-div s {m = width} (omega arith)
-
--- a place of m rows has its row among them
-place : (x m width : ℕ) → x < m * width → (0 < width) × (x / width < m)
-place x m zero h = absurd (omega arith)
-place x m (suc w) h = (omega arith, div-lt-iff-lt-mul {k = suc w} {x = x} {y = m} (omega arith) .1 h)
 
 -- ---- one row made +0
 

@@ -16,7 +16,7 @@ ghost use Rattle.exclusive.specs.Gradient.{exclusiveWithGradient, widthA
 
 // The answer for tables of so many rows and a gradient table of `count` numbers, `width` a row: 0, or document 01's number. The room for
 // the gradients is asked by division, since 2^n times the width may not fit a usize.
-pub(crate) fn width_answer(n: usize, rows: usize, count: usize, width: usize) -> u8
+pub fn width_answer(n: usize, rows: usize, count: usize, width: usize) -> u8
     ensures { λ r. ⌜ r ≡ widthAnswer n width rows count ⌝ }
 {
     let answer = rows_answer(n, rows);
