@@ -2,6 +2,7 @@
 use Prim.Native.Nat.{ℕ, suc, _+_, _^_, _<_}
 use mathlib.Core.Path.{_≡_, refl, sym, ap, ap₂, _∙_, subst}
 use mathlib.Core.List.{List, [], _∷_, _++_, map, map-append, append-assoc}
+use native.Mathlib.Nat.{le-refl}
 use native.Mathlib.Numerals.{add-one}
 use lib.ListN.{length, getD, set, drop, length-map, length-set}
 use lib.Seq.{drop-cons, set-at}
@@ -94,10 +95,10 @@ settled-stays : (m : Method) (n : ℕ) (F : ℕ → Row) (t : LentTables) → Ro
 settled-stays m n F t r =
     let G : ℕ → Row = m .exclusives .of n (rowAt (withRows F (2 ^ n) (t .rows))) in
     record {
-      bytes = (drop-written (λ S. F S .byte) (2 ^ n) (t .rows .bytes), length-written (λ S. F S .byte) (2 ^ n) (t .rows .bytes) (r .bytes));
-      numbers = (drop-written (λ S. F S .number) (2 ^ n) (t .rows .numbers), length-written (λ S. F S .number) (2 ^ n) (t .rows .numbers) (r .numbers));
-      others = (drop-written (λ S. G S .byte) (2 ^ n) (t .exclusives .bytes), length-written (λ S. G S .byte) (2 ^ n) (t .exclusives .bytes) (r .others));
-      areas = (drop-written (λ S. G S .number) (2 ^ n) (t .exclusives .numbers), length-written (λ S. G S .number) (2 ^ n) (t .exclusives .numbers) (r .areas));
+      bytes = (drop-written (λ S. F S .byte) (2 ^ n) (2 ^ n) (t .rows .bytes) (le-refl (2 ^ n)), length-written (λ S. F S .byte) (2 ^ n) (t .rows .bytes) (r .bytes));
+      numbers = (drop-written (λ S. F S .number) (2 ^ n) (2 ^ n) (t .rows .numbers) (le-refl (2 ^ n)), length-written (λ S. F S .number) (2 ^ n) (t .rows .numbers) (r .numbers));
+      others = (drop-written (λ S. G S .byte) (2 ^ n) (2 ^ n) (t .exclusives .bytes) (le-refl (2 ^ n)), length-written (λ S. G S .byte) (2 ^ n) (t .exclusives .bytes) (r .others));
+      areas = (drop-written (λ S. G S .number) (2 ^ n) (2 ^ n) (t .exclusives .numbers) (le-refl (2 ^ n)), length-written (λ S. G S .number) (2 ^ n) (t .exclusives .numbers) (r .areas));
     }
 
 stay-stays : (count : ℕ) (t u v : LentTables) → BytesStay count t u → BytesStay count u v → BytesStay count t v
