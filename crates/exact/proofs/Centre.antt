@@ -92,7 +92,8 @@ unlike-plain : (b : Bool) → unlike b false ≡ b
 unlike-plain true = refl
 unlike-plain false = refl
 
-module _ {Δ d f : Float} {m : ℕ} (leg : Leg Δ d m) (D : Finite d) (far : one ≤ mag d) (ahead : negative d ≡ false) {r : ℕ} (L : r ≤ 20000) (F : Most r 1074 f) where
+module _ {Δ d f : Float} {m : ℕ} (leg : Leg Δ d m) (D : Finite d) (far : one ≤ mag d) (ahead : negative d ≡ false)
+    {r : ℕ} (L : r ≤ 20000) (F : Most r 1074 f) where
   abbrev w : Float
   w = div binary64 (mul binary64 f Δ) d
 

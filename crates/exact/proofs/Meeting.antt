@@ -195,7 +195,9 @@ module _ (x₁ y₁ x₂ y₂ : ℤ) (X₁ : natAbs x₁ ≤ 20000) (Y₁ : natA
 
     -- the foot at f along, and ρ across from it
     abbrev pointAt : Float → Float → Float → Point
-    pointAt f ρx ρy = at (add binary64 (add binary64 (ofInt binary64 x₁) (div binary64 (mul binary64 f Δx) d)) ρx) (add binary64 (add binary64 (ofInt binary64 y₁) (div binary64 (mul binary64 f Δy) d)) ρy)
+    pointAt f ρx ρy =
+        at (add binary64 (add binary64 (ofInt binary64 x₁) (div binary64 (mul binary64 f Δx) d)) ρx)
+        (add binary64 (add binary64 (ofInt binary64 y₁) (div binary64 (mul binary64 f Δy) d)) ρy)
 
     module _ {f : Float} (F : Most r₁ 1074 f) where
       way-x : Most 20000 1074 (div binary64 (mul binary64 f Δx) d)

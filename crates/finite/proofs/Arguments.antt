@@ -48,7 +48,8 @@ every-between c d (p ∷ l) h i j = ((h .0, (i .0, j .0)), every-between c d l (
 
 -- Where it is so of every pair of circles of a list, it is so of all points that are collected, for their two parents.
 module _ (cs : List Circle)
-    (pair : (i j : ℕ) → i < length cs → j < length cs → Every (Between (circleAt cs i) (circleAt cs j)) (intersectionPoints (circleAt cs i) (circleAt cs j))) where
+    (pair : (i j : ℕ) → i < length cs → j < length cs
+    → Every (Between (circleAt cs i) (circleAt cs j)) (intersectionPoints (circleAt cs i) (circleAt cs j))) where
   abbrev OfParents : IntersectionPoint → Type 0
   OfParents q = Between (circleAt cs (q .first)) (circleAt cs (q .second)) (q .point)
 
@@ -113,5 +114,7 @@ arguments-in-domain p ten taken S =
     let cs = planCircles p in
     let pair = plan-placed p ten ok in
     every-mapped (λ m. Every (PointInDomain (m .circle)) (m .points)) (memberAt cs (collected cs) S) (headsOf (length cs) S)
-    (every-map (headsOf (length cs) S) (λ j h. every-map (pointsFor (collected cs) S j) (point-in-domain (circleAt cs j) (every-at InDomain cs j noCircle h (circles-domain p ten ok))) (of-counted cs pair S j))
+    (every-map (headsOf (length cs) S)
+    (λ j h. every-map (pointsFor (collected cs) S j)
+    (point-in-domain (circleAt cs j) (every-at InDomain cs j noCircle h (circles-domain p ten ok))) (of-counted cs pair S j))
     (heads-below (length cs) S))
