@@ -65,8 +65,13 @@ fn write_out(text: &[u8], n: usize)
     requires { ⌜ n ≤ length (now text) ⌝ }
 {
     if !io::write_all(STDOUT_FILENO, &text[..n]) {
-        io::write_all(STDERR_FILENO, b"rows: standard output could not be written\n");
+        say(b"rows: standard output could not be written\n");
     }
+}
+
+// A message on standard error; if that fails too there is nobody to tell.
+fn say(message: &[u8]) {
+    io::write_all(STDERR_FILENO, message);
 }
 
 // What the whole file prints, put together first.
@@ -89,42 +94,27 @@ fn print(
     write_out(&out, n);
 }
 
-fn main() {
-    let mut presence = [0u8; 1024];
-    let mut rows = [0.0f64; 1024];
-    let mut exclusive_presence = [0u8; 1024];
-    let mut exclusives = [0.0f64; 1024];
+// Reads to the end of the input, or to a read that fails. A proved loop has to end: it counts down from a number that no input uses up.
+fn read_all(
+    presence: &mut [u8],
+    rows: &mut [f64],
+    exclusive_presence: &mut [u8],
+    exclusives: &mut [f64],
+) -> Part {
     let mut reading = begin();
-    let mut input = Input::Open;
-    // A proved loop has to end: it counts down from a number that no input uses up.
     let mut turns = u64::MAX;
     while 0 < turns {
-        let part = read_part(
-            reading,
-            &mut presence,
-            &mut rows,
-            &mut exclusive_presence,
-            &mut exclusives,
-        );
-        reading = part.reading;
-        input = part.input;
+        let part = read_part(reading, presence, rows, exclusive_presence, exclusives);
+        let input = part.input;
         if is_over(input) {
-            break;
+            return part;
         }
+        reading = part.reading;
         turns = turns - 1;
     }
-    match input {
-        Input::Ended => print(
-            reading,
-            &presence,
-            &rows,
-            &exclusive_presence,
-            &exclusives,
-        ),
-        Input::Failed => {
-            io::write_all(STDERR_FILENO, b"rows: standard input could not be read\n");
-        }
-        Input::Open => {}
+    Part {
+        reading: reading,
+        input: Input::Open,
     }
 }
 
@@ -134,4 +124,29 @@ fn is_over(input: Input) -> bool {
         Input::Ended => true,
         Input::Failed => true,
     }
+}
+
+// Rows or a refusal where the input has ended; no row where it could not be read.
+fn end(part: Part, presence: &[u8], rows: &[f64], exclusive_presence: &[u8], exclusives: &[f64]) {
+    let reading = part.reading;
+    let input = part.input;
+    match input {
+        Input::Ended => print(reading, presence, rows, exclusive_presence, exclusives),
+        Input::Failed => say(b"rows: standard input could not be read\n"),
+        Input::Open => say(b"rows: standard input has no end\n"),
+    }
+}
+
+fn main() {
+    let mut presence = [0u8; 1024];
+    let mut rows = [0.0f64; 1024];
+    let mut exclusive_presence = [0u8; 1024];
+    let mut exclusives = [0.0f64; 1024];
+    let part = read_all(
+        &mut presence,
+        &mut rows,
+        &mut exclusive_presence,
+        &mut exclusives,
+    );
+    end(part, &presence, &rows, &exclusive_presence, &exclusives);
 }
