@@ -34,6 +34,15 @@ unfolding places
 places-one zero n h = refl
 places-one (suc most) n h = rw (lt-ltb n 10 h)
 
+pub places-few : (most n : ℕ) → places most n ≤ suc most
+unfolding places
+places-few zero n = omega arith
+places-few (suc most) n = by (ltb n 10) (places-few most (n / 10))
+  where
+    by : (b : Bool) → places most (n / 10) ≤ suc most → cond b 1 (suc (places most (n / 10))) ≤ suc (suc most)
+    by true h = omega arith
+    by false h = omega arith
+
 -- ---- the byte of a digit
 
 pub glyph-low : (d : ℕ) → d < 10 → 48 + d ≡ glyph d

@@ -16,10 +16,10 @@ use Rattle.masks.specs.Presence.{stands}
 use Rattle.exclusive.specs.RowOrder.{rowsOf, rowOrder}
 use Rattle.exclusive.proofs.Places.{few-rows, masks-le, level-next, rows-next}
 use Rattle.exclusive.proofs.RowOrder.{row}
-use Rattle.printing.specs.Text.{digits, decimal, lineEnd, put}
-use Rattle.printing.specs.Rows.{lineOf, rowLine, rowLines, tableLines, LinesFew, LinesSame, refusedWord, atWord, refusalLine}
+use Rattle.printing.specs.Text.{digits, places, decimal, lineEnd, put}
+use Rattle.printing.specs.Rows.{lineOf, rowLine, rowLines, tableLines, LinesFew, LinesSame, refusedWord, atWord, refusalLine, RefusalFew}
 use Rattle.printing.proofs.Putting.{put-append, put-one}
-use Rattle.printing.proofs.Digits.{length-digits}
+use Rattle.printing.proofs.Digits.{length-digits, places-few}
 
 -- ---- one text and then another
 
@@ -78,6 +78,21 @@ refusal-put out a b c d e i j k l number offset first second third fourth last =
           (put-then a b e i j (decimal number) t₃ (second .1) (second .0)
           (put-then b c e j k atWord t₄ (third .1) (third .0)
           (put-then c d e k l (decimal offset) lineEnd (fourth .1) (fourth .0) (last ∙ put-one d l 10)))),
+    )
+
+pub refusal-few : RefusalFew
+unfolding refusalLine
+refusal-few number offset =
+    omega (
+      arith,
+      length-append refusedWord (decimal number ++ (atWord ++ (decimal offset ++ lineEnd))),
+      length-append (decimal number) (atWord ++ (decimal offset ++ lineEnd)),
+      length-append atWord (decimal offset ++ lineEnd),
+      length-append (decimal offset) lineEnd,
+      length-digits 10 (places 19 number) number,
+      length-digits 10 (places 19 offset) offset,
+      places-few 19 number,
+      places-few 19 offset,
     )
 
 -- ---- as the rows go on

@@ -57,3 +57,7 @@ atWord = 32 ∷ 97 ∷ 116 ∷ 32 ∷ []
 -- "`refused N at P` in base ten"
 unfoldable pub refusalLine : ℕ → ℕ → List ℕ
 refusalLine number offset = refusedWord ++ (decimal number ++ (atWord ++ (decimal offset ++ lineEnd)))
+
+-- Two numbers of at most twenty digits and thirteen bytes more are at most 53. Proved as `refusal-few`.
+abbrev pub RefusalFew : Type 0
+RefusalFew = (number offset : ℕ) → length (refusalLine number offset) ≤ 53

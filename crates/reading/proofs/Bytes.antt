@@ -3,6 +3,8 @@ use Prim.Native.Nat.{ℕ, suc, _+_, _≤_, _<_}
 use mathlib.Core.Path.{_≡_, refl, sym, ap, ap₂, _∙_, subst}
 use mathlib.Core.List.{List, [], _∷_, _++_}
 use native.Mathlib.Numerals.{add-one}
+use native.Mathlib.Omega.{arith}
+use lib.Ieee.{Float}
 use lib.ListN.{length, getD, drop, drop-of-length-le}
 use lib.Seq.{drop-cons}
 use Rattle.plan.specs.declared.Answer.{Answer}
@@ -21,8 +23,10 @@ use Rattle.regions.specs.Slices.{LentTables, PlanSlices, stepOf, afreshSlices, 
 use Rattle.regions.specs.Table.{Method}
 use Rattle.printing.specs.Rows.{tableLines, refusalLine}
 use Rattle.printing.specs.Text.{Printed}
+use Rattle.printing.proofs.Lines.{lines-few, refusal-few}
 use Rattle.reading.specs.Whole.{over, noPlan, fileLeft, fileAnswer, planLines, printedFor, filePrinted}
-use Rattle.reading.specs.Reading.{State, stateOf, begun, handedTo, readByte, readBytes, answerAt, printedAt, AfterBytes, BegunReads, PieceReads, FileAnswers, FilePrints}
+use Rattle.reading.specs.Reading.{State, stateOf, begun, handedTo, readByte, readBytes, answerAt}
+use Rattle.reading.specs.Reading.{printedAt, AfterBytes, BegunReads, PieceReads, FileAnswers, FilePrints}
 use Rattle.reading.proofs.Fresh.{leftOver}
 use Rattle.reading.proofs.Whole.{file-left, file-answers, file-lines, printed-same}
 
@@ -117,3 +121,11 @@ refused-printed {at = at} a lines k e q = rw e (ap (λ n. refusalLine n at) q)
 
 pub printed-as : {text text' out left : List ℕ} {count : ℕ} → text ≡ text' → Printed text out left count → Printed text' out left count
 printed-as {out = out} {left = left} {count = count} e p = subst (λ text. Printed text out left count) e p
+
+-- it fits in 21504 bytes
+pub printed-few : (a : Answer) (n : ℕ) (bytes : List ℕ) (numbers : List Float) → length (printedFor a (tableLines n bytes numbers)) ≤ 21504
+printed-few Taken n bytes numbers = lines-few n bytes numbers
+printed-few (Refused r at) n bytes numbers = omega (arith, refusal-few (numberOf r) at)
+
+pub printed-fits : {text out left : List ℕ} {count : ℕ} → length text ≤ 21504 → Printed text out left count → count ≤ 21504
+printed-fits few p = omega (arith, p .counted)

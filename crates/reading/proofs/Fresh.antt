@@ -28,7 +28,8 @@ use Rattle.file.specs.Sound.{EditsWithin}
 use Rattle.regions.specs.Demand.{AfreshRows, Fresh}
 use Rattle.regions.specs.Edit.{Row}
 use Rattle.regions.specs.Run.{slicesAfter}
-use Rattle.regions.specs.Slices.{Slices, slicesOf, rowAt, withRows, LentTables, lentOf, PlanSlices, settledTables, afreshAnswer, afreshLeft, afreshSlices, sliceAnswer, editedLeft, editSlices, planTable, entryOf}
+use Rattle.regions.specs.Slices.{Slices, slicesOf, rowAt, withRows, LentTables, lentOf, PlanSlices, settledTables}
+use Rattle.regions.specs.Slices.{afreshAnswer, afreshLeft, afreshSlices, sliceAnswer, editedLeft, editSlices, planTable, entryOf}
 use Rattle.regions.specs.Table.{Method, afresh, edited}
 use Rattle.regions.proofs.Run.{run-ends}
 use Rattle.regions.proofs.Slices.{afresh-room, row-written, settled-lengths, edited-left, slices-of}

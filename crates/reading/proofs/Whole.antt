@@ -34,7 +34,8 @@ use Rattle.regions.specs.Table.{Method, afresh}
 use Rattle.regions.proofs.Slices.{afresh-room, settled-lengths}
 use Rattle.printing.specs.Rows.{rowLines, tableLines, refusalLine}
 use Rattle.printing.proofs.Lines.{table-lines, lines-same}
-use Rattle.reading.specs.Whole.{over, noPlan, lastPlan, fileLeft, tablesAnswer, fileAnswer, afreshExclusive, exclusiveLines, planLines, printedFor, filePrinted, ShortTables}
+use Rattle.reading.specs.Whole.{over, noPlan, lastPlan, fileLeft, tablesAnswer, fileAnswer}
+use Rattle.reading.specs.Whole.{afreshExclusive, exclusiveLines, planLines, printedFor, filePrinted, ShortTables}
 use Rattle.reading.proofs.Fresh.{leftOver, row-below, afresh-is-taken, afresh-needs, afresh-leaves, afresh-stays, fresh-edits, short-book, short-edits}
 
 -- ---- the tables
@@ -117,7 +118,8 @@ afresh-again m t q ten = go (afreshAnswer (over t q)) refl
     go Taken e = ap (callAnswer q None) (settled-lengths m (q .n) (afresh m q) t (afresh-room (over t q) ten e))
     go (Refused r at) e = refl
 
-pub file-answers : (m : Method) (t : LentTables) (s : List ℕ) → firstOf (finish (feed start s)) (afreshAnswer (fileLeft m t (readFile s))) ≡ fileAnswer t (readFile s)
+pub file-answers : (m : Method) (t : LentTables) (s : List ℕ)
+    → firstOf (finish (feed start s)) (afreshAnswer (fileLeft m t (readFile s))) ≡ fileAnswer t (readFile s)
 unfolding fileLeft tablesAnswer endOf
 file-answers m t s = ap (λ a. firstOf a (afreshAnswer (fileLeft m t (readFile s)))) (reader-answers s) ∙ by (readFile s) refl
   where
@@ -151,13 +153,13 @@ both-taken : (a b : Answer) → firstOf a b ≡ Taken → (a ≡ Taken) × (b �
 both-taken Taken b e = (refl, e)
 both-taken (Refused r at) b e = let z : _≡_ {A = ℕ} 0 1 = cc in absurd (omega arith)
 
-linesIn : PlanSlices → List ℕ
+-- the lines of the second table
+abbrev pub linesIn : PlanSlices → List ℕ
 linesIn d = tableLines (d .plan .n) (d .tables .exclusives .bytes) (d .tables .exclusives .numbers)
 
 pub file-lines : (m : Method) (t : LentTables) (s : List ℕ) → fileAnswer t (readFile s) ≡ Taken
-    → tableLines (fileLeft m t (readFile s) .plan .n) (fileLeft m t (readFile s) .tables .exclusives .bytes) (fileLeft m t (readFile s) .tables .exclusives .numbers)
-    ≡ planLines m t (readFile s)
-unfolding fileLeft tablesAnswer planLines endOf linesIn
+    → linesIn (fileLeft m t (readFile s)) ≡ planLines m t (readFile s)
+unfolding fileLeft tablesAnswer planLines endOf
 file-lines m t s taken = by (readFile s) refl taken
   where
     by : (g : File) → readFile s ≡ g → firstOf (endOf g) (tablesAnswer t g) ≡ Taken → linesIn (fileLeft m t g) ≡ planLines m t g

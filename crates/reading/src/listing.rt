@@ -1,7 +1,7 @@
 // What the program prints of a plan file: the lines of the exclusives after the last edit, or a refusal's line (specs/Whole.antt).
 ghost use mathlib.Core.Path.{_≡_};
 ghost use mathlib.Core.List.{List};
-ghost use Prim.Native.Nat.{ℕ};
+ghost use Prim.Native.Nat.{ℕ, _≤_};
 ghost use Rattle.file.specs.File.{readFile};
 ghost use Rattle.regions.specs.Slices.{LentTables, planSlices};
 ghost use Rattle.table.specs.Method.{clippedTable};
@@ -26,6 +26,7 @@ pub fn print_file(
 ) -> usize
     ensures { λ r. ⌜ Printed (printedAt (stateOf (reading .reader) (planSlices (reading .plan) (now (presence .entry)) (now (rows .entry)) (now («exclusive_presence» .entry)) (now (exclusives .entry))))) (now (out .entry)) (now (out .exit)) r ⌝ }
     ensures { λ r. ⌜ ((t : LentTables) (s : List ℕ) → AfterBytes clippedTable t s (stateOf (reading .reader) (planSlices (reading .plan) (now (presence .entry)) (now (rows .entry)) (now («exclusive_presence» .entry)) (now (exclusives .entry)))) → Printed (filePrinted clippedTable t (readFile s)) (now (out .entry)) (now (out .exit)) r) ⌝ }
+    ensures { λ r. ⌜ r ≤ 21504 ⌝ }
 {
     let plan = reading.plan;
     let answer = finish(reading, presence, rows, exclusive_presence, exclusives);

@@ -39,8 +39,10 @@ hand-requires c κs = search needs
 
 add-i : tie.Need-add-i Inv-loop μ-loop
 add-i c =
-    let test = c .before .before .before .before .before .before .before .before .before .before .before .before .before .before .before .before .loop-test .taken in
-    let good = c .before .before .before .before .before .before .before .before .before .before .before .before .before .before .before .before .before .before .before .before .before .before .before .before .before .good in
+    let at-hand = c .before .before .before .before .before .before .before .before in
+    let at-test = at-hand .before .before .before .before .before .before .before .before in
+    let test = at-test .loop-test .taken in
+    let good = at-test .before .before .before .before .before .before .before .before .before .good in
     omega arith
 
 loop-less : tie.Need-loop-less Inv-loop μ-loop
@@ -48,13 +50,16 @@ loop-less c = search needs
 
 loop-again : tie.Need-loop-again Inv-loop μ-loop
 loop-again c =
-    let l = c .before .before .before .before .before .before .before .before .before .before .before .before .before .before .before .before .before .loop in
-    let a = c .before .before .before .before .before .before .before .before .before .before .before .before .before .before .before .before .before .before .before .before .before .before .before .before .before .args in
+    let at-hand = c .before .before .before .before .before .before .before .before in
+    let at-step = at-hand .before .before .before .before .before .before in
+    let at-test = at-step .before .before in
+    let l = at-test .before .loop in
+    let a = at-test .before .before .before .before .before .before .before .before .before .args in
     let bytes = a .bytes .now in
-    let test : l .i < length bytes = c .before .before .before .before .before .before .before .before .before .before .before .before .before .before .before .before .loop-test .taken in
+    let test : l .i < length bytes = at-test .loop-test .taken in
     let left = planSlices (l .plan) (l .presence) (l .rows) (l .exclusive-presence) (l .exclusives) in
-    let next = c .before .before .before .before .before .before .before .before .before .before .before .before .before .before .step in
-    let h = c .before .before .before .before .before .before .before .before .hand in (
+    let next = at-step .step in
+    let h = at-hand .hand in (
       omega arith,
       ap (λ s. readBytes clippedTable s (drop (l .i + 1) bytes))
           (byte-read clippedTable (l .reader) (next .result) left _ (getD bytes (l .i) 0) (next .ensures) (h .ensures))

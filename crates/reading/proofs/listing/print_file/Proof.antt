@@ -4,7 +4,7 @@ use Rattle.printing.specs.Rows.{tableLines}
 use Rattle.regions.specs.Slices.{planSlices}
 use Rattle.table.specs.Method.{clippedTable}
 use Rattle.reading.specs.Reading.{stateOf, answerAt}
-use Rattle.reading.proofs.Bytes.{prints-file, taken-printed, refused-printed, printed-as}
+use Rattle.reading.proofs.Bytes.{prints-file, taken-printed, refused-printed, printed-as, printed-few, printed-fits}
 use borrow.Author.Needs.{needs}
 use Rattle.reading.proofs.listing.print_file.Statement.{statement}
 use Rattle.reading.proofs.listing.print_file.Tie as tie
@@ -39,26 +39,34 @@ same-length c = search needs
 
 returns : tie.Need-returns
 returns c =
-    let a = c .before .before .before .before .before .before .before .before .before .before .before .before .before .args in
+    let here = c .before .before in
+    let told = here .before .before in
+    let answered = told .before .before in
+    let a = answered .before .before .before .before .before .before .before .args in
     let left = planSlices (a .reading .plan) (a .presence .now) (a .rows .now) (a .exclusive-presence .now) (a .exclusives .now) in
     let lines = tableLines (a .reading .plan .n) (a .exclusive-presence .now) (a .exclusives .now) in
     let state = stateOf (a .reading .reader) left in
-    let answer = sym (c .before .before .before .before .before .before .finish .ensures .0) ∙ c .before .before .before .before .enum-told .given .1 in
-    let printed = printed-as (taken-printed (answerAt state) lines answer) (c .before .before .print-rows .ensures) in
-    (printed, λ t s after. printed-as (prints-file clippedTable t s state after) printed)
+    let answer = sym (answered .finish .ensures .0) ∙ told .enum-told .given .1 in
+    let printed = printed-as (taken-printed (answerAt state) lines answer) (here .print-rows .ensures) in
+    let few = printed-fits (printed-few (answerAt state) (a .reading .plan .n) (a .exclusive-presence .now) (a .exclusives .now)) printed in
+    (printed, ((λ t s after. printed-as (prints-file clippedTable t s state after) printed), few))
 
 same-length-2 : tie.Need-same-length-2
 same-length-2 c = search needs
 
 returns-2 : tie.Need-returns-2
 returns-2 c =
-    let a = c .before .before .before .before .before .before .before .before .before .before .before .before .before .before .before .args in
+    let here = c .before .before in
+    let told = here .before .before .before .before in
+    let answered = told .before .before in
+    let a = answered .before .before .before .before .before .before .before .args in
     let left = planSlices (a .reading .plan) (a .presence .now) (a .rows .now) (a .exclusive-presence .now) (a .exclusives .now) in
     let lines = tableLines (a .reading .plan .n) (a .exclusive-presence .now) (a .exclusives .now) in
     let state = stateOf (a .reading .reader) left in
-    let answer = sym (c .before .before .before .before .before .before .before .before .finish .ensures .0) ∙ c .before .before .before .before .before .before .answer .given .1 in
-    let printed = printed-as (refused-printed (answerAt state) lines _ answer (c .before .before .before .before .number .ensures)) (c .before .before .print-refusal .ensures) in
-    (printed, λ t s after. printed-as (prints-file clippedTable t s state after) printed)
+    let answer = sym (answered .finish .ensures .0) ∙ told .answer .given .1 in
+    let printed = printed-as (refused-printed (answerAt state) lines _ answer (here .before .before .number .ensures)) (here .print-refusal .ensures) in
+    let few = printed-fits (printed-few (answerAt state) (a .reading .plan .n) (a .exclusive-presence .now) (a .exclusives .now)) printed in
+    (printed, ((λ t s after. printed-as (prints-file clippedTable t s state after) printed), few))
 
 pub print-file-spec : {M : Type 1} → statement M
 print-file-spec =
