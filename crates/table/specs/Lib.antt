@@ -1,2 +1,4 @@
 pub mod Ready
 pub mod Rows
+pub mod Method
+pub mod Tables
