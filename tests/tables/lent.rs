@@ -43,7 +43,7 @@ pub struct Edit {
 
 // The whole numbers of a plan of the domain, or nothing where it has others.
 fn whole(numbers: &[f64]) -> Option<Vec<i32>> {
-    numbers.iter().map(|v| (*v == v.round() && v.abs() <= 40000.0).then_some(*v as i32)).collect()
+    numbers.iter().map(|v| (*v == *v as i32 as f64 && v.abs() <= 40000.0).then_some(*v as i32)).collect()
 }
 
 impl Book {

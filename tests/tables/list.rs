@@ -42,15 +42,14 @@ fn of_heads(category: &Category, number: usize, random: &mut Random) -> Plan {
     plan
 }
 
-// For each category of the domain, with identical heads or without, plans of few heads; and of many, one for every fifth category.
+// For each category of the domain, with identical heads or without, plans of few heads, and one or two of more.
 pub fn print(seed: u64) {
     for (i, category) in CATEGORIES.iter().chain(&TWINS).enumerate() {
         let mut random = Random::of(seed, 900 + i);
         for turn in 0..6 {
             let number = match turn {
                 0 => i % 11,
-                1 if i % 5 == 0 => 10,
-                1 => 5 + i % 3,
+                1 => [10, 8, 9, 7, 6][i % 5],
                 turn => turn,
             };
             let made = of_heads(category, number, &mut random);
