@@ -143,6 +143,7 @@ def text_trial(chance):
     normal = text.normal(plan)
     expect('texts in normal form to bytes to text: the same text', text.normal(file.decode(data)), normal)
     refused = re.fullmatch('refused ([0-9]) at ([0-9]+)', trials.file_lines(data)[-1])
+    expect('texts: taken, or the refusal', table.refusal(plan, places), refused and (int(refused.group(1)), int(refused.group(2))))
     if refused:
         number, offset = int(refused.group(1)), int(refused.group(2))
         name = ('head', 10) if number == 2 else place_of(offset, box, heads, edits)
@@ -187,7 +188,7 @@ ERRORS = [
 ]
 
 USAGE = ['', '--text', '--text --table x', '--nonsense x', '--full x', '--set 0 x', '--svg --set a x', '--svg --set 0,,1 x', '--svg --edit -1 x',
-         '--svg --edit one x', '--rows p x', 'x y', '--table --zoom 0 x']
+         '--svg --edit one x', '--rows p x', 'x y', '--table --zoom 0 x', '--why --text x', '--svg --library l x', '--why --rows p x']
 
 NO_ROWS = ['true', 'false', 'echo 00', 'echo 001 400000000000000', 'printf "000 4000000000000000"',
            'echo 000 4000000000000000; echo refused 1 at 2', 'echo no >&2']

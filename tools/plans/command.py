@@ -3,7 +3,7 @@ import argparse
 import os
 import sys
 
-from . import file, picture, table, text
+from . import file, library, picture, table, text, why
 
 HELP = """Plans as text, as plan files, as tables and as pictures.
 
@@ -25,6 +25,7 @@ EXAMPLES = """examples:
     tools/plan --table ground.txt               the areas after the last move, by rows
     tools/plan --svg ground.txt > ground.svg    a picture, before and after the last move
     tools/plan --svg --edit 1 --set 0,2 ground.txt > first.svg
+    tools/plan --why ground.txt                 for each move, which rows changed and why
     tools/plan --text ground.plan | tools/plan --table -
 
 The status is 0; 1 if the input cannot be used, with the line or byte offset on standard error; 2 if the command line is wrong.
@@ -41,11 +42,13 @@ def parser():
     mode.add_argument('--text', action='store_true', help='INPUT is a plan file: write its text')
     mode.add_argument('--table', action='store_true', help='run rows on the plan and write its table, areas in square metres')
     mode.add_argument('--svg', action='store_true', help='draw the plan; with moves, before and after one of them')
+    mode.add_argument('--why', action='store_true', help='for each move, the rows that changed, and why')
     made.add_argument('--full', action='store_true', help='with --text: values instead of each - of the text')
     made.add_argument('--set', metavar='HEADS', type=picture.set_of, help='with --svg: outline the ground that these heads share, such as 0,2')
     made.add_argument('--zoom', metavar='HEADS', type=picture.set_of, help='with --svg: draw only the ground that these heads reach')
     made.add_argument('--edit', metavar='N', type=int, help='with --svg: the N-th move (from 1; default the last); 0: the plan before its moves')
     made.add_argument('--rows', metavar='PROGRAM', help='the program rows (default: target/bin/rows, else the one in PATH)')
+    made.add_argument('--library', metavar='FILE', help='with --why: the shared library (default: from target/staticlib/libwatered.a, else installed)')
     made.add_argument('input', metavar='INPUT', help='a text, or a plan file with --text; - is standard input')
     return made
 
@@ -60,6 +63,8 @@ def options_of(arguments):
         made.error('--set, --zoom and --edit go with --svg')
     if options.rows and not (options.table or options.svg):
         made.error('--rows goes with --table and --svg')
+    if options.library and not options.why:
+        made.error('--library goes with --why')
     if options.edit is not None and options.edit < 0:
         made.error('--edit wants the number of a move, from 1, or 0')
     return options
@@ -81,6 +86,8 @@ def made_from(plan, options):
         return table.table(table.rows_of(plan, options.rows)).encode()
     if options.svg:
         return picture.svg(plan, options.set, options.edit, options.rows, options.zoom).encode()
+    if options.why:
+        return why.why(plan, library.load(options.library)).encode()
     return file.encode(plan)[0]
 
 
@@ -101,7 +108,7 @@ def output(options):
     except table.Refused as refused:
         line, why = refused.args
         raise Failure('%s:%d: %s' % (name, line, why) if line else '%s: %s' % (name, why))
-    except (table.NoProgram, picture.NotDrawn) as error:
+    except (table.NoProgram, library.NoLibrary, picture.NotDrawn) as error:
         raise Failure(str(error))
 
 
@@ -112,7 +119,7 @@ def write(data):
 
 def main(arguments):
     options = options_of(arguments)
-    plan_bytes = not (options.text or options.table or options.svg)
+    plan_bytes = not (options.text or options.table or options.svg or options.why)
     if plan_bytes and os.isatty(1):
         parser().error('plan bytes are not for a terminal: send them into a file, as in tools/plan TEXT > FILE')
     try:

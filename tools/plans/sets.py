@@ -36,19 +36,19 @@ def adopters(heads, i, j, point):
 
 
 def discovered(heads):
-    """Each set of the plan, with how it is found first: ('single',), ('point', i, j), ('meet', i, j), ('contain', i, j), ('less', mask,
-    head taken) or ('level', the head that all others contain)."""
+    """Each set of the plan, with how it is found: ('single',), ('meet', i, j), ('contain', i, j), ('point', i, j), ('less', mask, head
+    taken) or ('level', the head that all others contain). A mask of three or more that is made less comes from a point."""
     count = len(heads)
     found = {1 << i: ('single',) for i in range(count)}
     pairs = [(i, j) for i in range(count) for j in range(i + 1, count)]
     for i, j in pairs:
+        if meets(heads[i], heads[j]):
+            found[1 << i | 1 << j] = ('meet', i, j)
+        elif contains(heads[i], heads[j]) or contains(heads[j], heads[i]):
+            found[1 << i | 1 << j] = ('contain', i, j) if contains(heads[i], heads[j]) else ('contain', j, i)
+    for i, j in pairs:
         for point in meeting_points(heads[i], heads[j]):
             found.setdefault(adopters(heads, i, j, point), ('point', i, j))
-    for i, j in pairs:
-        if meets(heads[i], heads[j]):
-            found.setdefault(1 << i | 1 << j, ('meet', i, j))
-        elif contains(heads[i], heads[j]) or contains(heads[j], heads[i]):
-            found.setdefault(1 << i | 1 << j, ('contain', i, j) if contains(heads[i], heads[j]) else ('contain', j, i))
     for mask in sorted(mask for mask in found if len(ones(mask)) >= 3):
         for i in ones(mask):
             found.setdefault(mask & ~(1 << i), ('less', mask, i))

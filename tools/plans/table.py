@@ -12,6 +12,11 @@ ROW = re.compile(r'([0-9A-F]{3}) ([0-9A-F]{16})\Z')
 REFUSED = re.compile(r'refused ([0-9]+) at ([0-9]+)\n\Z')
 
 
+# Document 01's limits, and the number of the refusal.
+LIMITS = {'width': (1, 40000, 5), 'height': (1, 40000, 5), 'radius': (1, 20000, 5)}
+COORDINATE = (-20000, 20000, 4)
+
+
 class Refused(Exception):
     """`rows` refuses the plan: the line of the text (None if it is no one line), and why in words."""
 
@@ -65,6 +70,27 @@ def heads_in(plan):
     return 'no heads' if count == 0 else 'only head 0' if count == 1 else 'heads 0 to %d' % (count - 1)
 
 
+def field_at(place):
+    """The name, the value and the limits of the field at a place."""
+    name = (BOX if place.record.kind == 'box' else HEAD)[place.index]
+    return name, place.record.fields[place.index], LIMITS.get(name, COORDINATE)
+
+
+def refusal(plan, places):
+    """The first check that fails in reading order, as (number, offset), or None: for calls of the library, which give no offset."""
+    if len(plan.heads) > 10:
+        return 2, 0
+    for offset, place in places.items():
+        if place.index is None:
+            if place.record.head >= len(plan.heads):
+                return 6, offset
+        else:
+            _, value, (low, high, number) = field_at(place)
+            if not low <= value <= high:
+                return number, offset
+    return None
+
+
 def in_words(number, offset, plan, places):
     """A Refused for the refusal `number` at `offset` of the plan's bytes."""
     said = 'refused %d at %d' % (number, offset)
@@ -76,19 +102,17 @@ def in_words(number, offset, plan, places):
     record, line = place.record, place.record.line
     if number == 6:
         return Refused(line, '%s: a move of head %d, but the plan has %s' % (said, record.head, heads_in(plan)))
-    name = (BOX if record.kind == 'box' else HEAD)[place.index]
-    limits = '1 to 40000' if name in ('width', 'height') else '1 to 20000' if name == 'radius' else '-20000 to 20000'
-    value = record.fields[place.index]
-    return Refused(line, '%s: the %s of %s is %d, outside %s' % (said, name, name_of(record, plan), value, limits))
+    name, value, (low, high, _) = field_at(place)
+    return Refused(line, '%s: the %s of %s is %d, outside %d to %d' % (said, name, name_of(record, plan), value, low, high))
 
 
 def rows_of(plan, chosen=None):
     """The present rows of the plan after its last edit: (mask, exclusive area in square centimetres). Raises Refused, NoProgram."""
     data, places = encode(plan)
     printed = answer(data, chosen)
-    refusal = REFUSED.match(printed)
-    if refusal:
-        raise in_words(int(refusal.group(1)), int(refusal.group(2)), plan, places)
+    refused = REFUSED.match(printed)
+    if refused:
+        raise in_words(int(refused.group(1)), int(refused.group(2)), plan, places)
     return parsed(printed)
 
 
