@@ -1,5 +1,6 @@
 """The command line of tools/plan. All output is made before any of it is written."""
 import argparse
+import contextlib
 import os
 import sys
 
@@ -48,7 +49,7 @@ def parser():
     made.add_argument('--zoom', metavar='HEADS', type=picture.set_of, help='with --svg: draw only the ground that these heads reach')
     made.add_argument('--edit', metavar='N', type=int, help='with --svg: the N-th move (from 1; default the last); 0: the plan before its moves')
     made.add_argument('--rows', metavar='PROGRAM', help='the program rows (default: target/bin/rows, else the one in PATH)')
-    made.add_argument('--library', metavar='FILE', help='with --why: the shared library (default: from target/staticlib/libwatered.a, else installed)')
+    made.add_argument('--library', metavar='FILE', help='with --why: the shared library (default: that of target/staticlib, else installed)')
     made.add_argument('input', metavar='INPUT', help='a text, or a plan file with --text; - is standard input')
     return made
 
@@ -70,14 +71,34 @@ def options_of(arguments):
     return options
 
 
-def input_of(options):
+def input_of(path):
+    """The bytes of a file, or of standard input for -. Raises Failure."""
     try:
-        if options.input == '-':
-            return sys.stdin.buffer.read()
-        with open(options.input, 'rb') as source:
+        with open(0 if path == '-' else path, 'rb', closefd=path != '-') as source:
             return source.read()
     except OSError as error:
-        raise Failure('cannot read %s: %s' % (options.input, error.strerror))
+        raise Failure('cannot read %s: %s' % (name_of(path), error.strerror))
+
+
+def name_of(path):
+    return 'standard input' if path == '-' else path
+
+
+@contextlib.contextmanager
+def failures(path):
+    """What is wrong with an input as a Failure that names it and the place."""
+    name = name_of(path)
+    try:
+        yield
+    except file.Damaged as damaged:
+        raise Failure('%s: byte %d: %s' % (name, *damaged.args))
+    except text.Wrong as wrong:
+        raise Failure('%s:%d: %s' % (name, *wrong.args))
+    except table.Refused as refused:
+        line, why_not = refused.args
+        raise Failure('%s:%d: %s' % (name, line, why_not) if line else '%s: %s' % (name, why_not))
+    except (table.NoProgram, library.NoLibrary, picture.NotDrawn) as error:
+        raise Failure(str(error))
 
 
 def made_from(plan, options):
@@ -93,28 +114,27 @@ def made_from(plan, options):
 
 def output(options):
     """What the command writes. Raises Failure."""
-    data = input_of(options)
-    name = 'standard input' if options.input == '-' else options.input
-    try:
+    data = input_of(options.input)
+    with failures(options.input):
         if options.text:
             plan = file.decode(data)
             return text.normal(file.full(plan) if options.full else plan).encode()
         return made_from(text.parse(data), options)
-    except file.Damaged as damaged:
-        raise Failure('%s: byte %d: %s' % ((name,) + damaged.args))
-    except text.Wrong as wrong:
-        hint = '; a plan file goes with --text' if b'\0' in data else ''
-        raise Failure('%s:%d: %s%s' % ((name,) + wrong.args + (hint,)))
-    except table.Refused as refused:
-        line, why = refused.args
-        raise Failure('%s:%d: %s' % (name, line, why) if line else '%s: %s' % (name, why))
-    except (table.NoProgram, library.NoLibrary, picture.NotDrawn) as error:
-        raise Failure(str(error))
 
 
-def write(data):
-    while data:
-        data = data[os.write(1, data):]
+def finish(program, make):
+    """Writes what `make` gives, or says on standard error why not. The status."""
+    try:
+        data = make()
+        while data:
+            data = data[os.write(1, data):]
+        return 0
+    except Failure as failure:
+        words = str(failure)
+    except OSError as error:
+        words = 'cannot write: %s' % error.strerror
+    print('%s: %s' % (program, words), file=sys.stderr)
+    return 1
 
 
 def main(arguments):
@@ -122,12 +142,4 @@ def main(arguments):
     plan_bytes = not (options.text or options.table or options.svg or options.why)
     if plan_bytes and os.isatty(1):
         parser().error('plan bytes are not for a terminal: send them into a file, as in tools/plan TEXT > FILE')
-    try:
-        write(output(options))
-    except Failure as failure:
-        print('plan: %s' % failure, file=sys.stderr)
-        return 1
-    except OSError as error:
-        print('plan: cannot write: %s' % error.strerror, file=sys.stderr)
-        return 1
-    return 0
+    return finish('plan', lambda: output(options))

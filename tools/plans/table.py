@@ -5,7 +5,7 @@ import shutil
 import struct
 import subprocess
 
-from .file import BOX, HEAD, encode
+from .file import BOX, HEAD, encode, values
 
 ROOT = os.path.dirname(os.path.dirname(os.path.dirname(os.path.abspath(__file__))))
 ROW = re.compile(r'([0-9A-F]{3}) ([0-9A-F]{16})\Z')
@@ -104,6 +104,15 @@ def in_words(number, offset, plan, places):
         return Refused(line, '%s: a move of head %d, but the plan has %s' % (said, record.head, heads_in(plan)))
     name, value, (low, high, _) = field_at(place)
     return Refused(line, '%s: the %s of %s is %d, outside %d to %d' % (said, name, name_of(record, plan), value, low, high))
+
+
+def taken_values(plan):
+    """The values of a plan that the checks take. Raises Refused."""
+    places = encode(plan)[1]
+    refused = refusal(plan, places)
+    if refused:
+        raise in_words(*refused, plan, places)
+    return values(plan)
 
 
 def rows_of(plan, chosen=None):

@@ -53,7 +53,8 @@ def record(words, line):
     """The record that the words of a line give."""
     kind = words[0]
     if kind not in FORMS:
-        raise Wrong(line, 'expected box, head or move, found %s' % shown(kind))
+        hint = '; a plan file goes with --text' if '\0' in kind else ''
+        raise Wrong(line, 'expected box, head or move, found %s%s' % (shown(kind), hint))
     form, count = FORMS[kind]
     if len(words) - 1 != count:
         raise Wrong(line, 'expected %s, found %d word%s after %s' % (form, len(words) - 1, '' if len(words) == 2 else 's', kind))

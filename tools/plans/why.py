@@ -6,9 +6,8 @@ import math
 import struct
 
 from . import rules, sets
-from .file import encode, values
 from .library import Window
-from .table import heads_of, in_words, refusal, square_metres
+from .table import heads_of, square_metres, taken_values
 
 
 def same(a, b):
@@ -173,10 +172,6 @@ def told(number, move):
 
 def why(plan, library):
     """The text for all moves of a plan. Raises table.Refused."""
-    places = encode(plan)[1]
-    refused = refusal(plan, places)
-    if refused:
-        raise in_words(*refused, plan, places)
-    box, heads, moves = values(plan)
+    box, heads, moves = taken_values(plan)
     window = Window(library, box, heads)
     return '\n'.join(told(number, move) for number, move in enumerate(moves_of(window, moves), 1)) or 'The plan has no moves.\n'
