@@ -1,6 +1,6 @@
 // The differential run: the Rust's files as modules of this program, and our functions beside them.
 // `differential COUNT SEED PLANS` compares on about COUNT ordered pairs of circles and about PLANS plans; `differential list ..`
-// prints the Rust's answers for so many. What is compared stands in files of its own (pairs.rs, outlines.rs), with the exports of
+// prints the Rust's answers for so many. What is compared stands in files of its own (pairs.rs, outlines.rs, sets.rs, twins.rs), with the exports of
 // crate `probe` that it calls.
 
 #[allow(dead_code)]
@@ -40,12 +40,15 @@ mod spec {
 #[allow(dead_code)]
 mod stubs;
 
+mod case;
 mod inputs;
 mod ours;
 mod outlines;
 mod pairs;
 mod plans;
+mod sets;
 mod tally;
+mod twins;
 mod whole;
 
 fn main() {
@@ -59,7 +62,9 @@ fn main() {
         return;
     }
     whole::answers();
-    let mut tally = tally::Tally::new(&[pairs::FUNCTIONS.as_slice(), outlines::FUNCTIONS.as_slice()].concat());
+    let mut tally = tally::Tally::new(
+        &[pairs::FUNCTIONS.as_slice(), outlines::FUNCTIONS.as_slice(), sets::FUNCTIONS.as_slice(), twins::FUNCTIONS.as_slice()].concat(),
+    );
     println!("seed {seed}");
     pairs::compare(count, seed, &mut tally);
     outlines::compare(plans, seed, &mut tally);

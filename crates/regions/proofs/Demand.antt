@@ -29,7 +29,7 @@ use Rattle.masks.specs.Operations.{in-power}
 use Rattle.masks.specs.Gather.{in-gather}
 use Rattle.regions.proofs.Masks.{overlap-at, overlap-none, head-below}
 use Rattle.regions.proofs.Rows.{edited-afresh}
-use Rattle.regions.proofs.Steps.{rows-over, overlaid-below, settled-exclusives, settled-beyond, any-taken, none-taken}
+use Rattle.regions.proofs.Steps.{rows-over, overlaid-below, settled-exclusives, settled-beyond, after-keeps, any-taken, none-taken}
 use Rattle.lists.specs.Run as Run
 use Rattle.lists.proofs.Simulation.{simulates}
 
@@ -168,17 +168,23 @@ list-ends-afresh m s begin es =
       beyond = λ S h. (refl, refl);
     } in
     let end = simulates (tableStep m) bookStep (KeepsTo m s) (step-keeps m s) es s (s .plan) start in
-    let rows = Run.after (tableStep m) s es .rows in
+    let left = Run.after (tableStep m) s es in
     let p = book (s .plan) es in
+    let of-book : Settled m s left → ExclusivesOf m (p .n) (afresh m p) (left .exclusives) =
+    λ k S h.
+    subst (λ q. ExclusivesOf m (q .n) (left .rows) (left .exclusives)) (end .1 .plan) k S h
+    ∙ m .exclusives .below (p .n) (left .rows) (afresh m p) (end .1 .fresh) S h in
     record {
       answered = end .0;
       planned = end .1 .plan;
       fresh = end .1 .fresh;
-      exclusive = λ t S h.
-          subst (λ q. ExclusivesOf m (q .n) rows (Run.after (tableStep m) s es .exclusives)) (end .1 .plan)
-          (any-taken (tableStep m) (Settled m s) (taken-settled m s) (stays-settled m s) es s (subst AnyTaken (sym (end .0)) t)) S h
-          ∙ m .exclusives .below (p .n) rows (afresh m p) (end .1 .fresh) S h;
+      exclusive = λ t.
+          of-book (any-taken (tableStep m) (Settled m s) (taken-settled m s) (stays-settled m s) es s (subst AnyTaken (sym (end .0)) t));
       untouched = λ t. none-taken (tableStep m) (refused-leaves-all m) es s (λ u. t (subst AnyTaken (end .0) u));
+      both = λ k.
+          of-book
+          (after-keeps (tableStep m) (Settled m s) (taken-settled m s) (stays-settled m s) es s
+          (λ S h. k S h ∙ sym (m .exclusives .below (s .plan .n) (s .rows) (afresh m (s .plan)) (begin .fresh) S h)));
       beyond = end .1 .beyond;
     }
 

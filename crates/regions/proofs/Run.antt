@@ -13,15 +13,18 @@ use Rattle.lists.proofs.Writing.{length-tab, length-written}
 use Rattle.plan.specs.declared.Answer.{Answer}
 use Rattle.plan.specs.declared.Answer.the-variants.{Taken, Refused}
 use Rattle.plan.specs.declared.Edit.{Edit}
+use Rattle.plan.specs.declared.Gradients.the-variants.{None}
 use Rattle.plan.specs.declared.Lent.{Lent}
 use Rattle.plan.specs.Book.{AnyTaken, headOf, applied, leaves}
+use Rattle.plan.specs.Checks.{planAnswer, callAnswer}
 use Rattle.plan.specs.Table.{answerNumber}
+use Rattle.plan.proofs.Exactly.{plan-taken, call-taken}
 use Rattle.regions.specs.Edit.{Row}
-use Rattle.regions.specs.Demand.{Fresh, Ends}
-use Rattle.regions.specs.Table.{Method, edited, tableStep}
-use Rattle.regions.specs.Slices.{Slices, rowAt, withRows, LentTables, lentOf, PlanSlices, settledTables, stepOf, sliceAnswer, editedLeft, editSlices, planTable, entryOf}
-use Rattle.regions.specs.Run.{slicesAfter, answersAfter, answersWritten, entriesOf, BytesStay, SlicesEnd, RunEnds}
-use Rattle.regions.proofs.Demand.{list-ends-afresh}
+use Rattle.regions.specs.Demand.{AfreshRows, ExclusivesOf, Fresh, Ends, Reworks}
+use Rattle.regions.specs.Table.{Method, afresh, edited, afreshStep, tableStep}
+use Rattle.regions.specs.Slices.{Slices, rowAt, withRows, LentTables, lentOf, PlanSlices, settledTables, stepOf, sliceAnswer, editedLeft, afreshSlices, editSlices, planTable, entryOf}
+use Rattle.regions.specs.Run.{slicesAfter, answersAfter, answersWritten, entriesOf, BytesStay, AfreshBegins, SlicesRework, SlicesEnd, RunEnds}
+use Rattle.regions.proofs.Demand.{afresh-works, list-ends-afresh, edit-reworks-exactly}
 use Rattle.regions.proofs.Slices.{Room, edit-room, edited-left, slices-are-tables}
 use Rattle.regions.proofs.Steps.{none-taken}
 
@@ -177,7 +180,37 @@ refused-slices m d e n = go (sliceAnswer d e) n
     go Taken n = absurd (n refl)
     go (Refused r at) n = refl
 
--- Demand 3's list, of the slices.
+-- ---- demand 3, of the slices
+
+afresh-answer-is : (m : Method) (d : PlanSlices) → callAnswer (d .plan) None (lentOf (d .tables)) ≡ afreshSlices m d .answer
+unfolding afreshSlices
+afresh-answer-is m d = refl
+
+-- what a run begins with
+pub afresh-begins : (m : Method) → AfreshBegins m
+afresh-begins m d ten q =
+    let same = slices-are-tables m in
+    let works = afresh-works m (planTable d) (lentOf (d .tables)) .taken (sym (same .afresh-answer d) ∙ q) in
+    let left = sym (same .afresh-left d) in
+    let accepted = call-taken (d .plan) None (lentOf (d .tables)) ten .0 (afresh-answer-is m d ∙ q) .0 in (
+      subst (Fresh m) left
+          (record {
+            room = ap (λ p. length (p .heads)) (works .0) ∙ ten;
+            taken = ap planAnswer (works .0) ∙ plan-taken (d .plan) ten .1 accepted;
+            fresh = subst (λ p. AfreshRows m p (afreshStep m (planTable d) (lentOf (d .tables)) .left .rows)) (sym (works .0)) (works .1);
+          }),
+      subst (λ t. ExclusivesOf m (d .plan .n) (afresh m (d .plan)) (t .exclusives)) left (works .2),
+    )
+
+-- the second half
+pub slices-rework : (m : Method) → SlicesRework m
+slices-rework m d e q =
+    let same = slices-are-tables m in
+    let rows = ap (λ t. t .rows) (sym (same .edit-left d e)) in
+    subst (Reworks m (d .plan) e (rowAt (d .tables .rows))) rows
+    (edit-reworks-exactly m (planTable d) (entryOf (d .tables) e) (sym (same .edit-answer d e) ∙ q) .1)
+
+-- the list
 pub run-ends : (m : Method) → RunEnds m
 run-ends m d es begin =
     let start : Kept m d d = record { ten = begin .room; count = refl; stay = record { bytes = (refl, refl); numbers = (refl, refl); others = (refl, refl); areas = (refl, refl) } } in

@@ -9,6 +9,7 @@ use native.Mathlib.Omega.{arith}
 use lib.Dec.{ltb}
 use lib.Ieee.{Float, nan}
 use lib.ListN.{length}
+use lib.Seq.{ext-getD}
 use borrow.Author.Tests.{ltb-true, ltb-false}
 use Rattle.lists.proofs.Writing.{length-written, written-before, written-past}
 use Rattle.plan.specs.declared.Answer.{Answer}
@@ -21,7 +22,7 @@ use Rattle.plan.specs.Table.{least}
 use Rattle.plan.proofs.Exactly.{call-taken, edit-taken}
 use Rattle.regions.specs.Edit.{Row}
 use Rattle.regions.specs.Table.{Method, PlanTable, afresh, edited, overlaid, settled, rowsOver, afreshStep, tableStep}
-use Rattle.regions.specs.Slices.{Slices, slicesOf, rowAt, writtenBytes, writtenNumbers, withRows, RowWritten, LentTables, tablesOf, lentOf, PlanSlices, settledTables, stepOf, afreshAnswer, afreshLeft, afreshSlices, sliceAnswer, editedLeft, editSlices, planTable, entryOf, SlicesAreTables}
+use Rattle.regions.specs.Slices.{Slices, slicesOf, rowAt, writtenBytes, writtenNumbers, withRows, RowWritten, RowsFix, LentTables, tablesOf, lentOf, PlanSlices, settledTables, stepOf, afreshAnswer, afreshLeft, afreshSlices, sliceAnswer, editedLeft, editSlices, planTable, entryOf, SlicesAreTables}
 use Rattle.regions.proofs.Steps.{rows-over}
 
 -- ---- what is written is read
@@ -41,6 +42,13 @@ row-written rows count t S = by (ltb S count) refl
 
 rows-written : (rows : ℕ → Row) (count : ℕ) (t : Slices) → rowAt (withRows rows count t) ≡ overlaid count rows (rowAt t)
 rows-written rows count t = fun-ext (λ S. row-written rows count t S)
+
+-- the rows and the lengths are the slices
+pub rows-fix : RowsFix
+rows-fix t u a b e =
+    ap₂ slicesOf
+    (ext-getD 0 (t .bytes) (u .bytes) a (λ S h. ap (λ (r : Row). r .byte) (e S)))
+    (ext-getD nan (t .numbers) (u .numbers) b (λ S h. ap (λ (r : Row). r .number) (e S)))
 
 -- ---- each call is the step on the rows
 

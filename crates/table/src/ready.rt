@@ -12,9 +12,9 @@ use outline::area::region_area;
 use plan::Plan;
 use sets::discover::discover_regions;
 
-// `boxed`: the rows are those in the box.
+// `clipped`: the rows are those in the box.
 pub struct Ready {
-    pub boxed: bool,
+    pub clipped: bool,
     pub n: usize,
     pub circles: [Circle; 10],
     pub points: Intersections,
@@ -27,7 +27,7 @@ pub fn row_area(ready: Ready, mask: usize) -> f64
 {
     let circles = ready.circles;
     let points = ready.points;
-    if ready.boxed {
+    if ready.clipped {
         let bounds = ready.bounds;
         return clipped_region_area(mask, circles, points, ready.n, bounds);
     }
@@ -35,15 +35,15 @@ pub fn row_area(ready: Ready, mask: usize) -> f64
 }
 
 // What the rows of a plan are worked out from, with its box or without it.
-pub fn ready_of(plan: Plan, boxed: bool) -> Ready
-    ensures { λ r. ⌜ spec.Of plan boxed r ⌝ }
+pub fn ready_of(plan: Plan, clipped: bool) -> Ready
+    ensures { λ r. ⌜ spec.Of plan clipped r ⌝ }
 {
     let ground = plan.ground;
     let circles = circles_of(plan);
     let points = collect_intersections(circles, plan.n);
     let bounds = box_of(ground).bounds();
     Ready {
-        boxed: boxed,
+        clipped: clipped,
         n: plan.n,
         circles: circles,
         points: points,

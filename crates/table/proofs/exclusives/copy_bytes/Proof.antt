@@ -5,8 +5,8 @@ use Prim.Native.Nat.{ℕ, _-_, _≤_}
 use lib.ListN.{length, getD}
 use Rattle.lists.specs.Written.{written}
 use Rattle.lists.proofs.Writing.{written-none, length-written, write-next}
-use Rattle.table.proofs.copy.copy_bytes.Statement.{statement}
-use Rattle.table.proofs.copy.copy_bytes.Tie as tie
+use Rattle.table.proofs.exclusives.copy_bytes.Statement.{statement}
+use Rattle.table.proofs.exclusives.copy_bytes.Tie as tie
 
 abbrev Inv-loop : tie.InvT-loop
 Inv-loop from to₀ count i₀ to i = (i ≤ count) × (to ≡ written (λ S. getD from S 0) i to₀)
