@@ -119,6 +119,6 @@ lens-sectors r s d = refl
 
 -- Where a lens is worked out, both quotients are within -1 to 1: acos's domain. So no area rests on the +0 outside it.
 abbrev pub QuotientsWithin : Type 0
-QuotientsWithin = (a b : Head) → T (inLimits a) → T (inLimits b) → beyond (circleOf a) (circleOf b) ≡ false → within (circleOf a) (circleOf b) ≡ false
+QuotientsWithin = (a b : Head) → T (isDrawn a) → T (isDrawn b) → beyond (circleOf a) (circleOf b) ≡ false → within (circleOf a) (circleOf b) ≡ false
     → Most 1 1074 (quotient (circleOf a .radius) (circleOf b .radius) (distance (circleOf a .center) (circleOf b .center)))
     × Most 1 1074 (quotient (circleOf b .radius) (circleOf a .radius) (distance (circleOf a .center) (circleOf b .center)))

@@ -5,6 +5,7 @@ ghost use Rattle.regions.specs.Slices.{tablesOf, planSlices, afreshSlices, edit
 ghost use Rattle.table.specs.Method.{clippedTable, openTable};
 ghost use Rattle.table.specs.Tables.{editOf};
 ghost use Rattle.watered.specs.Handed as spec;
+ghost use Rattle.watered.specs.Run.{Ran};
 use crate::handed::number_of;
 use crate::handed::numbers_of;
 use crate::handed::plan_of;
@@ -85,4 +86,48 @@ pub extern "C" fn watered_edit(
     let ten = left.heads;
     *heads = numbers_of(ten);
     number_of(answer)
+}
+
+// A list of edits, each tried on what the one before left: as many as the shortest of the five lists allows, which count it gives. Answer i
+// is 0 where edit i was taken, or the refusal's number. The plan left stands in `heads`.
+#[no_mangle]
+pub extern "C" fn watered_run(
+    n: usize,
+    sides: &[i32; 4],
+    heads: &mut [i32; 30],
+    edit_heads: &[usize],
+    x: &[i32],
+    y: &[i32],
+    radius: &[i32],
+    answers: &mut [u8],
+    presence: &mut [u8],
+    rows: &mut [f64],
+    exclusive_presence: &mut [u8],
+    exclusives: &mut [f64],
+) -> usize
+    ensures { λ r. ⌜
+        Ran clippedTable
+        (planSlices (spec.planOf n (now (sides .entry)) (now (heads .entry))) (now (presence .entry)) (now (rows .entry)) (now («exclusive_presence» .entry)) (now (exclusives .entry)))
+        (now («edit_heads» .entry)) (now (x .entry)) (now (y .entry)) (now (radius .entry)) (now (answers .entry))
+        r (now (heads .exit)) (tablesOf (now (presence .exit)) (now (rows .exit)) (now («exclusive_presence» .exit)) (now (exclusives .exit)))
+        (now (answers .exit))
+        ⌝ }
+{
+    let plan = plan_of(n, sides, heads);
+    let ran = table::run::run(
+        plan,
+        edit_heads,
+        x,
+        y,
+        radius,
+        answers,
+        presence,
+        rows,
+        exclusive_presence,
+        exclusives,
+    );
+    let left = ran.plan;
+    let ten = left.heads;
+    *heads = numbers_of(ten);
+    ran.count
 }
