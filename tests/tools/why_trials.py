@@ -15,6 +15,7 @@ import sys
 ROOT = os.path.dirname(os.path.dirname(os.path.dirname(os.path.abspath(__file__))))
 sys.path[:0] = [os.path.join(ROOT, 'tools')]
 from plans import library, sets, why, window  # noqa: E402
+from plans.table import square_metres  # noqa: E402
 
 COUNTS = {}
 
@@ -117,7 +118,7 @@ def set_true(words, move, mask, heads):
     found = re.match('heads ([0-9]+) and ([0-9]+) (?:meet|met) at a point that only heads ([0-9, ]+) reach', words)
     if found:
         i, j, wide = int(found.group(1)), int(found.group(2)), names(found.group(3))
-        less = re.search('less head ([0-9]+) that is this row$', words)
+        less = re.search('without head ([0-9]+) that leaves this row$', words)
         same_set = wide == mask if not less else wide == mask | 1 << int(less.group(1)) != mask
         told = re.search('(before|now),? the moved head (reached|did not reach|reaches|does not reach) it', words)
         other = move.before.heads if told and told.group(1) == 'before' else move.after.heads
@@ -148,7 +149,8 @@ def met_true(words, move, mask):
 
 def within_true(words, move, mask):
     """Whether the clause on a row within this one holds."""
-    found = re.fullmatch(r'its own area stayed, but row ([0-9A-F]{3}), which lies within it, (became present|is no more present|changed)(?: .*)?', words)
+    found = re.fullmatch('its own area stayed, but row ([0-9A-F]{3}), which lies within it, (became present|is no more present|changed)'
+                         r'(?: \(and [0-9]+ more\))?', words)
     other = int(found.group(1), 16)
     before, after = move.before.rows.get(other), move.after.rows.get(other)
     what = 'became present' if before is None else 'is no more present' if after is None else 'changed'
@@ -163,9 +165,10 @@ def reason_true(words, move, mask):
         return before is not None and after is None and set_true(words[17:], move, mask, move.before.heads)
     if words.startswith('its own area stayed'):
         return bits(before) == bits(after) and within_true(words, move, mask)
-    if words == 'it has the moved head':
-        return bool(mask >> move.k & 1) and bits(before) != bits(after)
-    return bits(before) != bits(after) and bool(met_true(words, move, mask))
+    words, small, _ = words.partition('; only its last bits changed')
+    if bits(before) == bits(after) or bool(small) != (abs(before - after) < 1 and square_metres(before) == square_metres(after)):
+        return False
+    return bool(mask >> move.k & 1) if words == 'it has the moved head' else bool(met_true(words, move, mask))
 
 
 def kind_of(words):

@@ -10,6 +10,7 @@ from .file import Plan, values
 from .legend import key, row_list, summary
 from .panel import Panel, Scene, layer
 from .view import View, window
+from .why import counted
 
 WIDE = {1: 620, 2: 460}     # a panel, where there is one and where there are two
 SPACE = 24
@@ -27,10 +28,6 @@ def set_of(words):
     return sorted(set(int(word) for word in words.split(',')))
 
 
-def counted(count, thing):
-    return 'one %s' % thing if count == 1 else '%s %ss' % (count or 'no', thing)
-
-
 def has_heads(chosen, plan, option):
     """The chosen heads, if the plan has them."""
     if chosen and chosen[-1] >= len(plan.heads):
@@ -43,7 +40,7 @@ def scenes_of(plan, edit, program):
     last = table.rows_of(plan, program)
     edit = len(plan.moves) if edit is None else edit
     if edit > len(plan.moves):
-        raise NotDrawn('there is no move %d; the plan has %s' % (edit, counted(len(plan.moves), 'move')))
+        raise NotDrawn('there is no move %d; the plan has %s' % (edit, counted(len(plan.moves), 'moves')))
     rows_after = lambda count: last if count == len(plan.moves) else table.rows_of(Plan(plan.box, plan.heads, plan.moves[:count]), program)
     _, heads, moves = values(plan)
     for k, place in moves[:max(edit - 1, 0)]:
@@ -75,7 +72,7 @@ def svg(plan, chosen=None, edit=None, program=None, zoom=None):
     ground = window(box, [head for scene in scenes for head in scene.heads], [scene.heads[i] for scene in scenes for i in zoom])
     views = [View(ground, SPACE + i * (wide + SPACE), TOP, wide) for i in range(len(scenes))]
     width = len(scenes) * (wide + SPACE) - SPACE
-    title = 'box %s m by %s m, centre (%d, %d); %s' % (metres(box[2]), metres(box[3]), box[0], box[1], counted(len(plan.heads), 'head'))
+    title = 'box %s m by %s m, centre (%d, %d); %s' % (metres(box[2]), metres(box[3]), box[0], box[1], counted(len(plan.heads), 'heads'))
     parts = [text(SPACE, 26, title, 15), text(SPACE, 48, told(scenes), 15)]
     for scene, view, name in zip(scenes, views, 'ab'):
         parts += Panel(scene, box, view, chosen, layer(scenes), name).draw()

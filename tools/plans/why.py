@@ -10,6 +10,9 @@ from .library import Window
 from .table import heads_of, square_metres, taken_values
 
 
+LAST_BITS = '; only its last bits changed'
+
+
 def same(a, b):
     """Two numbers of a table have the same bits; None is no row."""
     return (a is None) == (b is None) and (a is None or struct.pack('<d', a) == struct.pack('<d', b))
@@ -94,7 +97,7 @@ def set_clause(move, mask, gone):
         return point_clause(move, mask, how[1], how[2], gone)
     if how[0] == 'less':
         clause = point_clause(move, how[1], *found[how[1]][1:3], gone)
-        return '%s; less head %d that is this row' % (clause, how[2])
+        return '%s; without head %d that leaves this row' % (clause, how[2])
     if how[0] == 'meet':
         return 'heads %d and %d %s, at %s' % (how[1], how[2], 'met' if gone else 'now meet', distance(heads[how[1]], heads[how[2]]))
     if how[0] == 'contain':
@@ -119,9 +122,8 @@ def reason(move, mask):
         return 'no more present: ' + set_clause(move, mask, True)
     if not move.own_changed(mask):
         return of_rows_within(move, mask)
-    if mask >> move.k & 1:
-        return 'it has the moved head'
-    return of_met_heads(move, mask)
+    small = LAST_BITS if shown(move.before.rows, mask) == shown(move.after.rows, mask) else ''
+    return ('it has the moved head' if mask >> move.k & 1 else of_met_heads(move, mask)) + small
 
 
 def moves_of(window, moves):
@@ -136,8 +138,9 @@ def shown(rows, mask):
     return square_metres(rows[mask]) if mask in rows else 'no row'
 
 
-def counted(count, words):
-    return '%s %s' % (count or 'no', words) if count != 1 else 'one ' + words.replace('rows', 'row', 1).replace('heads', 'head', 1)
+def counted(count, things):
+    """`no rows`, `one row`, `2 rows`."""
+    return 'one ' + things[:-1] if count == 1 else '%s %s' % (count or 'no', things)
 
 
 def opening(number, move):

@@ -1,6 +1,6 @@
 """The window of the story: after a move it works out the rows with the moved head, and believes all others untouched."""
 from .table import heads_of, square_metres
-from .why import Move, Moment, reason, same
+from .why import LAST_BITS, Moment, Move, counted, reason, same
 
 
 def in_row_order(masks):
@@ -98,7 +98,15 @@ def lines_of(step):
 def because(step):
     """Why the window went wrong on this move: rows that changed by it and do not have the moved head."""
     missed = [mask for mask in step.move.masks() if step.move.own_changed(mask) and not mask >> step.move.k & 1]
-    return ['row %03X does not have head %d, so the window left it; but it is %s' % (mask, step.move.k, reason(step.move, mask)) for mask in missed]
+    lines, small = [], 0
+    for mask in missed:
+        words = reason(step.move, mask)
+        if words.endswith(LAST_BITS):
+            small += 1
+        else:
+            yet = 'it is ' + words if 'present' in words.split(':')[0] else words
+            lines.append('why: row %03X does not have head %d, so the window left it; yet %s' % (mask, step.move.k, yet))
+    return lines + (['%s left by the window changed in the last bits only' % counted(small, 'rows')] if small else [])
 
 
 def told(number, step, colour):
@@ -113,5 +121,5 @@ def told(number, step, colour):
         cells = [line[i].ljust(widths[i]) if i < 2 else line[i].rjust(widths[i]) for i in range(5)]
         said = ('  ' + '  '.join(cells) + '  ' + line[5]).rstrip()
         parts.append('\033[1;31m%s\033[0m' % said if colour and line[5] else said)
-    parts += ['  and %d rows of no area, the same in all three' % others] if others else []
-    return '\n'.join(parts + ['  why: ' + words for words in because(step)]) + '\n'
+    parts += ['  and %s of no area, the same in all three' % counted(others, 'rows')] if others else []
+    return '\n'.join(parts + ['  ' + words for words in because(step)]) + '\n'
