@@ -1,19 +1,28 @@
-// One plan for both sides: the Rust's circles, box and meeting points, and the numbers that our exports take.
+// One plan for both sides: the Rust's circles, box and meeting points, what they give, and the numbers that our exports take.
 
 use crate::geometry::diagram::{collect_intersections, discover_regions, IntersectionPoint};
 use crate::geometry::primitives::{Bounds, Point};
-use crate::geometry::shapes::circle::{region_boundary_arcs, BoundaryArc};
+use crate::geometry::operations::overlaps::compute_overlaps_circles;
+use crate::geometry::shapes::circle::{area_from_boundary_arcs, area_from_clipped_arcs, region_boundary_arcs, BoundaryArc};
 use crate::geometry::shapes::{Circle, Rectangle};
-use crate::geometry::traits::BoundingBox;
+use crate::geometry::traits::{Area, BoundingBox};
 use crate::inputs::{Head, Random};
-use crate::pairs::{circle, words, OurBounds};
-use crate::plans::{Plan, Sides};
+use crate::plans::{twins_of, Plan, Sides};
+use std::collections::HashMap;
 
 // x, y and radius of ten heads in turn.
 #[repr(C)]
 #[derive(Clone, Copy)]
 pub struct OurCircles {
     pub numbers: [f64; 30],
+}
+
+#[repr(C)]
+pub struct OurBounds {
+    pub x_min: f64,
+    pub x_max: f64,
+    pub y_min: f64,
+    pub y_max: f64,
 }
 
 pub struct Case {
@@ -27,6 +36,14 @@ pub struct Case {
     pub ours: OurCircles,
 }
 
+pub fn circle(h: Head) -> Circle {
+    Circle::new(Point::new(h.x, h.y), h.r)
+}
+
+pub fn words(numbers: &[f64]) -> String {
+    numbers.iter().map(|n| format!(" {:016X}", n.to_bits())).collect()
+}
+
 // The Rust's meeting points of heads of which some may be identical, less those of two identical ones: document 01 has none there,
 // where the Rust divides zero by zero.
 pub fn points_of_twins(heads: &[Head], circles: &[Circle]) -> Vec<IntersectionPoint> {
@@ -34,6 +51,19 @@ pub fn points_of_twins(heads: &[Head], circles: &[Circle]) -> Vec<IntersectionPo
     points.retain(|q| heads[q.parents().0] != heads[q.parents().1]);
     points
 }
+
+// The Rust's, but that three circles or more of which some are identical get the meeting points that document 01 leaves.
+pub fn overlap(heads: &[Head], circles: &[Circle]) -> f64 {
+    let n = circles.len();
+    if n < 3 || twins_of(heads).is_empty() {
+        return compute_overlaps_circles(circles);
+    }
+    let arcs = region_boundary_arcs((1 << n) - 1, circles, &points_of_twins(heads, circles), n);
+    area_from_boundary_arcs(&arcs, circles)
+}
+
+// A table of areas by mask, as the Rust has it.
+pub type Rows = HashMap<usize, f64>;
 
 impl Case {
     pub fn of(plan: Plan) -> Self {
@@ -75,6 +105,20 @@ impl Case {
 
     pub fn arcs(&self, mask: usize) -> Vec<BoundaryArc> {
         region_boundary_arcs(mask, &self.circles, &self.points, self.n)
+    }
+
+    // The areas of the sets in the box, and of the box.
+    pub fn rows_in_the_box(&self) -> Rows {
+        let area = |mask| area_from_clipped_arcs(&self.arcs(mask), &self.circles, &self.container, mask, self.n);
+        let mut rows: Rows = self.found().into_iter().map(|mask| (mask, area(mask))).collect();
+        rows.insert(0, self.container.area());
+        rows
+    }
+
+    // The areas of the sets without a box.
+    pub fn open_rows(&self) -> Rows {
+        let area = |mask| area_from_boundary_arcs(&self.arcs(mask), &self.circles);
+        self.found().into_iter().map(|mask| (mask, area(mask))).collect()
     }
 
     // All sets of at most four heads; of more, at most 40: none, singles, all, some that the Rust finds (pairs first), some others.

@@ -1,7 +1,7 @@
 // The functions on whole plans: meeting points, the outline of a set as arcs, areas and gradients, open and in the box; then sets.rs.
 // Ours get the box by the Rust's bounds of it. Our exports of lists give one value at a time.
 
-use crate::case::{Case, OurCircles};
+use crate::case::{words, Case, OurBounds, OurCircles};
 use crate::geometry::diagram::{adopters_to_mask, mask_to_indices};
 use crate::geometry::primitives::Bounds;
 use crate::geometry::shapes::circle::{
@@ -9,7 +9,6 @@ use crate::geometry::shapes::circle::{
     clipped_arc_integral_with_gradient, horizontal_edge_inside_interval, vertical_edge_inside_interval, wrap_angle, BoundaryArc,
 };
 use crate::inputs::Random;
-use crate::pairs::{words, OurBounds};
 use crate::plans::{Category, Plan, CATEGORIES, TWINS};
 use crate::sets;
 use crate::tally::Tally;

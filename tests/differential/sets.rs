@@ -1,15 +1,10 @@
 // What stands above the outlines of a plan: discover_regions, to_exclusive_areas, compute_overlaps_circles.
 
-use crate::case::{points_of_twins, Case, OurCircles};
+use crate::case::{overlap, Case, OurCircles, Rows};
 use crate::geometry::diagram::{mask_to_indices, to_exclusive_areas};
-use crate::geometry::operations::overlaps::compute_overlaps_circles;
-use crate::geometry::shapes::circle::{area_from_boundary_arcs, area_from_clipped_arcs, region_boundary_arcs};
 use crate::geometry::shapes::Circle;
-use crate::geometry::traits::Area;
 use crate::inputs::{Head, Random};
-use crate::plans::twins_of;
 use crate::tally::Tally;
-use std::collections::HashMap;
 
 #[repr(C)]
 struct OurSets {
@@ -38,23 +33,6 @@ pub const FUNCTIONS: [&str; 10] = [
     "compute_overlaps_circles",
     "compute_overlaps_circles of the heads of a mask",
 ];
-
-// A table of areas by mask, as the Rust has it.
-pub type Rows = HashMap<usize, f64>;
-
-// The areas of the sets in the box, and of the box.
-pub fn rows_in_the_box(case: &Case) -> Rows {
-    let area = |mask| area_from_clipped_arcs(&case.arcs(mask), &case.circles, &case.container, mask, case.n);
-    let mut rows: Rows = case.found().into_iter().map(|mask| (mask, area(mask))).collect();
-    rows.insert(0, case.container.area());
-    rows
-}
-
-// The areas of the sets without a box.
-pub fn open_rows(case: &Case) -> Rows {
-    let area = |mask| area_from_boundary_arcs(&case.arcs(mask), &case.circles);
-    case.found().into_iter().map(|mask| (mask, area(mask))).collect()
-}
 
 // Any masks of n heads with any numbers: those that cancel, that round, that are clamped, and a few that are not finite.
 fn any_rows(n: usize, random: &mut Random) -> Rows {
@@ -148,16 +126,6 @@ fn refused(tally: &mut Tally, case: &Case, rows: &Rows, random: &mut Random) {
     tally.floats("to_exclusive_areas, refused: the table as it was", &tables.exclusives, &as_it_was, || case.input());
 }
 
-// The Rust's, but that three circles or more of which some are identical get the meeting points that document 01 leaves.
-fn overlap(heads: &[Head], circles: &[Circle]) -> f64 {
-    let n = circles.len();
-    if n < 3 || twins_of(heads).is_empty() {
-        return compute_overlaps_circles(circles);
-    }
-    let arcs = region_boundary_arcs((1 << n) - 1, circles, &points_of_twins(heads, circles), n);
-    area_from_boundary_arcs(&arcs, circles)
-}
-
 fn overlaps(tally: &mut Tally, case: &Case, masks: &[usize]) {
     let ours = unsafe { probe_compute_overlaps_circles(case.ours, case.n) };
     tally.float("compute_overlaps_circles", ours, overlap(&case.heads, &case.circles), || case.input());
@@ -173,7 +141,7 @@ fn overlaps(tally: &mut Tally, case: &Case, masks: &[usize]) {
 
 pub fn compare(tally: &mut Tally, case: &Case, random: &mut Random) {
     sets(tally, case);
-    let (boxed, open, any) = (rows_in_the_box(case), open_rows(case), any_rows(case.n, random));
+    let (boxed, open, any) = (case.rows_in_the_box(), case.open_rows(), any_rows(case.n, random));
     exclusives(tally, "to_exclusive_areas of the areas in the box", case, &boxed, random);
     exclusives(tally, "to_exclusive_areas of the open areas", case, &open, random);
     exclusives(tally, "to_exclusive_areas of any sets with any numbers", case, &any, random);

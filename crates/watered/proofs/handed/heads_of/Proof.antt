@@ -45,7 +45,8 @@ returns c =
       c .before .before .before .before .before .before .head-of4 .ensures,
       c .before .before .before .before .before .before .before .head-of3 .ensures,
       c .before .before .before .before .before .before .before .before .head-of2 .ensures,
-      c .before .before .before .before .before .before .before .before .before .head-of .ensures)
+      c .before .before .before .before .before .before .before .before .before .head-of .ensures,
+    )
 
 pub heads-of-spec : {M : Type 1} → statement M
 heads-of-spec =

@@ -8,7 +8,7 @@ use mir.Syntax.{w32}
 use lib.Signed.{mag}
 use mir.Val.{toZ, ofZ}
 use lib.ListN.{getD}
-use Rattle.plan.proofs.Conditions.{kept}
+use Rattle.heads.proofs.Signed.{read-back}
 use Rattle.plan.specs.Limits.{noHead}
 use Rattle.heads.specs.declared.Head.{Head}
 use Rattle.watered.specs.Handed.{three}
@@ -48,7 +48,7 @@ array-copy-out-j c = search needs
 -- three numbers of 32 bits come back from their bits
 three-kept : (h : Head) {r r' : List ℤ} → mag (h .x) < 2 ^ 31 → mag (h .y) < 2 ^ 31 → mag (h .radius) < 2 ^ 31 → r ≡ r'
     → (toZ w32 (ofZ w32 (h .x)) ∷ toZ w32 (ofZ w32 (h .y)) ∷ toZ w32 (ofZ w32 (h .radius)) ∷ r) ≡ three h r'
-three-kept h a b c e = rw (kept (h .x) a, kept (h .y) b, kept (h .radius) c, e)
+three-kept h a b c e = rw (read-back (h .x) a, read-back (h .y) b, read-back (h .radius) c, e)
 
 returns : tie.Need-returns
 returns c =

@@ -42,7 +42,7 @@ returns : tie.Need-returns
 returns c =
     let a = start c .args in
     let f : Plan → Step PlanSlices Answer =
-        λ p. afreshSlices clippedTable (planSlices p (a .presence .now) (a .rows .now) (a .exclusive-presence .now) (a .exclusives .now)) in
+    λ p. afreshSlices clippedTable (planSlices p (a .presence .now) (a .rows .now) (a .exclusive-presence .now) (a .exclusives .now)) in
     let t = told f _ _ _ _ (called c .before .before .before .before .before .plan-of .ensures) (called c .afresh .ensures) in
     (c .number-of .ensures ∙ t .0, ap (λ z. z .tables) (t .1))
 

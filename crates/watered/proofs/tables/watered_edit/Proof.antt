@@ -50,11 +50,12 @@ returns c =
     let s = start c in
     let a = s .args in
     let f : Plan → Edit → Step PlanSlices Answer =
-        λ p. editSlices clippedTable (planSlices p (a .presence .now) (a .rows .now) (a .exclusive-presence .now) (a .exclusives .now)) in
+    λ p. editSlices clippedTable (planSlices p (a .presence .now) (a .rows .now) (a .exclusive-presence .now) (a .exclusives .now)) in
     let kept = edit-kept (a .head) (a .x) (a .y) (a .radius) (s .fits .x) (s .fits .y) (s .fits .radius) in
-    let t = edit-told f _ _ _ _ _ _ (called c .before .before .before .before .before .plan-of .ensures) kept (called c .edit .ensures .0) in
-    (c .number-of .ensures ∙ t .0,
-    (c .before .numbers-of .ensures ∙ ap (λ z. numbersOf (z .plan .heads)) (t .1), ap (λ z. z .tables) (t .1)))
+    let t = edit-told f _ _ _ _ _ _ (called c .before .before .before .before .before .plan-of .ensures) kept (called c .edit .ensures .0) in (
+      c .number-of .ensures ∙ t .0,
+      (c .before .numbers-of .ensures ∙ ap (λ z. numbersOf (z .plan .heads)) (t .1), ap (λ z. z .tables) (t .1)),
+    )
 
 pub watered-edit-spec : {M : Type 1} → statement M
 watered-edit-spec =
