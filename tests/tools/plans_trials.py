@@ -1,7 +1,7 @@
 """Trials of tools/plan. What a file holds and what `rows` answers is worked out from document 01 by tests/plan/trials.py, which
 knows nothing of the tool.
 
-    plans_trials.py COUNT ROWS      COUNT plan files and COUNT texts; ROWS is the program rows or a stand-in
+    plans_trials.py COUNT ROWS      COUNT plan files and COUNT texts; ROWS is the program rows
 """
 import os
 import random
@@ -284,7 +284,7 @@ def main():
         picture_trials(chance, folder, rows, 8)
     for what, number in COUNTS.items():
         print('%7d %s' % (number, what))
-    print('rows: %s' % ('the stand-in' if rows.endswith('stand-in') else 'the program'))
+
 
 
 main()
