@@ -20,7 +20,8 @@ use Rattle.geometry.specs.declared.point.Point.{Point}
 use Rattle.intersections.specs.Members.{Member, circlesOf}
 use Rattle.boundary.specs.declared.arcs.BoundaryArc.{BoundaryArc}
 use Rattle.boundary.specs.NoArc.{NoneOf, OnePointNoArc}
-use Rattle.boundary.specs.Outline.{gap, collapsed, owned, pointAt, probe, fullCircle, between, angleAbout, arcFrom, arcsAt, anglesOf, outlineFrom, outline}
+use Rattle.boundary.specs.Outline.{gap, collapsed, owned, pointAt, probe, fullCircle, between, angleAbout, arcFrom, arcsAt, anglesOf}
+use Rattle.boundary.specs.Outline.{outlineFrom, outline}
 use Rattle.boundary.specs.Sort.{insert, sortOnto, sorted}
 
 opposite-signs : (x : Float) → Finite x → (negative x && negative (neg x)) ≡ false

@@ -46,15 +46,15 @@ touch-inside a b t (inr e) = inr (omega (arith, ap (λ (k : ℕ). k * k) e))
 
 -- ---- the tests before the points
 
--- c are the points, i and o the tests that turn the circles away: identical, and not met
-module _ (c : List Point) where
-  none-chosen : (i o : Bool) → (i ≡ true) ⊎ (o ≡ true) → Found (cond i [] (cond o [] c)) 0
-  none-chosen true o h = record { count = refl; placed = tt }
-  none-chosen false true h = record { count = refl; placed = tt }
+-- c are the points, i and o the tests that turn the circles away: identical, and not met; p and q are the centres
+module _ {p q : Point} (c : List Point) where
+  none-chosen : (i o : Bool) → (i ≡ true) ⊎ (o ≡ true) → Found p q (cond i [] (cond o [] c)) 0
+  none-chosen true o h = record { count = refl; placed = tt; off = (tt, tt) }
+  none-chosen false true h = record { count = refl; placed = tt; off = (tt, tt) }
   none-chosen false false (inl e) = absurd (false≢true e)
   none-chosen false false (inr e) = absurd (false≢true e)
 
-  chosen : {n : ℕ} (i o : Bool) → i ≡ false → o ≡ false → Found c n → Found (cond i [] (cond o [] c)) n
+  chosen : {n : ℕ} (i o : Bool) → i ≡ false → o ≡ false → Found p q c n → Found p q (cond i [] (cond o [] c)) n
   chosen false false e f h = h
   chosen true o e f h = absurd (true≢false e)
   chosen false true e f h = absurd (true≢false f)
@@ -103,21 +103,23 @@ module _ {a b : Head} (la : InLimits a) (lb : InLimits b) (L : squaredDistance a
       ∙ ap₂ (λ (u v : ℤ). cond (identical D r₁ r₂) [] (cond missing [] (crossingOf u v))) (la .whole) (lb .whole)
 
   -- one point where the circles touch
-  found-touch : (n : ℕ) → D ≡ n * n → 1 ≤ n → n ≤ 40000 → (r₁ * r₁ + n * n ≡ r₂ * r₂ + 2 * (r₁ * n)) ⊎ (r₂ * r₂ ≡ r₁ * r₁ + n * n + 2 * (r₁ * n)) → Found crossing 1
+  found-touch : (n : ℕ) → D ≡ n * n → 1 ≤ n → n ≤ 40000 → (r₁ * r₁ + n * n ≡ r₂ * r₂ + 2 * (r₁ * n)) ⊎ (r₂ * r₂ ≡ r₁ * r₁ + n * n + 2 * (r₁ * n))
+      → Found (circleOf a .center) (circleOf b .center) crossing 1
   found-touch n e p q h =
       found-touching (a .x) (a .y) (b .x) (b .y) (la .x) (la .y) (lb .x) (lb .y) r₁ r₂ (la .least) (la .most) (lb .least) (lb .most) L (omega (arith, mul-le-mul p p)) n e p q h
 
   -- two where they cross
-  found-cross : t * t < D → D < s * s → Found crossing 2
+  found-cross : t * t < D → D < s * s → Found (circleOf a .center) (circleOf b .center) crossing 2
   found-cross h k =
       found-crossed (a .x) (a .y) (b .x) (b .y) (la .x) (la .y) (lb .x) (lb .y) r₁ r₂ (la .least) (la .most) (lb .least) (lb .most) L (omega arith) h k
 
   -- either is met, since no test before turns it away
-  met : {n : ℕ} → 0 < D → t * t ≤ D → D ≤ s * s → Found crossing n → Found pointsBy n
+  met : {n : ℕ} → 0 < D → t * t ≤ D → D ≤ s * s → Found (circleOf a .center) (circleOf b .center) crossing n
+      → Found (circleOf a .center) (circleOf b .center) pointsBy n
   met z h k f = chosen crossing (identical D r₁ r₂) missing (not-identical D r₁ r₂ z) (ap₂ (λ (p q : Bool). p || q) (le-ltb (s * s) D k) (le-ltb D (t * t) h)) f
 
   -- in each case of the relation as many points as it has
-  found-in : (r : Relation) → Case r D r₁ r₂ → Found pointsBy (points r)
+  found-in : (r : Relation) → Case r D r₁ r₂ → Found (circleOf a .center) (circleOf b .center) pointsBy (points r)
   found-in Apart h = none-chosen crossing (identical D r₁ r₂) missing (inr (ap (λ (p : Bool). p || ltb D (t * t)) (lt-ltb (s * s) D h)))
   found-in TouchingOutside h =
       met (omega arith) (omega arith) (le-of-eq (h .1)) (found-touch s (h .1) (omega (arith, la .least)) (omega (arith, la .most, lb .most)) (inl (omega arith)))
@@ -129,8 +131,10 @@ module _ {a b : Head} (la : InLimits a) (lb : InLimits b) (L : squaredDistance a
   found-in Identical h = none-chosen crossing (identical D r₁ r₂) missing (inl (ap₂ (λ (p q : Bool). p && q) (eq-eqb D 0 (h .0)) (eq-eqb r₁ r₂ (h .1))))
 
   -- as many points as the relation has, each placed
-  found : Found (circle.intersectionPoints (circleOf a) (circleOf b)) (points (relationOf a b))
-  found = subst (λ (l : List Point). Found l (points (relationOf a b))) (sym points-are) (found-in (relationOf a b) (case-of D r₁ r₂))
+  found : Found (circleOf a .center) (circleOf b .center) (circle.intersectionPoints (circleOf a) (circleOf b)) (points (relationOf a b))
+  found =
+      subst (λ (l : List Point). Found (circleOf a .center) (circleOf b .center) l (points (relationOf a b))) (sym points-are)
+      (found-in (relationOf a b) (case-of D r₁ r₂))
 
 -- ---- how many points there are, and what the relation says
 
@@ -225,7 +229,7 @@ decides-exactly a b ha hb = record {
     L : squaredDistance a b < 2 ^ 32
     L = distance-fits a b ha hb
 
-    f : Found (circle.intersectionPoints (circleOf a) (circleOf b)) (points (relationOf a b))
+    f : Found (circleOf a .center) (circleOf b .center) (circle.intersectionPoints (circleOf a) (circleOf b)) (points (relationOf a b))
     f = found la lb L
 
     c : Counted (circle.intersectionPoints (circleOf a) (circleOf b)) (meetsOf a b) (meetsOnceOf a b)
@@ -244,6 +248,7 @@ stays-bounded a b ha hb = record {
   apart = λ h. subst (λ (d : Float). Least 1 1074 d) (sym e) (record { finite = root-is-finite (squaredDistance a b) L; bound = root-at-least (squaredDistance a b) L 1 (omega arith) h });
   divides = meet-apart (squaredDistance a b) (radiusOf a) (radiusOf b);
   placed = found (limits-of a ha) (limits-of b hb) L .placed;
+  off = found (limits-of a ha) (limits-of b hb) L .off;
 }
   where
     L : squaredDistance a b < 2 ^ 32

@@ -27,7 +27,7 @@ use Rattle.elementary.specs.Root.{root}
 use Rattle.geometry.specs.Point.{distance}
 use Rattle.geometry.specs.Circle.{lens, intersectionArea, contains, intersects, intersectionPoints}
 use Rattle.exact.specs.Circle.{circleOf}
-use Rattle.exact.specs.Points.{AllPlaced}
+use Rattle.exact.specs.Points.{AllPlaced, AllOff}
 
 -- The circles touch from outside or are apart: the Rust's `d >= r1 + r2`, at which intersection_area is zero.
 abbrev pub beyond : Circle → Circle → Bool
@@ -84,6 +84,9 @@ pub record Bounded (a b : Head) : Type 0 where
   pub divides : meetsOf a b ≡ true → 0 < squaredDistance a b
   -- each meeting point is finite, its coordinates at most 80000 from zero
   pub placed : AllPlaced (intersectionPoints (circleOf a) (circleOf b))
+  -- and it is the centre of neither circle, so that it has an angle about each
+  pub off : AllOff (circleOf a .center) (intersectionPoints (circleOf a) (circleOf b))
+      × AllOff (circleOf b .center) (intersectionPoints (circleOf a) (circleOf b))
 
 -- For every head that is drawn (`isDrawn`), and for every ordered pair of them.
 abbrev pub IsDrawn : Type 0

@@ -3,19 +3,19 @@ use mathlib.Core.Path.{_≡_, refl, sym, ap, ap₂, _∙_, subst}
 use mathlib.Core.Bool.{Bool, true, false, cond}
 use mathlib.Core.List.{List}
 use Prim.Native.Nat.{ℕ, _+_, _*_, _^_, _≤_, _<_}
+use native.Mathlib.Nat.{le-refl}
 use native.Mathlib.Omega.{arith}
 use lib.Ieee.{Float, nan}
 use lib.ListN.{length, getD, drop}
-use lib.Seq.{drop-at}
-use Rattle.lists.specs.Written.{tab, written}
-use Rattle.lists.proofs.Writing.{length-tab, written-before, written-cong}
+use Rattle.lists.specs.Written.{written}
+use Rattle.lists.proofs.Writing.{written-before, written-cong, drop-written}
 use Rattle.masks.specs.Presence.{stands}
 use Rattle.binary64.specs.Constants.{zero64}
 use Rattle.binary64.specs.Functions.{clampToZero}
 use Rattle.exclusive.specs.Exclusive.{unclamped, exclusiveRow}
 use Rattle.exclusive.specs.Entries.{entry, Subtracted}
 use Rattle.exclusive.proofs.RowOrder.{row-of}
-use Rattle.exclusive.proofs.Unclamped.{unclamped-cong}
+use Rattle.exclusive.proofs.Unclamped.{unclamped-cong, exclusive-alike}
 
 -- of an absent row the number is not looked at
 pub if-present : (f : Float → Float) (x y : Float) (b : Bool) → (b ≡ true → x ≡ y) → cond b (f x) zero64 ≡ cond b (f y) zero64
@@ -42,21 +42,24 @@ module _ (n : ℕ) (present : ℕ → Bool) (before after : List Float) where
   pub rest-one : Subtracted n present 1 before after → drop (2 ^ n) after ≡ drop (2 ^ n) before
   rest-one s = let e : 2 ^ n * 1 ≡ 2 ^ n = omega arith in subst (λ (m : ℕ). drop m after ≡ drop m before) e (s .rest)
 
--- the areas copied, the supersets subtracted, the rows clamped
-pub clamped-is : (n : ℕ) (bytes : List ℕ) (areas first copied after : List Float) → copied ≡ written (λ S. getD areas S nan) (2 ^ n) first
-    → Subtracted n (stands bytes) 1 copied after
+-- the supersets subtracted, the rows clamped
+pub clamped-is : (n : ℕ) (bytes : List ℕ) (areas after : List Float) → Subtracted n (stands bytes) 1 areas after
     → written (λ S. cond (stands bytes S) (clampToZero (getD after S nan)) zero64) (2 ^ n) after
+    ≡ written (exclusiveRow n (stands bytes) (λ S. getD areas S nan)) (2 ^ n) areas
+clamped-is n bytes areas after s =
+    written-cong (λ S. cond (stands bytes S) (clampToZero (getD after S nan)) zero64) (exclusiveRow n (stands bytes) (λ S. getD areas S nan)) (2 ^ n) after areas
+    (λ S h. if-present clampToZero (getD after S nan) (unclamped n (stands bytes) (λ T. getD areas T nan) S) (stands bytes S)
+    (subtracted-one n (stands bytes) areas after S s h))
+    (rest-one n (stands bytes) areas after s)
+
+-- of areas that were copied
+pub copied-is : (n : ℕ) (bytes : List ℕ) (areas first copied : List Float) → copied ≡ written (λ S. getD areas S nan) (2 ^ n) first
+    → written (exclusiveRow n (stands bytes) (λ S. getD copied S nan)) (2 ^ n) copied
     ≡ written (exclusiveRow n (stands bytes) (λ S. getD areas S nan)) (2 ^ n) first
-clamped-is n bytes areas first copied after e s =
-    written-cong (λ S. cond (stands bytes S) (clampToZero (getD after S nan)) zero64) (exclusiveRow n (stands bytes) (λ S. getD areas S nan)) (2 ^ n) after first
-    (λ S h. if-present clampToZero (getD after S nan) (unclamped n (stands bytes) (λ T. getD areas T nan) S) (stands bytes S) (row S h))
-    (rest-one n (stands bytes) copied after s ∙ ap (drop (2 ^ n)) e
-    ∙ drop-at (tab (λ S. getD areas S nan) (2 ^ n)) (drop (2 ^ n) first) (2 ^ n) (length-tab (λ S. getD areas S nan) (2 ^ n)))
+copied-is n bytes areas first copied e =
+    written-cong (exclusiveRow n (stands bytes) (λ S. getD copied S nan)) (exclusiveRow n (stands bytes) (λ S. getD areas S nan)) (2 ^ n) copied first
+    (exclusive-alike n (stands bytes) (stands bytes) (λ S h. refl) (λ S. getD copied S nan) (λ S. getD areas S nan) old)
+    (ap (drop (2 ^ n)) e ∙ drop-written (λ S. getD areas S nan) (2 ^ n) (2 ^ n) first (le-refl (2 ^ n)))
   where
     old : (T : ℕ) → T < 2 ^ n → getD copied T nan ≡ getD areas T nan
     old T h = ap (λ (l : List Float). getD l T nan) e ∙ written-before (λ S. getD areas S nan) (2 ^ n) T first nan h
-
-    row : (S : ℕ) → S < 2 ^ n → stands bytes S ≡ true → getD after S nan ≡ unclamped n (stands bytes) (λ T. getD areas T nan) S
-    row S h p =
-        subtracted-one n (stands bytes) copied after S s h p
-        ∙ unclamped-cong n (stands bytes) (λ T. getD copied T nan) (λ T. getD areas T nan) old S h

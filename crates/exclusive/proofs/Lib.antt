@@ -6,3 +6,5 @@ pub mod Entries
 pub mod Passing
 pub mod Answers
 pub mod Closing
+pub mod TableRows
+pub mod Replacing

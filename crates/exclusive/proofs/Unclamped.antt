@@ -1,20 +1,22 @@
 -- Document 01's sentence on exclusive areas as an equation: from the area of a row the unclamped exclusives of its present strict supersets.
--- And a row below 2^n looks at areas below 2^n only.
-use mathlib.Core.Path.{_≡_, refl, sym, ap, ap₂, _∙_}
+-- And a row below 2^n looks at presence and areas below 2^n only.
+use mathlib.Core.Path.{_≡_, refl, sym, ap, ap₂, _∙_, fun-ext}
 use mathlib.Core.Bool.{Bool, true, false, cond}
 use mathlib.Core.List.{List, [], _∷_}
 use Prim.Native.Nat.{ℕ, zero, suc, _+_, _^_, _≤_, _<_}
 use native.Mathlib.Omega.{arith}
 use lib.Count.{ones, ones-le}
 use lib.Ieee.{Float}
-use Rattle.lists.specs.Lists.{keep}
-use Rattle.lists.specs.Every.{Every}
+use Rattle.lists.specs.Lists.{upTo, keep}
+use Rattle.lists.proofs.Lists.{upTo-cong}
+use Rattle.lists.specs.Every.{Every, every-kept}
 use Rattle.masks.specs.Mask.{strictSubset}
 use Rattle.masks.specs.Size.{strict-more}
 use Rattle.binary64.specs.Constants.{zero64}
+use Rattle.binary64.specs.Functions.{clampToZero}
 use Rattle.binary64.specs.Floats.{_+ᶠ_, _-ᶠ_}
-use Rattle.exclusive.specs.RowOrder.{rowOrder}
-use Rattle.exclusive.specs.Exclusive.{sumOnto, above, subtracted, unclamped, UnclampedIs}
+use Rattle.exclusive.specs.RowOrder.{rowsOf, rowOrder}
+use Rattle.exclusive.specs.Exclusive.{sumOnto, above, subtracted, unclamped, exclusiveRow, UnclampedIs}
 use Rattle.exclusive.proofs.RowOrder.{every-row}
 
 -- a sum over rows at which two functions agree
@@ -22,16 +24,6 @@ pub sum-same : (f g : ℕ → Float) (sum : Float) (l : List ℕ) → Every (λ 
 unfolding sumOnto
 sum-same f g sum [] e = refl
 sum-same f g sum (T ∷ l) e = ap (λ (x : Float). sumOnto f (sum +ᶠ x) l) (e .0) ∙ sum-same f g (sum +ᶠ g T) l (e .1)
-
--- what holds of the rows, and of those that pass
-pub keep-every : {A : Type 0} (P Q : A → Type 0) (p : A → Bool) (l : List A) → Every P l → ((x : A) → P x → p x ≡ true → Q x) → Every Q (keep p l)
-unfolding keep
-keep-every P Q p [] e h = tt
-keep-every P Q p (x ∷ l) e h = go (p x) refl (keep-every P Q p l (e .1) h)
-  where
-    go : (b : Bool) → p x ≡ b → Every Q (keep p l) → Every Q (cond b (x ∷ keep p l) (keep p l))
-    go true f r = (h x (e .0) f, r)
-    go false f r = r
 
 none : (l : List ℕ) → Every (λ T. ⊥) l → l ≡ []
 none [] e = refl
@@ -42,7 +34,7 @@ module _ (n : ℕ) (present : ℕ → Bool) where
   pub above-every : (S : ℕ) → S < 2 ^ n → (Q : ℕ → Type 0) → ((T : ℕ) → T < 2 ^ n → ones S < ones T → Q T) → Every Q (above n present S)
   unfolding above
   above-every S hs Q h =
-      keep-every (λ T. T < 2 ^ n) Q (strictSubset n S) (rowOrder present n) (every-row present (λ T. T < 2 ^ n) n (λ T k p. k))
+      every-kept (λ T. T < 2 ^ n) Q (strictSubset n S) (rowOrder present n) (every-row present (λ T. T < 2 ^ n) n (λ T k p. k))
       (λ T k e. h T k (strict-more n S T hs e))
 
   -- as many levels as there are supersets of more and more heads are enough
@@ -72,6 +64,33 @@ module _ (n : ℕ) (present : ℕ → Bool) where
     pub unclamped-cong : (S : ℕ) → S < 2 ^ n → unclamped n present f S ≡ unclamped n present g S
     unfolding unclamped
     unclamped-cong S hs = ap₂ _-ᶠ_ (same S hs) (subtracted-cong n S hs)
+
+module _ (n : ℕ) (present present' : ℕ → Bool) (same : (S : ℕ) → S < 2 ^ n → present S ≡ present' S) where
+  order-same : rowOrder present n ≡ rowOrder present' n
+  unfolding rowOrder rowsOf
+  order-same = upTo-cong _ _ (suc n) (λ c h. upTo-cong _ _ (2 ^ n) (λ S k. rw (same S k)))
+
+  above-same : (S : ℕ) → above n present S ≡ above n present' S
+  unfolding above
+  above-same S = ap (keep (strictSubset n S)) order-same
+
+  subtracted-same : (area : ℕ → Float) (d S : ℕ) → subtracted n present area d S ≡ subtracted n present' area d S
+  unfolding subtracted
+  subtracted-same area zero S = refl
+  subtracted-same area (suc d) S =
+      ap₂ (λ (f : ℕ → Float) (rows : List ℕ). sumOnto f zero64 rows)
+      (fun-ext (λ T. ap (λ (x : Float). area T -ᶠ x) (subtracted-same area d T))) (above-same S)
+
+  unclamped-same : (area : ℕ → Float) (S : ℕ) → unclamped n present area S ≡ unclamped n present' area S
+  unfolding unclamped
+  unclamped-same area S = ap (λ (x : Float). area S -ᶠ x) (subtracted-same area n S)
+
+  module _ (f g : ℕ → Float) (alike : (S : ℕ) → S < 2 ^ n → f S ≡ g S) (S : ℕ) (h : S < 2 ^ n) where
+    pub unclamped-alike : unclamped n present f S ≡ unclamped n present' g S
+    unclamped-alike = unclamped-cong n present f g alike S h ∙ unclamped-same g S
+
+    pub exclusive-alike : exclusiveRow n present f S ≡ exclusiveRow n present' g S
+    exclusive-alike = ap₂ (λ (b : Bool) (x : Float). cond b (clampToZero x) zero64) (same S h) unclamped-alike
 
 pub unclamped-is : UnclampedIs
 unfolding unclamped subtracted

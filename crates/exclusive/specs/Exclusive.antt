@@ -66,3 +66,10 @@ exclusiveTable n bytes areas exclusives =
     cond (eqb (exclusiveAnswer n bytes areas exclusives) 0)
     (written (exclusiveRow n (stands bytes) (λ S. getD areas S nan)) (2 ^ n) exclusives)
     exclusives
+
+-- The same in place of the areas.
+abbrev pub exclusivesInPlace : ℕ → List ℕ → List Float → List Float
+exclusivesInPlace n bytes areas =
+    cond (eqb (rowsAnswer n (min (length bytes) (length areas))) 0)
+    (written (exclusiveRow n (stands bytes) (λ S. getD areas S nan)) (2 ^ n) areas)
+    areas

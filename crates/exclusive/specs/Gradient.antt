@@ -28,11 +28,14 @@ module _ (n : ℕ) (present : ℕ → Bool) (area : ℕ → Float) where
 
 -- ---- the call over lent tables: areas and gradients on entry, exclusives and their gradients on exit
 
--- 7 also where there are fewer than 2^n times the width numbers of gradients
+-- Document 01's number for tables of so many rows and a gradient table of so many numbers: 7 also where those are fewer than 2^n times the width.
+abbrev pub widthAnswer : ℕ → ℕ → ℕ → ℕ → ℕ
+widthAnswer n width rows count =
+    let answer = rowsAnswer n rows in
+    cond (eqb answer 0) (cond (ltb count (2 ^ n * width)) 7 0) answer
+
 abbrev pub gradientAnswer : ℕ → ℕ → List ℕ → List Float → List Float → ℕ
-gradientAnswer n width bytes areas gradients =
-    let answer = rowsAnswer n (min (length bytes) (length areas)) in
-    cond (eqb answer 0) (cond (ltb (length gradients) (2 ^ n * width)) 7 0) answer
+gradientAnswer n width bytes areas gradients = widthAnswer n width (min (length bytes) (length areas)) (length gradients)
 
 -- the areas in place
 abbrev pub exclusiveAreas : ℕ → ℕ → List ℕ → List Float → List Float → List Float
@@ -41,9 +44,14 @@ exclusiveAreas n width bytes areas gradients =
     (written (exclusiveWithGradient n (stands bytes) (λ S. getD areas S nan)) (2 ^ n) areas)
     areas
 
--- the gradients in place: number x is entry x % width of row x / width
+-- number x of the gradients: entry x % width of row x / width
+abbrev pub gradientEntry : ℕ → ℕ → List ℕ → List Float → List Float → ℕ → Float
+gradientEntry n width bytes areas gradients x =
+    unlessReplaced n (stands bytes) (λ S. getD areas S nan) (entry width gradients (x % width)) (x / width)
+
+-- the gradients in place
 abbrev pub exclusiveGradients : ℕ → ℕ → List ℕ → List Float → List Float → List Float
 exclusiveGradients n width bytes areas gradients =
     cond (eqb (gradientAnswer n width bytes areas gradients) 0)
-    (written (λ x. unlessReplaced n (stands bytes) (λ S. getD areas S nan) (entry width gradients (x % width)) (x / width)) (2 ^ n * width) gradients)
+    (written (gradientEntry n width bytes areas gradients) (2 ^ n * width) gradients)
     gradients

@@ -11,17 +11,17 @@ ghost use Rattle.lists.specs.Written.{written};
 ghost use Rattle.masks.specs.Presence.{stands};
 ghost use Rattle.binary64.specs.Constants.{zero64};
 ghost use Rattle.binary64.specs.Functions.{clampToZero};
-ghost use Rattle.exclusive.specs.Exclusive.{exclusiveRow, rowsAnswer, exclusiveAnswer, exclusiveTable};
+ghost use Rattle.exclusive.specs.Exclusive.{exclusiveRow, rowsAnswer, exclusiveAnswer, exclusiveTable, exclusivesInPlace};
 
 // The smaller of two lengths.
-pub(crate) fn shorter(a: usize, b: usize) -> usize
+pub fn shorter(a: usize, b: usize) -> usize
     ensures { λ r. ⌜ r ≡ min a b ⌝ }
 {
     if a < b { a } else { b }
 }
 
 // The answer for tables of so many rows: 0, or document 01's number.
-pub(crate) fn rows_answer(n: usize, rows: usize) -> u8
+pub fn rows_answer(n: usize, rows: usize) -> u8
     ensures { λ r. ⌜ r ≡ rowsAnswer n rows ⌝ }
 {
     if 10 < n {
@@ -70,14 +70,22 @@ fn clamp_rows(present: &[u8], numbers: &mut [f64], n: usize)
     }
 }
 
+// The rows of a table of areas become exclusives, in place.
+fn exclude(present: &[u8], areas: &mut [f64], n: usize)
+    requires { ⌜ (n ≤ 10) × (2 ^ n ≤ length (now present)) × (2 ^ n ≤ length (now areas)) ⌝ }
+    ensures { λ r. ⌜ now (areas .exit) ≡ written (exclusiveRow n (stands (now (present .entry))) (λ S. getD (now (areas .entry)) S nan)) (2 ^ n) (now (areas .entry)) ⌝ }
+{
+    subtract_supersets(present, areas, n, 1);
+    clamp_rows(present, areas, n);
+}
+
 // The rows of the table of exclusives.
 fn write_exclusives(present: &[u8], areas: &[f64], exclusives: &mut [f64], n: usize)
     requires { ⌜ (n ≤ 10) × (2 ^ n ≤ length (now present)) × (2 ^ n ≤ length (now areas)) × (2 ^ n ≤ length (now exclusives)) ⌝ }
     ensures { λ r. ⌜ now (exclusives .exit) ≡ written (exclusiveRow n (stands (now (present .entry))) (λ S. getD (now (areas .entry)) S nan)) (2 ^ n) (now (exclusives .entry)) ⌝ }
 {
     copy_rows(areas, exclusives, n);
-    subtract_supersets(present, exclusives, n, 1);
-    clamp_rows(present, exclusives, n);
+    exclude(present, exclusives, n);
 }
 
 // The exclusive areas of n heads, from presence bytes and areas: the answer is 0, or 2 for more than ten heads, or 7 where a table has
@@ -90,6 +98,19 @@ pub fn to_exclusive_areas(present: &[u8], areas: &[f64], exclusives: &mut [f64],
     let answer = rows_answer(n, rows);
     if answer == 0 {
         write_exclusives(present, areas, exclusives, n);
+    }
+    answer
+}
+
+// The same with one table: the exclusives take the place of the areas.
+pub fn to_exclusive_areas_in_place(present: &[u8], areas: &mut [f64], n: usize) -> u8
+    ensures { λ r. ⌜ r ≡ rowsAnswer n (min (length (now (present .entry))) (length (now (areas .entry)))) ⌝ }
+    ensures { λ r. ⌜ now (areas .exit) ≡ exclusivesInPlace n (now (present .entry)) (now (areas .entry)) ⌝ }
+{
+    let rows = shorter(present.len(), areas.len());
+    let answer = rows_answer(n, rows);
+    if answer == 0 {
+        exclude(present, areas, n);
     }
     answer
 }

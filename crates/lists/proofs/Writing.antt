@@ -3,11 +3,12 @@ use mathlib.Core.Path.{_≡_, refl, sym, ap, ap₂, _∙_}
 use mathlib.Core.List.{List, [], _∷_, _++_, append-assoc, append-nil, map, map-append}
 use mathlib.Core.Logic.{⊎-elim}
 use Prim.Native.Nat.{ℕ, zero, suc, _+_, _-_, _≤_, _<_}
-use native.Mathlib.Nat.{eq-or-lt-of-le, le-of-suc-le-suc}
+use native.Mathlib.Decide.{le-ind}
+use native.Mathlib.Nat.{eq-or-lt-of-le, le-of-suc-le-suc, le-refl}
 use native.Mathlib.Numerals.{add-one}
 use native.Mathlib.Omega.{arith}
 use lib.ListN.{length, getD, set, take, drop, length-append, length-drop, List·getD-append, drop-of-length-le}
-use lib.Seq.{getD-append-add, getD-drop, getD-at, drop-cons, drop-at, set-at, take-append-le, take-all, take-suc}
+use lib.Seq.{getD-append-add, getD-drop, getD-at, drop-cons, drop-at, drop-append-add, drop-drop, set-at, take-append-le, take-all, take-suc}
 use Rattle.lists.specs.Written.{tab, written}
 
 module _ {A : Type 0} (f : ℕ → A) where
@@ -63,6 +64,28 @@ module _ {A : Type 0} (f : ℕ → A) where
       ∙ sym (append-assoc (tab f m) (f m ∷ []) (drop (suc m) l))
       ∙ ap (λ (x : ℕ). written f x l) (sym (add-one m))
 
+  -- a place that keeps what it holds is as good as written, and so are all up to some place
+  pub written-keep : (m : ℕ) (l : List A) (d : A) → m < length l → f m ≡ getD l m d → written f m l ≡ written f (m + 1) l
+  unfolding tab
+  written-keep m l d h e =
+      ap (λ (x : List A). tab f m ++ x) (drop-cons l m d h)
+      ∙ ap (λ (x : A). tab f m ++ x ∷ drop (suc m) l) (sym e)
+      ∙ sym (append-assoc (tab f m) (f m ∷ []) (drop (suc m) l))
+      ∙ ap (λ (x : ℕ). written f x l) (sym (add-one m))
+
+  pub written-on : (m n : ℕ) (l : List A) (d : A) → m ≤ n → n ≤ length l → ((i : ℕ) → m ≤ i → i < n → f i ≡ getD l i d) → written f m l ≡ written f n l
+  written-on m n l d h k e =
+      le-ind (λ (i : ℕ). i ≤ n → written f m l ≡ written f i l) (λ g. refl)
+      (λ i g ih more. ih (omega arith) ∙ written-keep i l d (omega arith) (e i g (omega arith)) ∙ ap (λ (x : ℕ). written f x l) (add-one i)) n h (le-refl n)
+
+  -- what is beyond the written places
+  pub drop-written : (m n : ℕ) (l : List A) → m ≤ n → drop n (written f m l) ≡ drop n l
+  drop-written m n l h =
+      let e : length (tab f m) + (n - m) ≡ n = omega (arith, length-tab m) in
+      let e′ : m + (n - m) ≡ n = omega arith in
+      ap (λ (x : ℕ). drop x (written f m l)) (sym e) ∙ drop-append-add (tab f m) (drop m l) (n - m) ∙ drop-drop (n - m) m l
+      ∙ ap (λ (x : ℕ). drop x l) e′
+
   -- all of it is written
   pub written-whole : (m n : ℕ) (l : List A) → m ≡ n → length l ≡ n → written f m l ≡ tab f n
   written-whole m n l e h = rw (e, drop-of-length-le l {i = n} (omega arith)) (append-nil (tab f n))
@@ -86,4 +109,4 @@ written-cong f g m k l e d = ap₂ _++_ (tab-cong f g m e) d
 
 -- written twice: the second stands
 pub written-again : {A : Type 0} (f g : ℕ → A) (m : ℕ) (l : List A) → written g m (written f m l) ≡ written g m l
-written-again f g m l = ap (λ t. tab g m ++ t) (drop-at (tab f m) (drop m l) m (length-tab f m))
+written-again f g m l = ap (λ t. tab g m ++ t) (drop-written f m m l (le-refl m))

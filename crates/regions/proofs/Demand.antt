@@ -24,7 +24,8 @@ use Rattle.plan.proofs.Keeps.{applied-acceptable}
 use Rattle.intersections.specs.Members.{isSingle}
 use Rattle.regions.specs.Edit.{Row, absent, present, boxRow, afreshRow, overlaps, meetsAny, met, reworked, editedRow}
 use Rattle.regions.specs.Table.{Method, PlanTable, headAt, afresh, metBy, edited, overlaid, settled, rowsOver, afreshStep, tableStep}
-use Rattle.regions.specs.Demand.{AfreshRows, ExclusivesOf, BeyondStays, AfreshWorks, ListEndsAfresh, Reworks, EditReworksExactly, RefusedLeavesAll, DemandThree}
+use Rattle.regions.specs.Demand.{AfreshRows, ExclusivesOf, BeyondStays, AfreshWorks, ListEndsAfresh, Reworks, EditReworksExactly}
+use Rattle.regions.specs.Demand.{RefusedLeavesAll, DemandThree}
 use Rattle.masks.specs.Operations.{in-power}
 use Rattle.masks.specs.Gather.{in-gather}
 use Rattle.regions.proofs.Masks.{overlap-at, overlap-none, head-below}
@@ -75,7 +76,8 @@ left-below m s e S h = overlaid-below (rowsOver (s .plan) e) (edited m (s .plan)
 
 -- the exclusives are those of the rows left, and what stands beyond stays
 left-exclusives : (m : Method) (s : PlanTable) (e : Edit) → ExclusivesOf m (s .plan .n) (left m s e .rows) (left m s e .exclusives)
-left-exclusives m s e = settled-exclusives m (rowsOver (s .plan) e) (applied (s .plan) e) (edited m (s .plan) e (s .rows)) s (le-of-eq (sym (rows-over (s .plan) e)))
+left-exclusives m s e =
+    settled-exclusives m (rowsOver (s .plan) e) (applied (s .plan) e) (edited m (s .plan) e (s .rows)) s (le-of-eq (sym (rows-over (s .plan) e)))
 
 left-beyond : (m : Method) (s : PlanTable) (e : Edit) → BeyondStays (2 ^ s .plan .n) s (left m s e)
 left-beyond m s e S h =
@@ -195,7 +197,9 @@ module _ (m : Method) (p : Plan) (e : Edit) (rows : ℕ → Row) where
   met-at : (j : ℕ) → j < p .n → (j ≡ e .head → ⊥)
       → inSet (metBy p e) j ≡ (meetsOf (headAt p (e .head)) (headAt p j) || (meetsOf (headOf e) (headAt p j) || false))
   unfolding met meetsAny
-  met-at j hj n = in-gather (p .n) _ j hj ∙ ap (λ b. not b && (meetsOf (headAt p (e .head)) (headAt p j) || (meetsOf (headOf e) (headAt p j) || false))) (ne-eqb j (e .head) n)
+  met-at j hj n =
+      in-gather (p .n) _ j hj ∙ ap (λ b. not b && (meetsOf (headAt p (e .head)) (headAt p j) || (meetsOf (headOf e) (headAt p j) || false)))
+      (ne-eqb j (e .head) n)
 
   -- a set after the edit whose row is worked out
   row-reworked : (S : ℕ) → 0 < S → m .sets (applied p e) S ≡ true → reworked (2 ^ e .head) (metBy p e) (m .sets p) S ≡ true
@@ -280,7 +284,8 @@ edited-reworks m s e =
 -- demand 3, second half
 pub edit-reworks-exactly : (m : Method) → EditReworksExactly m
 edit-reworks-exactly m s e q =
-    subst (λ t. (t .plan ≡ applied (s .plan) (e .edit)) × Reworks m (s .plan) (e .edit) (s .rows) (t .rows) × ExclusivesOf m (s .plan .n) (t .rows) (t .exclusives) × BeyondStays (2 ^ s .plan .n) s t)
+    subst (λ t. (t .plan ≡ applied (s .plan) (e .edit)) × Reworks m (s .plan) (e .edit) (s .rows) (t .rows)
+    × ExclusivesOf m (s .plan .n) (t .rows) (t .exclusives) × BeyondStays (2 ^ s .plan .n) s t)
     (sym (step-left m s e Taken q))
     (refl, edited-reworks m s (e .edit), left-exclusives m s (e .edit), left-beyond m s (e .edit))
 

@@ -51,7 +51,11 @@ module _ (m : Method) (p : Plan) (e : Edit) (ten : length (p .heads) ≡ 10) (ok
       (apart (headAt p (e .head)) (ok .heads (e .head) (oke .head)) (tests .0), apart (headOf e) (oke .x, oke .y, oke .radius) (or-false _ _ (tests .1) .0))
     where
       tests : (meetsOf (headAt p (e .head)) (headAt p j) ≡ false) × ((meetsOf (headOf e) (headAt p j) || false) ≡ false)
-      tests = or-false _ _ (rw (in-gather (p .n) (λ i. not (eqb i (e .head)) && meetsAny (headAt p (e .head) ∷ headOf e ∷ []) (headAt p i)) j hj, ne-eqb j (e .head) n) at i)
+      tests =
+          or-false _ _ (rw (
+            in-gather (p .n) (λ i. not (eqb i (e .head)) && meetsAny (headAt p (e .head) ∷ headOf e ∷ []) (headAt p i)) j hj,
+            ne-eqb j (e .head) n,
+          ) at i)
 
       apart : (v : Head) → HeadWithin v → meetsOf v (headAt p j) ≡ false → Apart (circleOf v) (circleOf (headAt p j))
       apart v w no-meeting =

@@ -22,7 +22,9 @@ use Rattle.plan.specs.Table.{least}
 use Rattle.plan.proofs.Exactly.{call-taken, edit-taken}
 use Rattle.regions.specs.Edit.{Row}
 use Rattle.regions.specs.Table.{Method, PlanTable, afresh, edited, overlaid, settled, rowsOver, afreshStep, tableStep}
-use Rattle.regions.specs.Slices.{Slices, slicesOf, rowAt, writtenBytes, writtenNumbers, withRows, RowWritten, RowsFix, LentTables, tablesOf, lentOf, PlanSlices, settledTables, stepOf, afreshAnswer, afreshLeft, afreshSlices, sliceAnswer, editedLeft, editSlices, planTable, entryOf, SlicesAreTables}
+use Rattle.regions.specs.Slices.{Slices, slicesOf, rowAt, writtenBytes, writtenNumbers, withRows, RowWritten, RowsFix, LentTables, tablesOf}
+use Rattle.regions.specs.Slices.{lentOf, PlanSlices, settledTables, stepOf, afreshAnswer, afreshLeft, afreshSlices, sliceAnswer, editedLeft}
+use Rattle.regions.specs.Slices.{editSlices, planTable, entryOf, SlicesAreTables}
 use Rattle.regions.proofs.Steps.{rows-over}
 
 -- ---- what is written is read
@@ -147,9 +149,16 @@ module _ (m : Method) (d : PlanSlices) where
 
   -- a taken edit, with its 2^n rows
   pub edited-left : (e : Edit)
-      → editedLeft m d e ≡ record { plan = applied (d .plan) e; tables = settledTables m (2 ^ d .plan .n) (d .plan .n) (edited m (d .plan) e (rowAt (d .tables .rows))) (d .tables) }
+      → editedLeft m d e ≡ record {
+        plan =
+            applied (d .plan) e;
+        tables = settledTables m (2 ^ d .plan .n) (d .plan .n) (edited m (d .plan) e (rowAt (d .tables .rows))) (d .tables);
+      }
   edited-left e =
-      ap (λ count. record { plan = applied (d .plan) e; tables = settledTables m count (d .plan .n) (edited m (d .plan) e (rowAt (d .tables .rows))) (d .tables) })
+      ap (λ count. record {
+        plan = applied (d .plan) e;
+        tables = settledTables m count (d .plan .n) (edited m (d .plan) e (rowAt (d .tables .rows))) (d .tables);
+      })
       (rows-over (d .plan) e)
 
   pub edit-step-taken : (e : Edit) (p : Plan) (t : LentTables) → sliceAnswer d e ≡ Taken → p ≡ applied (d .plan) e

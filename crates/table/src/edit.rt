@@ -76,7 +76,7 @@ fn write_edited(
 
 // One edit, decided and written, or a refusal that leaves plan and tables. The sets before and after come from the plans alone: the
 // presence bytes handed in are not read.
-pub(crate) fn edit_one(
+pub fn edit_one(
     plan: Plan,
     edit: Edit,
     presence: &mut [u8],

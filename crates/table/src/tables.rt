@@ -16,12 +16,7 @@ use plan::rows_needed;
 use plan::shorter;
 
 // What four slices of these lengths lend.
-pub(crate) fn lent_by(
-    presence: usize,
-    rows: usize,
-    exclusive_presence: usize,
-    exclusives: usize,
-) -> Lent
+pub fn lent_by(presence: usize, rows: usize, exclusive_presence: usize, exclusives: usize) -> Lent
     ensures { λ r. ⌜ r ≡ lentBy (presence ∷ rows ∷ «exclusive_presence» ∷ exclusives ∷ []) 0 ⌝ }
 {
     Lent {
