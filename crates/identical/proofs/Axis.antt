@@ -72,8 +72,8 @@ module _ (z : ℤ) (r : ℕ) (hz : natAbs z ≤ 20000) (most : r ≤ 20000) (t :
       let parts = ofInt-pos r (omega arith) in
       cancelled (plus way) (minus way) (plus t) (minus t) (plus radius) (minus radius) one (pow2 1035) (parts .0) (parts .1) (near .over) (near .under) one-pos
     where
-      cancelled : (p n P N R M u h : ℕ) → R ≡ r * u → M ≡ 0 → p * u + (R * N + M * P) ≤ n * u + (R * P + M * N) + h * u → n * u + (R * P + M * N) ≤ p * u + (R * N + M * P) + h * u
-          → 0 < u → (p + r * N ≤ n + r * P + h) × (n + r * P ≤ p + r * N + h)
+      cancelled : (p n P N R M u h : ℕ) → R ≡ r * u → M ≡ 0 → p * u + (R * N + M * P) ≤ n * u + (R * P + M * N) + h * u
+          → n * u + (R * P + M * N) ≤ p * u + (R * N + M * P) + h * u → 0 < u → (p + r * N ≤ n + r * P + h) × (n + r * P ≤ p + r * N + h)
       cancelled p n P N R M u h e f up down U =
           let a = ap (λ (k : ℕ). k * N) e in
           let b = ap (λ (k : ℕ). k * P) e in
@@ -88,7 +88,7 @@ module _ (z : ℤ) (r : ℕ) (hz : natAbs z ≤ 20000) (most : r ≤ 20000) (t :
       let again = sub-near place-most centre-most (back-most .finite) 16 1036 (omega arith) refl in
       let halves : pow2 1036 ≡ 4 * fine = pow2-split 2 1034 in
       let quarters : pow2 1035 ≡ 2 * fine = pow2-split 1 1034 in
-      (omega (arith, there .over, there .under, again .over, again .under, way-near .0, way-near .1, halves, quarters), omega (arith, there .over, there .under, again .over, again .under, way-near .0, way-near .1, halves, quarters))
+      (omega (arith, there .over, again .over, way-near .0, halves, quarters), omega (arith, there .under, again .under, way-near .1, halves, quarters))
 
   -- the way back is r times t, within 10 × 2^-40
   pub back-size : (mag (sub binary64 (add binary64 (ofInt binary64 z) (mul binary64 (ofInt binary64 (pos r)) t)) (ofInt binary64 z)) ≤ r * mag t + 10 * fine)

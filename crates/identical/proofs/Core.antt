@@ -6,20 +6,24 @@ use native.Mathlib.Omega.{arith}
 
 module _ (u w : ℕ) (unit : u ≡ 2 ^ 40 * w) where
   -- A is at most r u, and P within 10 w of it: so are their squares, within (20 r + 1) u w
-  square-near : (P A r : ℕ) → P ≤ A + 10 * w → A ≤ P + 10 * w → A ≤ r * u → (P * P ≤ A * A + (20 * r + 1) * (u * w)) × (A * A ≤ P * P + (20 * r + 1) * (u * w))
+  square-near : (P A r : ℕ) → P ≤ A + 10 * w → A ≤ P + 10 * w → A ≤ r * u
+      → (P * P ≤ A * A + (20 * r + 1) * (u * w)) × (A * A ≤ P * P + (20 * r + 1) * (u * w))
   square-near P A r up down l =
       let small : 300 * (w * w) ≤ u * w = omega (arith, ap (λ (z : ℕ). z * w) unit) in
       let size = mul-le-mul-right w l in
       (omega (arith, mul-le-mul up up, small, size), omega (arith, mul-le-mul down down, mul-le-mul-right w up, small, size))
 
   -- the squares of sine and cosine, m and n, add up to 1 within 7 w
-  sum-near : (s : ℕ) → s * 2 ^ 40 ≤ u * u * (2 ^ 40 + 7) → u * u * 2 ^ 40 ≤ s * 2 ^ 40 + u * u * 7 → (s ≤ u * u + 7 * (u * w)) × (u * u ≤ s + 7 * (u * w))
+  sum-near : (s : ℕ) → s * 2 ^ 40 ≤ u * u * (2 ^ 40 + 7) → u * u * 2 ^ 40 ≤ s * 2 ^ 40 + u * u * 7
+      → (s ≤ u * u + 7 * (u * w)) × (u * u ≤ s + 7 * (u * w))
   sum-near s up down = let e : u * u ≡ u * w * 2 ^ 40 = omega (arith, ap (λ (z : ℕ). u * z) unit) in (omega (arith, up, e), omega (arith, down, e))
 
   -- z is what is worked out for P² + Q², in units: two products and a sum, rounded
-  module _ (r m n P Q a b z : ℕ) (hm : m ≤ u) (hn : n ≤ u) (p : (P ≤ r * m + 10 * w) × (r * m ≤ P + 10 * w)) (q : (Q ≤ r * n + 10 * w) × (r * n ≤ Q + 10 * w))
+  module _ (r m n P Q a b z : ℕ) (hm : m ≤ u) (hn : n ≤ u)
+      (p : (P ≤ r * m + 10 * w) × (r * m ≤ P + 10 * w)) (q : (Q ≤ r * n + 10 * w) × (r * n ≤ Q + 10 * w))
       (s : ((m * m + n * n) * 2 ^ 40 ≤ u * u * (2 ^ 40 + 7)) × (u * u * 2 ^ 40 ≤ (m * m + n * n) * 2 ^ 40 + u * u * 7))
-      (ha : (a * u ≤ P * P + 2 ^ 15 * w * u) × (P * P ≤ a * u + 2 ^ 15 * w * u)) (hb : (b * u ≤ Q * Q + 2 ^ 15 * w * u) × (Q * Q ≤ b * u + 2 ^ 15 * w * u))
+      (ha : (a * u ≤ P * P + 2 ^ 15 * w * u) × (P * P ≤ a * u + 2 ^ 15 * w * u))
+      (hb : (b * u ≤ Q * Q + 2 ^ 15 * w * u) × (Q * Q ≤ b * u + 2 ^ 15 * w * u))
       (hz : (z ≤ a + b + 2 ^ 16 * w) × (a + b ≤ z + 2 ^ 16 * w)) (U : 0 < u) where
     PP : (P * P ≤ r * m * (r * m) + (20 * r + 1) * (u * w)) × (r * m * (r * m) ≤ P * P + (20 * r + 1) * (u * w))
     PP = square-near P (r * m) r (p .0) (p .1) (mul-le-mul-left r hm)
@@ -45,7 +49,8 @@ parabola zero h l = absurd (omega arith)
 parabola (suc k) h l = let g = mul-le-mul-right k l in omega (arith, g)
 
 -- the quotient by r², v: within 219902 w / r of 1
-module _ (u w r z v : ℕ) (h : 1 ≤ r) (l : r ≤ 20000) (near : (z ≤ r * r * u + (7 * (r * r) + 40 * r + 131074) * w) × (r * r * u ≤ z + (7 * (r * r) + 40 * r + 131074) * w))
+module _ (u w r z v : ℕ) (h : 1 ≤ r) (l : r ≤ 20000)
+    (near : (z ≤ r * r * u + (7 * (r * r) + 40 * r + 131074) * w) × (r * r * u ≤ z + (7 * (r * r) + 40 * r + 131074) * w))
     (rounded : (v * (r * r) ≤ z + w * (r * r)) × (z ≤ v * (r * r) + w * (r * r))) where
   few : 8 * (r * r) + 40 * r + 131074 ≤ 219902 * r
   few = omega (arith, parabola r h l)

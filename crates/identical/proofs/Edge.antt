@@ -4,7 +4,7 @@ use mathlib.Core.Path.{_≡_, refl, sym, ap, ap₂, _∙_, subst}
 use mathlib.Core.Bool.{Bool, true, false, cond, not, _&&_, _||_}
 use mathlib.Core.Logic.{_⊎_, inl, inr}
 use Prim.Native.Nat.{ℕ, _+_, _-_, _*_, _^_, _≤_, _<_, zero-le}
-use native.Mathlib.Nat.{le-refl, le-trans, le-of-eq, le-of-lt, lt-of-lt-of-le, one-mul, mul-pos, mul-le-mul, mul-le-mul-left, mul-le-mul-right, le-of-mul-le-mul-right}
+use native.Mathlib.Nat.{le-refl, le-trans, le-of-eq, lt-of-lt-of-le, one-mul, mul-pos, mul-le-mul, mul-le-mul-right, le-of-mul-le-mul-right}
 use native.Mathlib.Omega.{arith}
 use lib.Dec.{leb, leb→le}
 use lib.IntN.{ℤ, pos, natAbs}
@@ -82,15 +82,15 @@ larger-least a b fa fb na nb = subst (λ (z : Float). mag a ≤ mag z) (sym (lar
     go false e = le-refl (mag a)
 
 module _ (x y : ℤ) (r : ℕ) (hx : natAbs x ≤ 20000) (hy : natAbs y ≤ 20000) (least : 1 ≤ r) (most : r ≤ 20000) where
-  share-share-sign : negative coincidenceShare ≡ false
+  least-share-sign : negative coincidenceShare ≡ false
   unfolding ofBits
-  share-share-sign = refl
+  least-share-sign = refl
 
   quotient-below : mag (share /ᶠ ofInt binary64 (pos r)) ≤ mag (tolerance (wholeCircle x y r))
   unfolding tolerance
   quotient-below =
       larger-least (share /ᶠ ofInt binary64 (pos r)) coincidenceShare (quotient-most x y r hx hy least most .finite) (least-share .finite)
-      (quotient-sign x y r hx hy least most) share-share-sign
+      (quotient-sign x y r hx hy least most) least-share-sign
 
   -- a distance d from 1 that r times is at most the share rounds to at most the tolerance
   radius-units : mag (ofInt binary64 (pos r)) ≡ r * one
@@ -101,7 +101,10 @@ module _ (x y : ℤ) (r : ℕ) (hx : natAbs x ≤ 20000) (hy : natAbs y ≤ 2000
       le-trans
       (rnd-mono d 1 (mag share * one) (mag (ofInt binary64 (pos r))) (le-refl 1) (radius-mag x y r hx hy least most)
       (rw radius-units (scaled d (mag share) one (le-trans h share-least))))
-      (le-trans (le-of-eq (sym (div-mag (share-most .finite) (ofInt-finite (pos r) (omega arith)) (radius-mag x y r hx hy least most) (quotient-most x y r hx hy least most .finite))))
+      (le-trans
+      (le-of-eq
+      (sym
+      (div-mag (share-most .finite) (ofInt-finite (pos r) (omega arith)) (radius-mag x y r hx hy least most) (quotient-most x y r hx hy least most .finite))))
       quotient-below)
     where
       scaled : (d s u : ℕ) → d * r ≤ s → d * (r * u) ≤ s * u * 1
@@ -135,7 +138,8 @@ module _ (x y : ℤ) (r : ℕ) (hx : natAbs x ≤ 20000) (hy : natAbs y ≤ 2000
         bounded k m u w e h l = omega (arith, mul-le-mul most h, l, e)
 
     dx-most : Most 20001 1074 dx
-    dx-most = narrow (cosine phi) (back-finite x r hx most (cosine phi) cos-most .finite) (at-most-one cos-most) (back-size x r hx most (cosine phi) cos-most .0)
+    dx-most =
+        narrow (cosine phi) (back-finite x r hx most (cosine phi) cos-most .finite) (at-most-one cos-most) (back-size x r hx most (cosine phi) cos-most .0)
 
     dy-most : Most 20001 1074 dy
     dy-most = narrow (sine phi) (back-finite y r hy most (sine phi) sin-most .finite) (at-most-one sin-most) (back-size y r hy most (sine phi) sin-most .0)
@@ -163,7 +167,8 @@ module _ (x y : ℤ) (r : ℕ) (hx : natAbs x ≤ 20000) (hy : natAbs y ≤ 2000
     sum-within : (mag sum ≤ r * r * one + (7 * (r * r) + 40 * r + 131074) * fine) × (r * r * one ≤ mag sum + (7 * (r * r) + 40 * r + 131074) * fine)
     sum-within =
         let near = squares-near-one phi dom in
-        within one fine unit r (mag (cosine phi)) (mag (sine phi)) (mag dx) (mag dy) (mag (dx *ᶠ dx)) (mag (dy *ᶠ dy)) (mag sum) (at-most-one cos-most) (at-most-one sin-most)
+        within one fine unit r (mag (cosine phi)) (mag (sine phi)) (mag dx) (mag dy) (mag (dx *ᶠ dx)) (mag (dy *ᶠ dy)) (mag sum)
+        (at-most-one cos-most) (at-most-one sin-most)
         (back-size x r hx most (cosine phi) cos-most) (back-size y r hy most (sine phi) sin-most)
         (swapped (mag (cosine phi)) (mag (sine phi)) one (near .most) (near .least)) (square-near dx-most) (square-near dy-most) sum-near one-pos
       where
@@ -195,7 +200,8 @@ module _ (x y : ℤ) (r : ℕ) (hx : natAbs x ≤ 20000) (hy : natAbs y ≤ 2000
     v = sum /ᶠ square
 
     v-most : Most (2 ^ 30) 1074 v
-    v-most = div-most sum-most (ofInt-least (pos (r * r)) (omega (arith, small)) some) (2 ^ 30) 1074 refl (omega arith) (omega arith) (omega arith) (omega arith)
+    v-most =
+        div-most sum-most (ofInt-least (pos (r * r)) (omega (arith, small)) some) (2 ^ 30) 1074 refl (omega arith) (omega arith) (omega arith) (omega arith)
 
     -- the errors are less than r²
     errors : (7 * (r * r) + 40 * r + 131074) * fine + fine ≤ r * r * one
@@ -224,12 +230,14 @@ module _ (x y : ℤ) (r : ℕ) (hx : natAbs x ≤ 20000) (hy : natAbs y ≤ 2000
         (subst (λ (k : ℕ). k * (r * r * one) ≤ mag sum * one + pow2 1021 * (r * r * one)) (sym is) (near .0))
         (subst (λ (k : ℕ). mag sum * one ≤ k * (r * r * one) + pow2 1021 * (r * r * one)) (sym is) (near .1)) one-pos
       where
-        bounded : (z q u h w : ℕ) → u ≡ 2 ^ 53 * h → (7 * q + 40 * r + 131074) * w + w ≤ q * u → z ≤ q * u + (7 * q + 40 * r + 131074) * w → z * u ≤ 2 ^ 54 * h * (q * u)
+        bounded : (z q u h w : ℕ) → u ≡ 2 ^ 53 * h → (7 * q + 40 * r + 131074) * w + w ≤ q * u → z ≤ q * u + (7 * q + 40 * r + 131074) * w
+            → z * u ≤ 2 ^ 54 * h * (q * u)
         bounded z q u h w e f l =
             let twice : z ≤ 2 * (q * u) = omega (arith, f, l) in
             omega (arith, mul-le-mul-right u twice, ap (λ (k : ℕ). k * (q * u)) e)
 
-        cancelled : (v z q u h w : ℕ) → h ≤ w → v * (q * u) ≤ z * u + h * (q * u) → z * u ≤ v * (q * u) + h * (q * u) → 0 < u → (v * q ≤ z + w * q) × (z ≤ v * q + w * q)
+        cancelled : (v z q u h w : ℕ) → h ≤ w → v * (q * u) ≤ z * u + h * (q * u) → z * u ≤ v * (q * u) + h * (q * u) → 0 < u
+            → (v * q ≤ z + w * q) × (z ≤ v * q + w * q)
         cancelled v z q u h w l up down U =
             let wider = mul-le-mul-right q l in
             let over : v * q ≤ z + h * q = le-of-mul-le-mul-right {k = u} (omega (arith, up)) U in

@@ -38,13 +38,15 @@ close-sizes f A E s fin proper is w =
     (sym (abs-mul (f .num) (pos E)) ∙ ap natAbs is ∙ abs-mul A (pos (f .den))) (in-units fin)
     (natAbs (f .num *ℤ pos (exact s .den) -ℤ exact s .num *ℤ pos (f .den)))
     (le-trans (le-of-eq (sym (abs-mul (f .num) (pos (exact s .den)))))
-    (le-trans (size-near (f .num *ℤ pos (exact s .den)) (exact s .num *ℤ pos (f .den))) (le-of-eq (ap (λ (k : ℕ). k + dist (f .num *ℤ pos (exact s .den)) (exact s .num *ℤ pos (f .den))) (abs-mul (exact s .num) (pos (f .den)))))))
+    (le-trans (size-near (f .num *ℤ pos (exact s .den)) (exact s .num *ℤ pos (f .den)))
+    (le-of-eq (ap (λ (k : ℕ). k + dist (f .num *ℤ pos (exact s .den)) (exact s .num *ℤ pos (f .den))) (abs-mul (exact s .num) (pos (f .den)))))))
     (le-trans (le-of-eq (sym (abs-mul (exact s .num) (pos (f .den)))))
     (le-trans (size-near (exact s .num *ℤ pos (f .den)) (f .num *ℤ pos (exact s .den)))
     (le-of-eq (ap₂ (λ (k d : ℕ). k + d) (abs-mul (f .num) (pos (exact s .den))) (dist-comm (exact s .num *ℤ pos (f .den)) (f .num *ℤ pos (exact s .den)))))))
     w
   where
-    crossed : (p d g e a E m u K : ℕ) → 0 < d → 0 < e → p * E ≡ a * d → m * e ≡ g * u → (w : ℕ) → p * e ≤ g * d + w → g * d ≤ p * e + w → w * K ≤ 1 * (d * e)
+    crossed : (p d g e a E m u K : ℕ) → 0 < d → 0 < e → p * E ≡ a * d → m * e ≡ g * u
+        → (w : ℕ) → p * e ≤ g * d + w → g * d ≤ p * e + w → w * K ≤ 1 * (d * e)
         → (a * u * K ≤ m * E * K + E * u) × (m * E * K ≤ a * u * K + E * u)
     crossed p d g e a E m u K D G i j w up down l =
         let top = mul-le-mul-right (E * u * K) up in
@@ -52,11 +54,13 @@ close-sizes f A E s fin proper is w =
         let rest = mul-le-mul-right (E * u) l in
         let first = ap (λ (z : ℕ). z * (u * e * K)) i in
         let second = ap (λ (z : ℕ). z * (E * d * K)) j in
-        (le-of-mul-le-mul-right (omega (arith, top, rest, first, second)) (mul-pos D G), le-of-mul-le-mul-right (omega (arith, low, rest, first, second)) (mul-pos D G))
+        let over : a * u * K ≤ m * E * K + E * u = le-of-mul-le-mul-right (omega (arith, top, rest, first, second)) (mul-pos D G) in
+        (over, le-of-mul-le-mul-right (omega (arith, low, rest, first, second)) (mul-pos D G))
 
 -- ---- squares
 
-near-square : (X Y P K : ℕ) → 1 ≤ K → X * K ≤ Y * K + P → Y * K ≤ X * K + P → X ≤ P → (X * X * K ≤ Y * Y * K + 3 * (P * P)) × (Y * Y * K ≤ X * X * K + 3 * (P * P))
+near-square : (X Y P K : ℕ) → 1 ≤ K → X * K ≤ Y * K + P → Y * K ≤ X * K + P → X ≤ P
+    → (X * X * K ≤ Y * Y * K + 3 * (P * P)) × (Y * Y * K ≤ X * X * K + 3 * (P * P))
 near-square X Y P K k up down l =
     let near : Y ≤ X + P = le-of-mul-le-mul-right (omega (arith, down, mul-le-mul-left P k)) k in
     let x = mul-le-mul-right P l in

@@ -74,7 +74,8 @@ unit-value x y =
 -- two naturals by the distance of their integers
 by-distance : (m n d : ℕ) → dist (pos m) (pos n) ≤ d → (m ≤ n + d) × (n ≤ m + d)
 by-distance m n d h =
-    (le-trans (size-near (pos m) (pos n)) (add-le-add (le-refl n) h), le-trans (size-near (pos n) (pos m)) (add-le-add (le-refl m) (le-trans (le-of-eq (dist-comm (pos n) (pos m))) h)))
+    let back = le-trans (le-of-eq (dist-comm (pos n) (pos m))) h in
+    (le-trans (size-near (pos m) (pos n)) (add-le-add (le-refl n) h), le-trans (size-near (pos n) (pos m)) (add-le-add (le-refl m) back))
 
 -- With E for 79! y^80, the value of both polynomials over it is the sine and the cosine of x / y: their squares add up to 1 within 2^-48.
 pub sums-near : (x : ℤ) (y : ℕ) → natAbs x ≤ 16 * y → (a b E : ℕ) → natAbs (hval sin79 x y) ≡ a → natAbs (hval cos79 x y) ≡ b → scale * y ^ 80 ≡ E

@@ -92,7 +92,8 @@ module _ (x y : ℤ) (r : ℕ) (hx : natAbs x ≤ 20000) (hy : natAbs y ≤ 2000
       (omega (arith, sorted-length (map (angleAbout (m .circle)) (m .points)), length-map (m .points) (angleAbout (m .circle))))
       (λ i l.
       ap (λ (d : Circle). owned k (pointAt d (middleOfGap (anglesOf m) i)) (before ++ (c ∷ after))) e
-      ∙ not-owned (pointAt c (middleOfGap (anglesOf m) i)) c k (keeps (middleOfGap (anglesOf m) i) (angles-in-domain (m ∷ []) .gaps .0 i l) k) 0 before after (omega arith))
+      ∙ not-owned (pointAt c (middleOfGap (anglesOf m) i)) c k (keeps (middleOfGap (anglesOf m) i) (angles-in-domain (m ∷ []) .gaps .0 i l) k)
+      0 before after (omega arith))
 
   twins : (before between after : List Member) (l m : Member) → l .circle ≡ c → m .circle ≡ c
       → NoneOf (length before + suc (length between)) (outline (before ++ (l ∷ (between ++ (m ∷ after)))))
@@ -110,12 +111,15 @@ module _ (x y : ℤ) (r : ℕ) (hx : natAbs x ≤ 20000) (hy : natAbs y ≤ 2000
           (subst (λ ms. NoneOf (length front) (outline ms)) whole
           (none-in front after m (omega (arith, place))
           (ap (λ cs. arcsAt cs (length front) (m .circle) (anglesOf m)) circles
-          ∙ no-arcs m em some (length front) (circlesOf before) (circlesOf (between ++ (m ∷ after))) (omega (arith, place, length-map before (λ (n : Member). n .circle))))))
+          ∙ no-arcs m em some (length front) (circlesOf before) (circlesOf (between ++ (m ∷ after)))
+          (omega (arith, place, length-map before (λ (n : Member). n .circle))))))
 
       by : (ps : List Point) → m .points ≡ ps → NoneOf (length before + suc (length between)) (outline (before ++ (l ∷ (between ++ (m ∷ after)))))
       by (q ∷ ps) e = with-points (subst (λ qs. 0 < length qs) (sym e) (omega arith))
       by [] e =
-          subst₂ (λ (d : Circle) (ps : List Point). NoneOf (length before + suc (length between)) (outline (before ++ (l ∷ (between ++ (record { circle = d; points = ps } ∷ after))))))
+          subst₂
+          (λ (d : Circle) (ps : List Point).
+          NoneOf (length before + suc (length between)) (outline (before ++ (l ∷ (between ++ (record { circle = d; points = ps } ∷ after))))))
           (sym em) (sym e) (lower-owns x y r hx hy least most .higher before between after l el)
 
 pub higher-has-no-arc : HigherHasNoArc
