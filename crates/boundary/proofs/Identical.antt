@@ -35,7 +35,7 @@ use Rattle.boundary.proofs.OnePoint.{less-itself, none-in}
 
 -- ---- 1 as a float
 
-one-finite : Finite one64
+pub one-finite : Finite one64
 one-finite = one64-most .finite
 
 one-units : one64 ≡ ofUnits false one
@@ -47,7 +47,7 @@ one-digits = subst Digits53 one64-mag (mag-digits one-finite)
 one-limit : one < limit
 one-limit = subst (λ (n : ℕ). n < limit) one64-mag (mag-limit one-finite)
 
-one-plus : (plus one64 ≡ one) × (minus one64 ≡ 0)
+pub one-plus : (plus one64 ≡ one) × (minus one64 ≡ 0)
 one-plus = let parts = plus-is one64 one64-sign in (parts .0 ∙ one64-mag, parts .1)
 
 -- x / x is 1
@@ -60,7 +60,7 @@ over-itself x f h m = result-plus h (div-result f f h) one-pos one-digits one-li
 -- ---- the two tolerances of an edge
 
 -- twice the distance at which edges coincide
-share : Float
+abbrev pub share : Float
 share = two64 *ᶠ coincidence
 
 two-most : Most 2 1074 two64
@@ -71,15 +71,14 @@ coincidence-most : Most 1 1074 coincidence
 unfolding ofBits mag pow2
 coincidence-most = literal-most 0x3E7A_D7F2_9ABC_AF48 1 1074 tt tt
 
-share-most : Most 2 1074 share
-unfolding share
+pub share-most : Most 2 1074 share
 share-most = mul-most two-most coincidence-most 1074 refl (omega arith) (omega arith)
 
 share-sign : negative share ≡ false
-unfolding share mul round ofBits
+unfolding mul round ofBits
 share-sign = refl
 
-least-share : Most 2 1074 coincidenceShare
+pub least-share : Most 2 1074 coincidenceShare
 unfolding ofBits mag pow2
 least-share = literal-most 0x3D71_9799_812D_EA11 2 1074 tt tt
 
@@ -98,7 +97,7 @@ natAbs-more (negsuc m) n = by (ltb n (suc m)) refl
     by false e = rw e (omega arith)
 
 module _ (x y : ℤ) (r : ℕ) (hx : natAbs x ≤ 20000) (hy : natAbs y ≤ 20000) (least : 1 ≤ r) (most : r ≤ 20000) where
-  c : Circle
+  abbrev c : Circle
   c = wholeCircle x y r
 
   across : ofInt binary64 x +ᶠ ofInt binary64 (pos r) -ᶠ ofInt binary64 x ≡ ofInt binary64 (pos r)
@@ -138,7 +137,7 @@ module _ (x y : ℤ) (r : ℕ) (hx : natAbs x ≤ 20000) (hy : natAbs y ≤ 2000
       some n u h = let g = mul-le-mul (mul-le-mul h h) (le-refl u) in omega (arith, g)
 
   value : implicitValue (probe c) c ≡ one64
-  unfolding implicitValue probe c
+  unfolding implicitValue probe
   value =
       ap₂ (λ (dx dy : Float). (dx *ᶠ dx +ᶠ dy *ᶠ dy) /ᶠ (ofInt binary64 (pos r) *ᶠ ofInt binary64 (pos r))) across upward
       ∙ ap (λ (z : Float). z /ᶠ (ofInt binary64 (pos r) *ᶠ ofInt binary64 (pos r))) squares
@@ -146,29 +145,29 @@ module _ (x y : ℤ) (r : ℕ) (hx : natAbs x ≤ 20000) (hy : natAbs y ≤ 2000
 
   -- ---- the tolerance is a number, and not below zero
 
-  radius-least : Least 1 1074 (ofInt binary64 (pos r))
+  pub radius-least : Least 1 1074 (ofInt binary64 (pos r))
   radius-least = ofInt-least (pos r) (omega arith) least
 
-  quotient-most : Most 2 1074 (share /ᶠ ofInt binary64 (pos r))
+  pub quotient-most : Most 2 1074 (share /ᶠ ofInt binary64 (pos r))
   quotient-most = div-most share-most radius-least 2 1074 refl (omega arith) (omega arith) (omega arith) (omega arith)
 
-  radius-mag : 0 < mag (ofInt binary64 (pos r))
+  pub radius-mag : 0 < mag (ofInt binary64 (pos r))
   radius-mag = lt-of-lt-of-le one-pos (le-trans (some r one least) (le-of-eq (sym (ofInt-mag (pos r) (omega arith)))))
     where
       some : (n u : ℕ) → 1 ≤ n → u ≤ n * u
       some n u h = let g = mul-le-mul h (le-refl u) in omega (arith, g)
 
-  quotient-sign : negative (share /ᶠ ofInt binary64 (pos r)) ≡ false
+  pub quotient-sign : negative (share /ᶠ ofInt binary64 (pos r)) ≡ false
   quotient-sign =
       div-sign (share-most .finite) (radius-least .finite) radius-mag (quotient-most .finite)
       ∙ rw (share-sign, ofInt-sign (pos r) (omega arith)) refl
 
-  tolerance-most : Most 2 1074 (tolerance c)
-  unfolding tolerance share c
+  pub tolerance-most : Most 2 1074 (tolerance c)
+  unfolding tolerance
   tolerance-most = larger-most quotient-most least-share
 
-  tolerance-sign : negative (tolerance c) ≡ false
-  unfolding tolerance share c ofBits
+  pub tolerance-sign : negative (tolerance c) ≡ false
+  unfolding tolerance ofBits
   tolerance-sign =
       either-sign (isNan (share /ᶠ ofInt binary64 (pos r)) || (share /ᶠ ofInt binary64 (pos r) <ᶠ coincidenceShare)) coincidenceShare
       (share /ᶠ ofInt binary64 (pos r)) refl quotient-sign
@@ -257,5 +256,4 @@ module _ (x y : ℤ) (r : ℕ) (hx : natAbs x ≤ 20000) (hy : natAbs y ≤ 2000
           (omega (arith, place, length-map before (λ (m : Member). m .circle)))
 
 pub lower-owns : LowerOwns
-unfolding c
 lower-owns x y r hx hy least most = record { pair = pair-outline x y r hx hy least most; higher = higher-none x y r hx hy least most }
