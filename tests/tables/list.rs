@@ -20,7 +20,7 @@ fn table(letter: char, rows: &Rows) {
 fn plan(book: &Book) {
     let case = Case::of_any(book.plan());
     let numbers: Vec<i32> = [&book.sides[..], &book.heads[..3 * book.n]].concat();
-    println!("H {:X}{}", book.n, numbers.iter().map(|v| format!(" {:X}", v + 65536)).collect::<String>());
+    println!("H {:X}{}", book.n, numbers.iter().map(|v| format!(" {:X}", *v as u32)).collect::<String>());
     let mut sets = [0u64; 16];
     for mask in case.found() {
         sets[mask / 64] |= 1 << (mask % 64);
