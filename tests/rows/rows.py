@@ -6,6 +6,7 @@ import os
 import random
 import re
 import resource
+import shutil
 import subprocess
 import sys
 import time
@@ -14,7 +15,10 @@ ROOT = os.path.dirname(os.path.dirname(os.path.dirname(os.path.abspath(__file__)
 sys.path.insert(0, os.path.join(ROOT, 'tests', 'plan'))
 import trials  # noqa: E402
 
-ROWS = os.path.join(ROOT, 'target', 'bin', 'rows')
+# under the kit's loader and C library, as rt runs a program: the machine's own may be older than the one it is linked with
+KIT = os.path.dirname(os.path.dirname(os.path.realpath(shutil.which('rt'))))
+LIBRARY = os.path.join(KIT, 'toolchain', 'lib')
+ROWS = [os.path.join(LIBRARY, 'ld-linux-x86-64.so.2'), '--library-path', LIBRARY, os.path.join(ROOT, 'target', 'bin', 'rows')]
 EXAMPLE = bytes.fromhex('010C140000000A00000003E8030000E8030000')
 EXAMPLE_PRINTS = '000 4069000000000000\n001 0000000000000000\n'
 TABLE = re.compile(r'(?:[0-9A-F]{3} [0-9A-F]{16}\n)+\Z')
@@ -32,7 +36,7 @@ def see(name, count, wrong):
 
 
 def rows(data, **ends):
-    done = subprocess.run([ROWS], input=data, capture_output=True, **ends)
+    done = subprocess.run(ROWS, input=data, capture_output=True, **ends)
     return done.stdout.decode(), done.stderr.decode()
 
 
@@ -79,7 +83,7 @@ sample = trials.plan_file([0, 0, 400, 300], [[-20, 5, 90], [60, -10, 70], [10, 4
 
 
 def in_pieces(data, size):
-    run = subprocess.Popen([ROWS], stdin=subprocess.PIPE, stdout=subprocess.PIPE, bufsize=0)
+    run = subprocess.Popen(ROWS, stdin=subprocess.PIPE, stdout=subprocess.PIPE, bufsize=0)
     for at in range(0, len(data), size):
         run.stdin.write(data[at:at + size])
         time.sleep(0.002)
@@ -100,16 +104,17 @@ see("edits in one input, in constant memory", 200000, None if rows(start + edits
 # ---- ends that fail
 
 UNREAD, UNWRITTEN = 'rows: standard input could not be read\n', 'rows: standard output could not be written\n'
-with os.fdopen(os.open('/', os.O_RDONLY), closefd=True) as folder:
-    done = subprocess.run([ROWS], stdin=folder, capture_output=True)
+folder = os.open('/', os.O_RDONLY)
+done = subprocess.run(ROWS, stdin=folder, capture_output=True)
+os.close(folder)
 see("input that cannot be read prints no row", 1, None if (done.stdout.decode(), done.stderr.decode()) == ('', UNREAD) else done)
-done = subprocess.run([ROWS], preexec_fn=lambda: os.close(0), capture_output=True)
+done = subprocess.run(ROWS, preexec_fn=lambda: os.close(0), capture_output=True)
 see("closed input prints no row", 1, None if (done.stdout.decode(), done.stderr.decode()) == ('', UNREAD) else done)
-done = subprocess.run([ROWS], input=EXAMPLE, preexec_fn=lambda: os.close(1), stderr=subprocess.PIPE)
+done = subprocess.run(ROWS, input=EXAMPLE, preexec_fn=lambda: os.close(1), stderr=subprocess.PIPE)
 see("closed output is said", 1, None if done.stderr.decode() == UNWRITTEN else done)
 if os.path.exists('/dev/full'):
     with open('/dev/full', 'wb') as full:
-        done = subprocess.run([ROWS], input=EXAMPLE, stdout=full, stderr=subprocess.PIPE)
+        done = subprocess.run(ROWS, input=EXAMPLE, stdout=full, stderr=subprocess.PIPE)
     see("a full device is said", 1, None if done.stderr.decode() == UNWRITTEN else done)
 
 # ---- the Rust
