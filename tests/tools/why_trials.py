@@ -1,6 +1,6 @@
 """Trials of tools/plan --why, tools/stale and the Python side of the library.
 
-    why_trials.py COUNT     COUNT random plans of several kinds, an edit each
+    why_trials.py COUNT [ROWS]      COUNT random plans of several kinds, an edit each; with the program ROWS also its answers to some
 
 The edit's own rule (demand 3) is worked out here from document 01 and held against the library, which is handed false numbers to see which
 rows it keeps; every row that changed must be listed, and every reason must be true of the plans and tables.
@@ -14,8 +14,8 @@ import sys
 
 ROOT = os.path.dirname(os.path.dirname(os.path.dirname(os.path.abspath(__file__))))
 sys.path[:0] = [os.path.join(ROOT, 'tools')]
-from plans import library, sets, why, window  # noqa: E402
-from plans.table import square_metres  # noqa: E402
+from plans import library, sets, table, why, window  # noqa: E402
+from plans.file import Plan, Record  # noqa: E402
 
 COUNTS = {}
 
@@ -166,7 +166,7 @@ def reason_true(words, move, mask):
     if words.startswith('its own area stayed'):
         return bits(before) == bits(after) and within_true(words, move, mask)
     words, small, _ = words.partition('; only its last bits changed')
-    if bits(before) == bits(after) or bool(small) != (abs(before - after) < 1 and square_metres(before) == square_metres(after)):
+    if bits(before) == bits(after) or bool(small) != (abs(before - after) < 1 and table.square_metres(before) == table.square_metres(after)):
         return False
     return bool(mask >> move.k & 1) if words == 'it has the moved head' else bool(met_true(words, move, mask))
 
@@ -195,6 +195,15 @@ def why_trial(proved, box, heads, k, new):
         COUNTS['  ' + kind_of(words)] = COUNTS.get('  ' + kind_of(words), 0) + 1
 
 
+def program_trial(proved, rows, box, heads, k, new):
+    """The program prints the exclusives that the library has after the same edit."""
+    lent = library.Window(proved, box, heads)
+    lent.edit(k, *new)
+    plan = Plan(Record('box', box), [Record('head', head) for head in heads], [Record('move', new, k)])
+    expect('the program and the library agree', {mask: bits(area) for mask, area in table.rows_of(plan, rows)},
+           {mask: bits(area) for mask, area in lent.exclusives().items()})
+
+
 # ---- the command line
 
 def run(*words, data=b''):
@@ -219,10 +228,12 @@ def command_trials():
 
 def main():
     chance, proved = random.Random(20), library.load()
-    for _ in range(int(sys.argv[1])):
+    for number in range(int(sys.argv[1])):
         edit = random_edit(chance)
         kept_trial(proved, *edit)
         why_trial(proved, *edit)
+        if sys.argv[2:] and number % 20 == 0:
+            program_trial(proved, sys.argv[2], *edit)
     command_trials()
     for what, number in COUNTS.items():
         print('%7d %s' % (number, what))

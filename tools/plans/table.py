@@ -26,9 +26,9 @@ class NoProgram(Exception):
 
 
 def program(chosen=None):
-    """The program `rows`: the one chosen, the one built here, or one that is installed."""
-    built = os.path.join(ROOT, 'target', 'bin', 'rows')
-    found = chosen or (built if os.path.exists(built) else shutil.which('rows'))
+    """The program `rows`: the one chosen, the one built here (by tools/rows, which sees that it starts), or one that is installed."""
+    built = os.path.exists(os.path.join(ROOT, 'target', 'bin', 'rows'))
+    found = chosen or (os.path.join(ROOT, 'tools', 'rows') if built else shutil.which('rows'))
     if not found:
         raise NoProgram('the program rows is not there; build it with: rt check rows')
     return found
