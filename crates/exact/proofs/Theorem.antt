@@ -12,12 +12,12 @@ use lib.ListN.{length}
 use lib.IntN.{ℤ, pos}
 use lib.Ieee.{Float, binary64, ofInt}
 use mir.Facts.{and-yes}
-use borrow.Author.Tests.{lt-ltb, le-ltb, le-leb, eq-eqb, ne-eqb}
+use borrow.Author.Tests.{lt-ltb, le-ltb, le-leb, leb-false, eq-eqb, ne-eqb}
 use Rattle.heads.specs.declared.Head.{Head}
 use Rattle.heads.specs.declared.Relation.{Relation}
 use Rattle.heads.specs.declared.Relation.the-variants.{Apart, TouchingOutside, Crossing, TouchingInside, Holding, Identical}
 use Rattle.heads.specs.Relation.{gap, identical, relation, meets, meeting, touching, points}
-use Rattle.heads.specs.Cases.{Case, gap-le, gap-square-le, gap-zero, relation-is, case-of, meets-relation, meetsOnce-relation, meets-facts}
+use Rattle.heads.specs.Cases.{Case, gap-comm, gap-le, gap-square-le, gap-zero, relation-is, case-of, meets-relation, meetsOnce-relation, meets-facts}
 use Rattle.heads.specs.Pair.{squaredDistance, radiusOf, relationOf, meetsOf, meetsOnceOf}
 use Rattle.heads.specs.Distance.{InLimits, limits-of, distance-fits, meetsOf-comm}
 use Rattle.binary64.specs.Units.{one}
@@ -29,8 +29,10 @@ use Rattle.geometry.specs.Circle as circle
 use Rattle.geometry.specs.Meeting.{number-of-points}
 use Rattle.geometry.specs.Point.{at, distance}
 use Rattle.exact.specs.Circle.{circleOf}
-use Rattle.exact.specs.Decisions.{IsDrawn, DecidesExactly, StaysBounded, NoPointsUnlessMet, NoAreaBeyond, sum, difference}
+use Rattle.exact.specs.Decisions.{IsDrawn, DecidesExactly, StaysBounded, NoPointsUnlessMet, NoAreaBeyond, QuotientsWithin, sum, difference, quotient}
 use Rattle.exact.proofs.Chord.{gap-either}
+use Rattle.exact.proofs.Crossing.{quotient-within}
+use Rattle.exact.proofs.Steps.{float}
 use Rattle.exact.proofs.Distance.{rootOf, distance-is, root-is-finite, root-most, root-at-least}
 use Rattle.exact.proofs.Tests.{identical-is, apart-is, intersects-is, contains-heads, beyond-is, within-is}
 use Rattle.exact.proofs.Meeting.{Found, touching as found-touching, crossed as found-crossed}
@@ -257,3 +259,21 @@ no-points-unless-met a b ha hb e = (decides-exactly a b ha hb .none .1 e, decide
 -- Heads that touch from outside or are apart share no area.
 pub no-area-beyond : NoAreaBeyond
 no-area-beyond a b ha hb h = rw (decides-exactly a b ha hb .outside ∙ le-leb (sum a b * sum a b) (squaredDistance a b) h)
+
+-- both quotients, over whole numbers
+both-within : (r₁ r₂ D : ℕ) → 1 ≤ r₁ → r₁ ≤ 20000 → 1 ≤ r₂ → r₂ ≤ 20000 → gap r₁ r₂ * gap r₁ r₂ < D → D < (r₁ + r₂) * (r₁ + r₂)
+    → Most 1 1074 (quotient (float r₁) (float r₂) (rootOf D)) × Most 1 1074 (quotient (float r₂) (float r₁) (rootOf D))
+both-within r₁ r₂ D P₁ L₁ P₂ L₂ low high =
+    (quotient-within r₁ r₂ D P₁ L₁ P₂ L₂ low high, quotient-within r₂ r₁ D P₂ L₂ P₁ L₁ (rw (gap-comm r₂ r₁) low) (omega arith))
+
+-- Where a lens is worked out, what is handed to acos is within -1 to 1.
+pub quotients-within : QuotientsWithin
+quotients-within a b ha hb out held =
+    let la = limits-of a ha in
+    let lb = limits-of b hb in
+    let D = squaredDistance a b in
+    let t = difference a b in
+    let s = sum a b in
+    rw (distance-is la lb (distance-fits a b ha hb), la .whole, lb .whole)
+    (both-within (radiusOf a) (radiusOf b) D (la .least) (la .most) (lb .least) (lb .most)
+    (leb-false D (t * t) (sym (decides-exactly a b ha hb .inside) ∙ held)) (leb-false (s * s) D (sym (decides-exactly a b ha hb .outside) ∙ out)))

@@ -1,6 +1,7 @@
 -- What sine, cosine, atan2, acos and asin are handed lies where document 01 promises them: "Sine and cosine for |v| ≤ 16", "atan2 is promised for
 -- magnitudes up to 2^20", acos and asin from -1 to 1. So no area and no gradient rests on the +0 outside these domains. Proved in proofs/Turns.antt,
--- proofs/Domains.antt and proofs/Arguments.antt. What is not claimed: that a meeting point is not the centre of either parent, where both arguments are 0.
+-- proofs/Domains.antt and proofs/Arguments.antt; of the acos in intersection_area exact proves it (`QuotientsWithin`, specs/Decisions.antt). What is not
+-- claimed: that a meeting point is not the centre of either parent, where both arguments are 0.
 use mathlib.Core.Path.{_≡_}
 use mathlib.Core.Bool.{true}
 use mathlib.Core.List.{List}

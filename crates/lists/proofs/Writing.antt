@@ -84,6 +84,10 @@ tab-cong f g (suc m) e = ap₂ (λ l x. l ++ (x ∷ [])) (tab-cong f g m (λ i h
 pub written-cong : {A : Type 0} (f g : ℕ → A) (m : ℕ) (k l : List A) → ((i : ℕ) → i < m → f i ≡ g i) → drop m k ≡ drop m l → written f m k ≡ written g m l
 written-cong f g m k l e d = ap₂ _++_ (tab-cong f g m e) d
 
+-- what stands beyond is as it was
+pub drop-written : {A : Type 0} (f : ℕ → A) (m : ℕ) (l : List A) → drop m (written f m l) ≡ drop m l
+drop-written f m l = drop-at (tab f m) (drop m l) m (length-tab f m)
+
 -- written twice: the second stands
 pub written-again : {A : Type 0} (f g : ℕ → A) (m : ℕ) (l : List A) → written g m (written f m l) ≡ written g m l
-written-again f g m l = ap (λ t. tab g m ++ t) (drop-at (tab f m) (drop m l) m (length-tab f m))
+written-again f g m l = ap (λ t. tab g m ++ t) (drop-written f m l)

@@ -31,10 +31,11 @@ use Rattle.areas.specs.Exclusives.{toExclusives}
 use Rattle.areas.specs.Sets.{planSets}
 use Rattle.regions.specs.Demand.{Reworks}
 use Rattle.regions.specs.Edit.{Row, boxRow, afreshRow, editedRow}
-use Rattle.regions.specs.Slices.{slicesOf, rowAt, withRows, LentTables, tablesOf, PlanSlices, settledTables, stepOf, afreshAnswer, afreshSlices, sliceAnswer, editSlices, planTable, entryOf}
+use Rattle.regions.specs.Slices.{slicesOf, rowAt, withRows, LentTables, tablesOf, PlanSlices, settledTables, stepOf}
+use Rattle.regions.specs.Slices.{afreshAnswer, afreshSlices, sliceAnswer, editSlices}
 use Rattle.regions.specs.Table.{Method, areaAt, afresh, edited}
-use Rattle.regions.proofs.Demand.{edit-reworks-exactly}
-use Rattle.regions.proofs.Slices.{slices-are-tables, afresh-taken, edit-step-taken}
+use Rattle.regions.proofs.Run.{slices-rework}
+use Rattle.regions.proofs.Slices.{afresh-taken, edit-step-taken}
 use Rattle.table.specs.declared.ready.Ready.{Ready}
 use Rattle.table.specs.Method.{methodOver, clippedTable}
 use Rattle.table.specs.Ready.{areaOf, Of, setsWritten}
@@ -110,7 +111,8 @@ module _ (m : Method) (p : Plan) (r : Ready) (s : Serves m p r) (sets bytes : Li
 
   -- the box's area, put into row 0 first, is no row beyond
   pub afresh-written : (others : List ℕ) (areas : List Float)
-      → tablesWritten (p .n) (rowsWritten r (record { own = 0; met = 0 }) (replicate 1024 0) sets bytes (set numbers 0 box)) (tablesOf bytes (set numbers 0 box) others areas)
+      → tablesWritten (p .n) (rowsWritten r (record { own = 0; met = 0 }) (replicate 1024 0) sets bytes (set numbers 0 box))
+      (tablesOf bytes (set numbers 0 box) others areas)
       ≡ tablesWritten (p .n) (afreshOver m p sets) (tablesOf bytes numbers others areas)
   afresh-written others areas =
       tables-cong (p .n) _ _ bytes (set numbers 0 box) numbers others areas afresh-row (drop-set-lt (2 ^ p .n) numbers 0 box (pow-pos (p .n)))
@@ -174,7 +176,8 @@ edit-step sets d e earlier later next t q before after f g =
     let area = areaAt m (applied p e) in
     let c = changeOf p e in
     let row : (S : ℕ) → S < 2 ^ p .n → editedOver m p e earlier later rows S ≡ edited m p e rows S =
-    λ S h. row-cong true (c .own) (c .met) area area (stands earlier) (sets p) (stands later) (sets (applied p e)) rows rows S refl (before S h) (after S h) refl in
+    λ S h. row-cong true (c .own) (c .met) area area (stands earlier) (sets p) (stands later) (sets (applied p e)) rows rows S
+    refl (before S h) (after S h) refl in
     edit-step-taken m d e next t q f
     (g ∙ tables-cong (p .n) _ _ (u .rows .bytes) (u .rows .numbers) (u .rows .numbers) (u .exclusives .bytes) (u .exclusives .numbers) row refl)
 
@@ -183,11 +186,9 @@ pub edit-kept : (head : ℕ) (x y radius : ℤ) → SFits w32 x → SFits w32 y 
     → editOf head (toZ w32 (ofZ w32 x)) (toZ w32 (ofZ w32 y)) (toZ w32 (ofZ w32 radius)) ≡ editOf head x y radius
 edit-kept head x y radius a b c = rw (toZ-ofZ a, toZ-ofZ b, toZ-ofZ c)
 
--- a taken edit over slices, in demand 3's words
+-- what a taken edit leaves is in demand 3's words what it reworked
 pub edit-reworks : (m : Method) (d left : PlanSlices) (e : Edit) (a : Answer) → stepOf left a ≡ editSlices m d e → a ≡ Taken
     → Reworks m (d .plan) e (rowAt (d .tables .rows)) (rowAt (left .tables .rows))
 edit-reworks m d left e a s k =
-    let same = slices-are-tables m in
-    let taken = sym (same .edit-answer d e) ∙ sym (ap (λ t. t .answer) s) ∙ k in
-    let rows = ap (λ t. t .rows) (sym (same .edit-left d e)) ∙ ap (λ t. rowAt (t .left .tables .rows)) (sym s) in
-    subst (Reworks m (d .plan) e (rowAt (d .tables .rows))) rows (edit-reworks-exactly m (planTable d) (entryOf (d .tables) e) taken .1)
+    subst (Reworks m (d .plan) e (rowAt (d .tables .rows))) (ap (λ t. rowAt (t .left .tables .rows)) (sym s))
+    (slices-rework m d e (sym (ap (λ t. t .answer) s) ∙ k))

@@ -72,12 +72,22 @@ unfolding editedRow
 row-box hasBox b own met area before after rows e = rw e
 
 module _ (r : Ready) (c : Change) (was is S : ℕ) (v : Float) where
+  -- the rows of which numberAfter takes the number
+  abbrev was-there : ℕ → Bool
+  was-there T = eqb was 1
+
+  abbrev is-there : ℕ → Bool
+  is-there T = eqb is 1
+
+  abbrev holding : ℕ → Row
+  holding T = record { byte = 0; number = v }
+
   pub number-box : S ≡ 0 → r .clipped ≡ true → v ≡ numberAfter r c was is S v
-  number-box n e = rw n (sym (ap (λ row. row .number) (row-box (r .clipped) true (c .own) (c .met) (areaOf r) (λ T. eqb was 1) (λ T. eqb is 1) (λ T. record { byte = 0; number = v }) e)))
+  number-box n e = rw n (sym (ap (λ row. row .number) (row-box (r .clipped) true (c .own) (c .met) (areaOf r) was-there is-there holding e)))
 
   pub number-open : S ≡ 0 → r .clipped ≡ false → ofBits binary64 0 ≡ numberAfter r c was is S v
   unfolding ofBits
-  number-open n e = rw n (sym (ap (λ row. row .number) (row-box (r .clipped) false (c .own) (c .met) (areaOf r) (λ T. eqb was 1) (λ T. eqb is 1) (λ T. record { byte = 0; number = v }) e)))
+  number-open n e = rw n (sym (ap (λ row. row .number) (row-box (r .clipped) false (c .own) (c .met) (areaOf r) was-there is-there holding e)))
 
   pub number-gone : (S ≡ 0 → ⊥) → (is ≡ 1 → ⊥) → ofBits binary64 0 ≡ numberAfter r c was is S v
   unfolding ofBits
@@ -85,16 +95,20 @@ module _ (r : Ready) (c : Change) (was is S : ℕ) (v : Float) where
     where
       by : (T : ℕ) → (T ≡ 0 → ⊥) → ofBits binary64 0 ≡ numberAfter r c was is T v
       by zero m = absurd (m refl)
-      by (suc T) m = sym (ap (λ row. row .number) (row-gone (r .clipped) (c .own) (c .met) (areaOf r) (λ U. eqb was 1) (λ U. eqb is 1) (λ U. record { byte = 0; number = v }) T (ne-eqb is 1 e)))
+      by (suc T) m =
+          sym (ap (λ row. row .number) (row-gone (r .clipped) (c .own) (c .met) (areaOf r) was-there is-there holding T (ne-eqb is 1 e)))
 
-  there : (b : Bool) → (S ≡ 0 → ⊥) → is ≡ 1 → reworked (c .own) (c .met) (λ T. eqb was 1) S ≡ b → cond b (areaOf r S) v ≡ numberAfter r c was is S v
+  there : (b : Bool) → (S ≡ 0 → ⊥) → is ≡ 1 → reworked (c .own) (c .met) (λ T. eqb was 1) S ≡ b
+      → cond b (areaOf r S) v ≡ numberAfter r c was is S v
   there b n e f = by S n f
     where
       by : (T : ℕ) → (T ≡ 0 → ⊥) → reworked (c .own) (c .met) (λ U. eqb was 1) T ≡ b → cond b (areaOf r T) v ≡ numberAfter r c was is T v
       by zero m f = absurd (m refl)
-      by (suc T) m f = sym (ap (λ row. row .number) (row-there (r .clipped) (c .own) (c .met) (areaOf r) (λ U. eqb was 1) (λ U. eqb is 1) (λ U. record { byte = 0; number = v }) T b (eq-eqb is 1 e) f))
+      by (suc T) m f =
+          sym (ap (λ row. row .number) (row-there (r .clipped) (c .own) (c .met) (areaOf r) was-there is-there holding T b (eq-eqb is 1 e) f))
 
-  pub number-worked : (S ≡ 0 → ⊥) → is ≡ 1 → reworked (c .own) (c .met) (λ T. eqb was 1) S ≡ true → {w : Float} → w ≡ areaOf r S → w ≡ numberAfter r c was is S v
+  pub number-worked : (S ≡ 0 → ⊥) → is ≡ 1 → reworked (c .own) (c .met) (λ T. eqb was 1) S ≡ true
+      → {w : Float} → w ≡ areaOf r S → w ≡ numberAfter r c was is S v
   number-worked n e f {w} g = g ∙ there true n e f
 
   pub number-kept : (S ≡ 0 → ⊥) → is ≡ 1 → reworked (c .own) (c .met) (λ T. eqb was 1) S ≡ false → v ≡ numberAfter r c was is S v

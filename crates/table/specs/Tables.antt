@@ -1,5 +1,5 @@
 -- What one pass leaves in the lent slices of both tables, by the bytes of the sets: the rows of an edit, and the rows worked out afresh. The
--- private functions promise these; the public calls promise the steps of `regions`, specs/Slices.antt.
+-- private functions promise these; the public calls promise the steps of `regions`, specs/Slices.antt, and of this file cite `editOf` alone.
 use Prim.Native.Nat.{ℕ, _^_}
 use mathlib.Core.List.{List}
 use lib.IntN.{ℤ}

@@ -28,7 +28,12 @@ fn write_afresh(
     exclusives: &mut [f64],
 )
     requires { ⌜ Room (plan .n) (tablesOf (now presence) (now rows) (now «exclusive_presence») (now exclusives)) ⌝ }
-    ensures { λ r. ⌜ tablesOf (now (presence .exit)) (now (rows .exit)) (now («exclusive_presence» .exit)) (now (exclusives .exit)) ≡ tablesWritten (plan .n) (afreshOver (methodOver clipped planSets) plan (now (sets .entry))) (tablesOf (now (presence .entry)) (now (rows .entry)) (now («exclusive_presence» .entry)) (now (exclusives .entry))) ⌝ }
+    ensures { λ r. ⌜
+        tablesOf (now (presence .exit)) (now (rows .exit)) (now («exclusive_presence» .exit)) (now (exclusives .exit))
+        ≡ tablesWritten (plan .n)
+        (afreshOver (methodOver clipped planSets) plan (now (sets .entry)))
+        (tablesOf (now (presence .entry)) (now (rows .entry)) (now («exclusive_presence» .entry)) (now (exclusives .entry)))
+        ⌝ }
 {
     let ground = plan.ground;
     let none = [0u8; 1024];
@@ -56,7 +61,11 @@ fn work_out(
     exclusive_presence: &mut [u8],
     exclusives: &mut [f64],
 ) -> Answer
-    ensures { λ r. ⌜ stepOf (planSlices plan (now (presence .exit)) (now (rows .exit)) (now («exclusive_presence» .exit)) (now (exclusives .exit))) r ≡ afreshSlices (methodOver clipped planSets) (planSlices plan (now (presence .entry)) (now (rows .entry)) (now («exclusive_presence» .entry)) (now (exclusives .entry))) ⌝ }
+    ensures { λ r. ⌜
+        stepOf (planSlices plan (now (presence .exit)) (now (rows .exit)) (now («exclusive_presence» .exit)) (now (exclusives .exit))) r
+        ≡ afreshSlices (methodOver clipped planSets)
+        (planSlices plan (now (presence .entry)) (now (rows .entry)) (now («exclusive_presence» .entry)) (now (exclusives .entry)))
+        ⌝ }
 {
     let lent = lent_by(
         presence.len(),
@@ -91,7 +100,11 @@ pub fn afresh(
     exclusive_presence: &mut [u8],
     exclusives: &mut [f64],
 ) -> Answer
-    ensures { λ r. ⌜ stepOf (planSlices plan (now (presence .exit)) (now (rows .exit)) (now («exclusive_presence» .exit)) (now (exclusives .exit))) r ≡ afreshSlices clippedTable (planSlices plan (now (presence .entry)) (now (rows .entry)) (now («exclusive_presence» .entry)) (now (exclusives .entry))) ⌝ }
+    ensures { λ r. ⌜
+        stepOf (planSlices plan (now (presence .exit)) (now (rows .exit)) (now («exclusive_presence» .exit)) (now (exclusives .exit))) r
+        ≡ afreshSlices clippedTable
+        (planSlices plan (now (presence .entry)) (now (rows .entry)) (now («exclusive_presence» .entry)) (now (exclusives .entry)))
+        ⌝ }
 {
     work_out(plan, true, presence, rows, exclusive_presence, exclusives)
 }
@@ -104,7 +117,11 @@ pub fn open_afresh(
     exclusive_presence: &mut [u8],
     exclusives: &mut [f64],
 ) -> Answer
-    ensures { λ r. ⌜ stepOf (planSlices plan (now (presence .exit)) (now (rows .exit)) (now («exclusive_presence» .exit)) (now (exclusives .exit))) r ≡ afreshSlices openTable (planSlices plan (now (presence .entry)) (now (rows .entry)) (now («exclusive_presence» .entry)) (now (exclusives .entry))) ⌝ }
+    ensures { λ r. ⌜
+        stepOf (planSlices plan (now (presence .exit)) (now (rows .exit)) (now («exclusive_presence» .exit)) (now (exclusives .exit))) r
+        ≡ afreshSlices openTable
+        (planSlices plan (now (presence .entry)) (now (rows .entry)) (now («exclusive_presence» .entry)) (now (exclusives .entry)))
+        ⌝ }
 {
     work_out(plan, false, presence, rows, exclusive_presence, exclusives)
 }

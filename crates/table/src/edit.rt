@@ -53,7 +53,12 @@ fn write_edited(
     exclusives: &mut [f64],
 )
     requires { ⌜ Room (plan .n) (tablesOf (now presence) (now rows) (now «exclusive_presence») (now exclusives)) × (edit .head < plan .n) ⌝ }
-    ensures { λ r. ⌜ tablesOf (now (presence .exit)) (now (rows .exit)) (now («exclusive_presence» .exit)) (now (exclusives .exit)) ≡ tablesWritten (plan .n) (editedOver clippedTable plan edit (now (earlier .entry)) (now (later .entry)) (rowAt (slicesOf (now (presence .entry)) (now (rows .entry))))) (tablesOf (now (presence .entry)) (now (rows .entry)) (now («exclusive_presence» .entry)) (now (exclusives .entry))) ⌝ }
+    ensures { λ r. ⌜
+        tablesOf (now (presence .exit)) (now (rows .exit)) (now («exclusive_presence» .exit)) (now (exclusives .exit))
+        ≡ tablesWritten (plan .n)
+        (editedOver clippedTable plan edit (now (earlier .entry)) (now (later .entry)) (rowAt (slicesOf (now (presence .entry)) (now (rows .entry)))))
+        (tablesOf (now (presence .entry)) (now (rows .entry)) (now («exclusive_presence» .entry)) (now (exclusives .entry)))
+        ⌝ }
 {
     let change = change_of(plan, edit);
     let ready = ready_of(apply(plan, edit), true);
@@ -79,7 +84,11 @@ pub fn edit_one(
     exclusive_presence: &mut [u8],
     exclusives: &mut [f64],
 ) -> Booked
-    ensures { λ r. ⌜ stepOf (planSlices (r .plan) (now (presence .exit)) (now (rows .exit)) (now («exclusive_presence» .exit)) (now (exclusives .exit))) (r .answer) ≡ editSlices clippedTable (planSlices plan (now (presence .entry)) (now (rows .entry)) (now («exclusive_presence» .entry)) (now (exclusives .entry))) edit ⌝ }
+    ensures { λ r. ⌜
+        stepOf (planSlices (r .plan) (now (presence .exit)) (now (rows .exit)) (now («exclusive_presence» .exit)) (now (exclusives .exit))) (r .answer)
+        ≡ editSlices clippedTable
+        (planSlices plan (now (presence .entry)) (now (rows .entry)) (now («exclusive_presence» .entry)) (now (exclusives .entry))) edit
+        ⌝ }
 {
     let lent = lent_by(
         presence.len(),
@@ -128,8 +137,17 @@ pub fn edit(
     exclusive_presence: &mut [u8],
     exclusives: &mut [f64],
 ) -> Booked
-    ensures { λ r. ⌜ stepOf (planSlices (r .plan) (now (presence .exit)) (now (rows .exit)) (now («exclusive_presence» .exit)) (now (exclusives .exit))) (r .answer) ≡ editSlices clippedTable (planSlices plan (now (presence .entry)) (now (rows .entry)) (now («exclusive_presence» .entry)) (now (exclusives .entry))) (editOf head x y radius) ⌝ }
-    ensures { λ r. ⌜ (r .answer ≡ Taken → Reworks clippedTable plan (editOf head x y radius) (rowAt (slicesOf (now (presence .entry)) (now (rows .entry)))) (rowAt (slicesOf (now (presence .exit)) (now (rows .exit))))) ⌝ }
+    ensures { λ r. ⌜
+        stepOf (planSlices (r .plan) (now (presence .exit)) (now (rows .exit)) (now («exclusive_presence» .exit)) (now (exclusives .exit))) (r .answer)
+        ≡ editSlices clippedTable
+        (planSlices plan (now (presence .entry)) (now (rows .entry)) (now («exclusive_presence» .entry)) (now (exclusives .entry))) (editOf head x y radius)
+        ⌝ }
+    ensures { λ r. ⌜
+        (r .answer ≡ Taken
+        → Reworks clippedTable plan (editOf head x y radius)
+        (rowAt (slicesOf (now (presence .entry)) (now (rows .entry))))
+        (rowAt (slicesOf (now (presence .exit)) (now (rows .exit)))))
+        ⌝ }
 {
     let asked = Edit {
         head: head,

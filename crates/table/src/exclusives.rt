@@ -28,9 +28,18 @@ pub(crate) fn write_exclusives(
     exclusive_presence: &mut [u8],
     exclusives: &mut [f64],
 )
-    requires { ⌜ (n ≤ 10) × (2 ^ n ≤ length (now presence)) × (2 ^ n ≤ length (now rows)) × (2 ^ n ≤ length (now «exclusive_presence»)) × (2 ^ n ≤ length (now exclusives)) ⌝ }
-    ensures { λ r. ⌜ now («exclusive_presence» .exit) ≡ writtenBytes (toExclusives .of n (rowAt (slicesOf (now (presence .entry)) (now (rows .entry))))) (2 ^ n) (now («exclusive_presence» .entry)) ⌝ }
-    ensures { λ r. ⌜ now (exclusives .exit) ≡ writtenNumbers (toExclusives .of n (rowAt (slicesOf (now (presence .entry)) (now (rows .entry))))) (2 ^ n) (now (exclusives .entry)) ⌝ }
+    requires { ⌜
+        (n ≤ 10) × (2 ^ n ≤ length (now presence)) × (2 ^ n ≤ length (now rows)) × (2 ^ n ≤ length (now «exclusive_presence»))
+        × (2 ^ n ≤ length (now exclusives))
+        ⌝ }
+    ensures { λ r. ⌜
+        now («exclusive_presence» .exit)
+        ≡ writtenBytes (toExclusives .of n (rowAt (slicesOf (now (presence .entry)) (now (rows .entry))))) (2 ^ n) (now («exclusive_presence» .entry))
+        ⌝ }
+    ensures { λ r. ⌜
+        now (exclusives .exit)
+        ≡ writtenNumbers (toExclusives .of n (rowAt (slicesOf (now (presence .entry)) (now (rows .entry))))) (2 ^ n) (now (exclusives .entry))
+        ⌝ }
 {
     copy_bytes(presence, exclusive_presence, rows_needed(n));
     to_exclusive_areas(presence, rows, exclusives, n);

@@ -22,7 +22,7 @@ pub struct Ready {
 }
 
 // The area of row `mask`, in the box or without it.
-pub fn row_area(ready: Ready, mask: usize) -> f64
+pub(crate) fn row_area(ready: Ready, mask: usize) -> f64
     ensures { λ r. ⌜ r ≡ spec.areaOf ready mask ⌝ }
 {
     let circles = ready.circles;
@@ -35,7 +35,7 @@ pub fn row_area(ready: Ready, mask: usize) -> f64
 }
 
 // What the rows of a plan are worked out from, with its box or without it.
-pub fn ready_of(plan: Plan, clipped: bool) -> Ready
+pub(crate) fn ready_of(plan: Plan, clipped: bool) -> Ready
     ensures { λ r. ⌜ spec.Of plan clipped r ⌝ }
 {
     let ground = plan.ground;
@@ -52,7 +52,7 @@ pub fn ready_of(plan: Plan, clipped: bool) -> Ready
 }
 
 // The presence bytes of a plan's sets.
-pub fn sets_of(plan: Plan) -> [u8; 1024]
+pub(crate) fn sets_of(plan: Plan) -> [u8; 1024]
     ensures { λ r. ⌜ r ≡ spec.setsWritten plan ⌝ }
 {
     let circles = circles_of(plan);

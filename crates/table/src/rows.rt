@@ -71,8 +71,16 @@ pub(crate) fn write_rows(
     rows: &mut [f64],
 )
     requires { ⌜ (count ≤ 1024) × (count ≤ length (now presence)) × (count ≤ length (now rows)) ⌝ }
-    ensures { λ r. ⌜ now (presence .exit) ≡ written (λ S. spec.rowsWritten ready change (now (earlier .entry)) (now (later .entry)) (now (presence .entry)) (now (rows .entry)) S .byte) count (now (presence .entry)) ⌝ }
-    ensures { λ r. ⌜ now (rows .exit) ≡ written (λ S. spec.rowsWritten ready change (now (earlier .entry)) (now (later .entry)) (now (presence .entry)) (now (rows .entry)) S .number) count (now (rows .entry)) ⌝ }
+    ensures { λ r. ⌜
+        now (presence .exit)
+        ≡ written (λ S. spec.rowsWritten ready change (now (earlier .entry)) (now (later .entry)) (now (presence .entry)) (now (rows .entry)) S .byte)
+        count (now (presence .entry))
+        ⌝ }
+    ensures { λ r. ⌜
+        now (rows .exit)
+        ≡ written (λ S. spec.rowsWritten ready change (now (earlier .entry)) (now (later .entry)) (now (presence .entry)) (now (rows .entry)) S .number)
+        count (now (rows .entry))
+        ⌝ }
 {
     let clipped = ready.clipped;
     let mut mask: usize = 0;

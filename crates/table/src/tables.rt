@@ -40,7 +40,12 @@ pub(crate) fn write_tables(
     exclusives: &mut [f64],
 )
     requires { ⌜ Room (ready .n) (tablesOf (now presence) (now rows) (now «exclusive_presence») (now exclusives)) ⌝ }
-    ensures { λ r. ⌜ tablesOf (now (presence .exit)) (now (rows .exit)) (now («exclusive_presence» .exit)) (now (exclusives .exit)) ≡ tablesWritten (ready .n) (rowsWritten ready change (now (earlier .entry)) (now (later .entry)) (now (presence .entry)) (now (rows .entry))) (tablesOf (now (presence .entry)) (now (rows .entry)) (now («exclusive_presence» .entry)) (now (exclusives .entry))) ⌝ }
+    ensures { λ r. ⌜
+        tablesOf (now (presence .exit)) (now (rows .exit)) (now («exclusive_presence» .exit)) (now (exclusives .exit))
+        ≡ tablesWritten (ready .n)
+        (rowsWritten ready change (now (earlier .entry)) (now (later .entry)) (now (presence .entry)) (now (rows .entry)))
+        (tablesOf (now (presence .entry)) (now (rows .entry)) (now («exclusive_presence» .entry)) (now (exclusives .entry)))
+        ⌝ }
 {
     let count = rows_needed(ready.n);
     write_rows(ready, change, earlier, later, count, presence, rows);

@@ -17,19 +17,26 @@ use Rattle.table.proofs.afresh.work_out.Tie as tie
 ten : (c : tie.Start) → length (c .args .plan .heads) ≡ 10
 ten c = search length-of-values
 
+abbrev entry : tie.After-check-call → tie.Start
+entry c = c .before .before .before .before .before .before
+
+abbrev checked : tie.After-enum-told → tie.After-check-call
+checked c = c .before .before
+
+abbrev taken : tie.After-slice-known8 → tie.After-enum-told
+taken c = c .before .before .before .before .before .before .before .before .before .before .before .before .before .before .before
+
 -- the plan and the slices handed in
-given : tie.Start → PlanSlices
+abbrev given : tie.Start → PlanSlices
 given c = let a = c .args in planSlices (a .plan) (a .presence .now) (a .rows .now) (a .exclusive-presence .now) (a .exclusives .now)
 
 -- the answer is that of the checks
-answered : (c : tie.After-check-call) → c .check-call .result ≡ afreshAnswer (given (c .before .before .before .before .before .before))
-unfolding given
-answered c = c .check-call .ensures ∙ ap (callAnswer (c .before .before .before .before .before .before .args .plan) None) (c .before .lent-by .ensures)
+answered : (c : tie.After-check-call) → c .check-call .result ≡ afreshAnswer (given (entry c))
+answered c = c .check-call .ensures ∙ ap (callAnswer (entry c .args .plan) None) (c .before .lent-by .ensures)
 
 -- a taken call has room for its rows
-room : (c : tie.After-enum-told) → Room (given (c .before .before .before .before .before .before .before .before) .plan .n) (given (c .before .before .before .before .before .before .before .before) .tables)
-unfolding given
-room c = afresh-room (given (c .before .before .before .before .before .before .before .before)) (ten (c .before .before .before .before .before .before .before .before)) (sym (answered (c .before .before)) ∙ c .enum-told .given .1)
+room : (c : tie.After-enum-told) → let d = given (entry (checked c)) in Room (d .plan .n) (d .tables)
+room c = let s = entry (checked c) in afresh-room (given s) (ten s) (sym (answered (checked c)) ∙ c .enum-told .given .1)
 
 lent-by-requires : tie.Need-lent-by-requires
 lent-by-requires c κs = search needs
@@ -44,7 +51,6 @@ sets-of-requires : tie.Need-sets-of-requires
 sets-of-requires c κs = search needs
 
 write-afresh-requires : tie.Need-write-afresh-requires
-unfolding given
 write-afresh-requires c κs = room (c .before .before .before .before .before .before)
 
 enum-known-answer : tie.Need-enum-known-answer
@@ -63,19 +69,17 @@ same-length-4 : tie.Need-same-length-4
 same-length-4 c = search needs
 
 returns : tie.Need-returns
-unfolding given
 returns c =
-    let s = c .before .before .before .before .before .before .before .before .before .before .before .before .before .before .before .before .before .before .before .before .before .before .before in
-    let p = s .args .plan in
+    let t = taken c in
+    let s = entry (checked t) in
     let sets = c .before .before .before .before .before .before .before .before .before .before .before .before .before .before .sets-of in
-    let say = sets-say p (ten s) (room (c .before .before .before .before .before .before .before .before .before .before .before .before .before .before .before) .count) in
-    afresh-step (s .args .clipped) planSets (given s) (sets .result) _ (sym (answered (c .before .before .before .before .before .before .before .before .before .before .before .before .before .before .before .before .before)) ∙ c .before .before .before .before .before .before .before .before .before .before .before .before .before .before .before .enum-told .given .1)
+    let say = sets-say (s .args .plan) (ten s) (room t .count) in
+    afresh-step (s .args .clipped) planSets (given s) (sets .result) _ (sym (answered (checked t)) ∙ t .enum-told .given .1)
     (λ S h. ap (λ l. stands l S) (sets .ensures) ∙ say S h) (c .before .before .before .before .before .before .before .before .write-afresh .ensures)
 
 returns-2 : tie.Need-returns-2
-unfolding given
 returns-2 c =
-    let s = c .before .before .before .before .before .before .before .before .before in
+    let s = entry (c .before .before .before) in
     afresh-refused (methodOver (s .args .clipped) planSets) (given s) _ _ (sym (answered (c .before .before .before)) ∙ c .before .answer .given .1)
 
 pub work-out-spec : {M : Type 1} → statement M

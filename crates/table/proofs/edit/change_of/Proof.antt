@@ -2,7 +2,7 @@ use borrow.Author.Needs.{needs}
 use mathlib.Core.Path.{_≡_, ap₂, _∙_}
 use native.Mathlib.Omega.{arith}
 use Rattle.masks.specs.Operations.{shifted-is}
-use Rattle.plan.proofs.Conditions.{kept}
+use Rattle.heads.proofs.Signed.{read-back}
 use Rattle.table.proofs.edit.change_of.Statement.{statement}
 use Rattle.table.proofs.edit.change_of.Tie as tie
 
@@ -19,7 +19,7 @@ returns c =
     let e = s .args .edit in
     let told = c .before .struct-told .given in
     ap₂ (λ own met. record { own = own; met = met }) own
-    (c .met-by .ensures ∙ simp (kept (e .x) (told .1 .0 .1), kept (e .y) (told .1 .1 .0 .1), kept (e .radius) (told .1 .1 .1 .0 .1)))
+    (c .met-by .ensures ∙ simp (read-back (e .x) (told .1 .0 .1), read-back (e .y) (told .1 .1 .0 .1), read-back (e .radius) (told .1 .1 .1 .0 .1)))
 
 pub change-of-spec : {M : Type 1} → statement M
 change-of-spec = tie.close (tie.spec shl-t6 met-by-requires returns)

@@ -18,17 +18,26 @@ use Rattle.table.proofs.edit.edit_one.Tie as tie
 ten : (c : tie.Start) → length (c .args .plan .heads) ≡ 10
 ten c = search length-of-values
 
+abbrev entry : tie.After-decide → tie.Start
+entry c = c .before .before .before .before .before .before
+
+abbrev decided : tie.After-enum-told → tie.After-decide
+decided c = c .before .before
+
+abbrev taken : tie.After-slice-known8 → tie.After-enum-told
+taken c = c .before .before .before .before .before .before .before .before .before .before .before .before .before .before .before .before .before .before
+
 -- the plan and the slices handed in
 abbrev given : tie.Start → PlanSlices
 given c = let a = c .args in planSlices (a .plan) (a .presence .now) (a .rows .now) (a .exclusive-presence .now) (a .exclusives .now)
 
 -- the answer is that of the checks
-answered : (c : tie.After-decide) → c .decide .result ≡ sliceAnswer (given (c .before .before .before .before .before .before)) (c .before .before .before .before .before .before .args .edit)
-answered c = c .decide .ensures ∙ ap (editAnswer (c .before .before .before .before .before .before .args .plan) (c .before .before .before .before .before .before .args .edit)) (c .before .lent-by .ensures)
+answered : (c : tie.After-decide) → c .decide .result ≡ sliceAnswer (given (entry c)) (entry c .args .edit)
+answered c = let a = entry c .args in c .decide .ensures ∙ ap (editAnswer (a .plan) (a .edit)) (c .before .lent-by .ensures)
 
 -- a taken edit has room for its rows, and its head is one of the plan's
-room : (c : tie.After-enum-told) → Room (given (c .before .before .before .before .before .before .before .before) .plan .n) (given (c .before .before .before .before .before .before .before .before) .tables) × (c .before .before .before .before .before .before .before .before .args .edit .head < c .before .before .before .before .before .before .before .before .args .plan .n)
-room c = edit-room (given (c .before .before .before .before .before .before .before .before)) (c .before .before .before .before .before .before .before .before .args .edit) (ten (c .before .before .before .before .before .before .before .before)) (sym (answered (c .before .before)) ∙ c .enum-told .given .1)
+room : (c : tie.After-enum-told) → let s = entry (decided c) in Room (s .args .plan .n) (given s .tables) × (s .args .edit .head < s .args .plan .n)
+room c = let s = entry (decided c) in edit-room (given s) (s .args .edit) (ten s) (sym (answered (decided c)) ∙ c .enum-told .given .1)
 
 lent-by-requires : tie.Need-lent-by-requires
 lent-by-requires c κs = search needs
@@ -68,15 +77,17 @@ same-length-4 c = search needs
 
 returns : tie.Need-returns
 returns c =
-    let s = c .before .before .before .before .before .before .before .before .before .before .before .before .before .before .before .before .before .before .before .before .before .before .before .before .before .before in
+    let t = taken c in
+    let s = entry (decided t) in
     let p = s .args .plan in
     let e = s .args .edit in
-    let few = room (c .before .before .before .before .before .before .before .before .before .before .before .before .before .before .before .before .before .before) .0 .count in
-    let next = c .before .before .before .before .before .before .before .before .before .before .before .before .before .before .before .before .before .apply in
-    let earlier = c .before .before .before .before .before .before .before .before .before .before .before .before .before .before .before .before .sets-of in
-    let later = c .before .before .before .before .before .before .before .before .before .before .before .before .before .before .before .sets-of2 in
+    let few = room t .0 .count in
+    let found = c .before .before .before .before .before .before .before .before .before .before .before .before .before .before .before in
+    let next = found .before .before .apply in
+    let earlier = found .before .sets-of in
+    let later = found .sets-of2 in
     let many = length-set (p .heads) (e .head) (headOf e) ∙ ten s in
-    edit-step planSets (given s) e (earlier .result) (later .result) (next .result) _ (sym (answered (c .before .before .before .before .before .before .before .before .before .before .before .before .before .before .before .before .before .before .before .before)) ∙ c .before .before .before .before .before .before .before .before .before .before .before .before .before .before .before .before .before .before .enum-told .given .1)
+    edit-step planSets (given s) e (earlier .result) (later .result) (next .result) _ (sym (answered (decided t)) ∙ t .enum-told .given .1)
     (λ S h. ap (λ l. stands l S) (earlier .ensures) ∙ sets-say p (ten s) few S h)
     (λ S h. ap (λ l. stands l S) (later .ensures ∙ ap setsWritten (next .ensures)) ∙ sets-say (applied p e) many few S h)
     (next .ensures)
@@ -84,7 +95,7 @@ returns c =
 
 returns-2 : tie.Need-returns-2
 returns-2 c =
-    let s = c .before .before .before .before .before .before .before .before .before in
+    let s = entry (c .before .before .before) in
     edit-step-refused clippedTable (given s) (s .args .edit) _ _ (sym (answered (c .before .before .before)) ∙ c .before .answer .given .1)
 
 pub edit-one-spec : {M : Type 1} → statement M

@@ -14,12 +14,15 @@ use Rattle.table.proofs.Calls.{serves, edited-written}
 use Rattle.table.proofs.edit.write_edited.Statement.{statement}
 use Rattle.table.proofs.edit.write_edited.Tie as tie
 
+abbrev entry : tie.After-ready-of → tie.Start
+entry c = c .before .before .before .before .before .before .before
+
 -- the slices handed in
 abbrev given : tie.Start → LentTables
 given c = let a = c .args in tablesOf (a .presence .now) (a .rows .now) (a .exclusive-presence .now) (a .exclusives .now)
 
 -- what the rows are worked out from is made of the plan after the edit
-made : (c : tie.After-ready-of) → Of (applied (c .before .before .before .before .before .before .before .args .plan) (c .before .before .before .before .before .before .before .args .edit)) true (c .ready-of .result)
+made : (c : tie.After-ready-of) → let a = entry c .args in Of (applied (a .plan) (a .edit)) true (c .ready-of .result)
 made c = subst (λ p. Of p true (c .ready-of .result)) (c .before .apply .ensures) (c .ready-of .ensures)
 
 change-of-requires : tie.Need-change-of-requires
@@ -32,7 +35,7 @@ ready-of-requires : tie.Need-ready-of-requires
 ready-of-requires c κs = search needs
 
 write-tables-requires : tie.Need-write-tables-requires
-write-tables-requires c κs = subst (λ n. Room n (given (c .before .before .before .before .before .before .before .before .before .before .before))) (sym (made (c .before .before .before .before) .n)) (c .before .before .before .before .before .before .before .before .before .before .before .pre .0)
+write-tables-requires c κs = let r = c .before .before .before .before in subst (λ n. Room n (given (entry r))) (sym (made r .n)) (entry r .pre .0)
 
 same-length : tie.Need-same-length
 same-length c = search needs
@@ -48,10 +51,11 @@ same-length-4 c = search needs
 
 returns : tie.Need-returns
 returns c =
-    let s = c .before .before .before .before .before .before .before .before .before .before .before .before .before .before .before .before .before .before .before .before in
+    let ready = c .before .before .before .before .before .before .before .before .before .before .before .before .before in
+    let s = entry ready in
     let a = s .args in
-    let of = made (c .before .before .before .before .before .before .before .before .before .before .before .before .before) in
-    let r = c .before .before .before .before .before .before .before .before .before .before .before .before .before .ready-of .result in
+    let of = made ready in
+    let r = ready .ready-of .result in
     c .before .before .before .before .before .before .before .before .write-tables .ensures
     ∙ ap₂ (λ n change. tablesWritten n (rowsWritten r change (a .earlier .now) (a .later .now) (a .presence .now) (a .rows .now)) (given s))
     (of .n) (c .before .before .before .before .before .before .before .before .before .before .before .before .before .before .before .change-of .ensures)

@@ -92,7 +92,8 @@ loop-again c =
     (row-cong (a .ready .clipped) (a .change .own) (a .change .met) (areaOf (a .ready)) (areaOf (a .ready)) _ (stands (a .earlier .now)) _
     (stands (a .later .now)) _ was (l .mask) refl refl refl kept) in
     let w = c .row-byte .ensures
-    ∙ byte-after (a .ready .clipped) (a .change .own) (a .change .met) (areaOf (a .ready)) (stands (a .earlier .now)) (stands (a .later .now)) was _ (l .mask) refl in (
+    ∙ byte-after (a .ready .clipped) (a .change .own) (a .change .met) (areaOf (a .ready)) (stands (a .earlier .now))
+    (stands (a .later .now)) was _ (l .mask) refl in (
       omega arith,
       l .inv .1,
       rw (l .inv .2) (write-next (λ S. rowOf s S .byte) (l .mask) (a .presence .now) _ 0 (omega arith) w),
