@@ -2,7 +2,7 @@
 use mathlib.Core.Path.{_≡_, refl, sym, ap, _∙_, subst}
 use mathlib.Core.Logic.{_⊎_, inl, inr}
 use mathlib.Core.Bool.{Bool, true, false, cond, true≢false}
-use mathlib.Core.List.{List, [], _∷_, _++_}
+use mathlib.Core.List.{List, [], _++_}
 use Prim.Native.Nat.{ℕ, zero, suc, _+_, _-_, _*_, _≤_, _<_}
 use native.Mathlib.Omega.{arith}
 use lib.ListN.{length, getD, replicate, length-append, length-replicate, getD-replicate}
@@ -15,49 +15,28 @@ use Rattle.lists.specs.Every.{Every, every-append, every-map}
 use Rattle.intersections.specs.Members.{headsOf}
 use Rattle.intersections.specs.Counts.{heads-below}
 use Rattle.plan.specs.declared.Plan.{Plan}
-use Rattle.areas.specs.Scatter.{entriesOf, boxEntries, put, scatter, scatterClipped}
+use Rattle.areas.specs.Scatter.{entriesOf, boxEntries, scatter, scatterClipped}
 use Rattle.areas.specs.Open.{openGradientRow}
 use Rattle.drawn.specs.Drawn.{boxOf}
 use Rattle.areas.specs.Clipped.{clippedGradientRow}
 use Rattle.areas.specs.Gradients.{ScattersClipped, boxSlopes, clippedGradients, openGradients, ClippedGradients, OpenGradients}
-use Rattle.areas.proofs.Scattering.{Increasing, increasing-append, heads-increasing, entries-every, entries-below, entries-increasing, entries-many, put-other, put-at, put-length, heads-in, Stands, entries-stand, stand-append, box-stands}
+use Rattle.areas.proofs.Scattering.{Increasing, heads-increasing, entries-every, entries-many, places-increasing, places-below, put-other}
+use Rattle.areas.proofs.Scattering.{put-at, put-length, heads-in, Stands, entries-stand, stand-append, box-stands}
 
 -- ---- scattering in a box
-
-box-increasing : (n : ℕ) → Increasing (boxEntries n)
-box-increasing n = ((omega arith, (omega arith, (omega arith, tt))), ((omega arith, (omega arith, tt)), ((omega arith, tt), (tt, tt))))
-
-box-from : (n : ℕ) → Every (λ p. n * 3 ≤ p) (boxEntries n)
-box-from n = (omega arith, (omega arith, (omega arith, (omega arith, tt))))
 
 -- a place below the box's is none of them
 box-past : (n p : ℕ) → p < n * 3 → Every (λ q. p ≡ q → ⊥) (boxEntries n)
 box-past n p h = (λ d. omega arith, (λ d. omega arith, (λ d. omega arith, (λ d. omega arith, tt))))
 
-box-below : (n : ℕ) → Every (λ p. p < n * 3 + 4) (boxEntries n)
-box-below n = (omega arith, (omega arith, (omega arith, (omega arith, tt))))
-
--- the places of a set's heads and of the box, among n heads
 module _ (n : ℕ) (js : List ℕ) (below : Every (λ j. j < n) js) (up : Increasing js) where
-  places : List ℕ
-  places = entriesOf js ++ boxEntries n
-
-  places-increasing : Increasing places
-  unfolding places
-  places-increasing = increasing-append (n * 3) (entriesOf js) (boxEntries n) (entries-increasing js up) (box-increasing n) (entries-below n js below) (box-from n)
-
-  places-below : Every (λ p. p < n * 3 + 4) places
-  unfolding places
-  places-below =
-      every-append (λ p. p < n * 3 + 4) (entriesOf js) (boxEntries n) (every-map (entriesOf js) (λ p h. omega (arith, h)) (entries-below n js below)) (box-below n)
-
   -- the entry that stands at p
   put-stands : (g : List Float) (q p : ℕ) → length g ≡ length js * 3 + 4 → Stands (entriesOf js ++ boxEntries n) q p
       → getD (scatterClipped js n g) p nan ≡ getD g q nan
-  unfolding scatterClipped places
+  unfolding scatterClipped
   put-stands g q p lg at =
       rw (at .1)
-      (put-at (entriesOf js ++ boxEntries n) g (replicate (n * 3 + 4) zero64) (n * 3 + 4) q nan places-increasing places-below
+      (put-at (entriesOf js ++ boxEntries n) g (replicate (n * 3 + 4) zero64) (n * 3 + 4) q nan (places-increasing n js below up) (places-below n js below)
       (length-replicate (n * 3 + 4) zero64) (omega (arith, lg, entries-many js, length-append (entriesOf js) (boxEntries n))) (at .0))
 
 clipped-many : (n : ℕ) (js : List ℕ) (g : List Float) → length (scatterClipped js n g) ≡ n * 3 + 4
@@ -65,11 +44,13 @@ unfolding scatterClipped
 clipped-many n js g = put-length (entriesOf js ++ boxEntries n) g (replicate (n * 3 + 4) zero64) ∙ length-replicate (n * 3 + 4) zero64
 
 -- the entries of a head that is not among those scattered
-clipped-elsewhere : (n : ℕ) (js : List ℕ) (g : List Float) (j i : ℕ) → j < n → i < 3 → Every (λ j'. j ≡ j' → ⊥) js → getD (scatterClipped js n g) (j * 3 + i) nan ≡ zero64
+clipped-elsewhere : (n : ℕ) (js : List ℕ) (g : List Float) (j i : ℕ) → j < n → i < 3 → Every (λ j'. j ≡ j' → ⊥) js
+    → getD (scatterClipped js n g) (j * 3 + i) nan ≡ zero64
 unfolding scatterClipped
 clipped-elsewhere n js g j i h l e =
     put-other (entriesOf js ++ boxEntries n) g (replicate (n * 3 + 4) zero64) (j * 3 + i) nan
-    (every-append (λ q. j * 3 + i ≡ q → ⊥) (entriesOf js) (boxEntries n) (entries-every (λ j'. j ≡ j' → ⊥) (λ q. j * 3 + i ≡ q → ⊥) other js e) (box-past n (j * 3 + i) (omega arith)))
+    (every-append (λ q. j * 3 + i ≡ q → ⊥) (entriesOf js) (boxEntries n) (entries-every (λ j'. j ≡ j' → ⊥) (λ q. j * 3 + i ≡ q → ⊥) other js e)
+    (box-past n (j * 3 + i) (omega arith)))
     ∙ getD-replicate (n * 3 + 4) (j * 3 + i) zero64 nan (omega arith)
   where
     other : (j' : ℕ) → (j ≡ j' → ⊥) → (j * 3 + i ≡ j' * 3 → ⊥) × ((j * 3 + i ≡ j' * 3 + 1 → ⊥) × (j * 3 + i ≡ j' * 3 + 2 → ⊥))
@@ -80,8 +61,10 @@ scatters-clipped n S g lg = record {
   many = clipped-many n (headsOf n S) g;
   own = λ k i h l. put-stands n (headsOf n S) (heads-below n S) (heads-increasing n S) g (k * 3 + i) (getD (headsOf n S) k 0 * 3 + i) lg
       (stand-append (entriesOf (headsOf n S)) (boxEntries n) (k * 3 + i) (getD (headsOf n S) k 0 * 3 + i) (entries-stand (headsOf n S) k h i l));
-  box = λ i l. put-stands n (headsOf n S) (heads-below n S) (heads-increasing n S) g (length (headsOf n S) * 3 + i) (n * 3 + i) lg (box-stands (headsOf n S) n i l);
-  elsewhere = λ j i h l e. clipped-elsewhere n (headsOf n S) g j i h l (every-map (headsOf n S) (λ j' t d. true≢false (sym t ∙ ap (inSet S) (sym d) ∙ e)) (heads-in n S));
+  box = λ i l. put-stands n (headsOf n S) (heads-below n S) (heads-increasing n S) g (length (headsOf n S) * 3 + i) (n * 3 + i) lg
+      (box-stands (headsOf n S) n i l);
+  elsewhere = λ j i h l e. clipped-elsewhere n (headsOf n S) g j i h l
+      (every-map (headsOf n S) (λ j' t d. true≢false (sym t ∙ ap (inSet S) (sym d) ∙ e)) (heads-in n S));
 }
 
 -- ---- rows
@@ -89,7 +72,9 @@ scatters-clipped n S g lg = record {
 -- row 0: the box's slopes after the entries of n heads
 module _ (n : ℕ) (a : Float) where
   zero-box : (i : ℕ) → i < 4 → getD (scatterClipped [] n (boxSlopes a)) (n * 3 + i) nan ≡ getD (boxSlopes a) i nan
-  zero-box i l = put-stands n [] tt tt (boxSlopes a) i (n * 3 + i) refl (subst (λ (q : ℕ). Stands (entriesOf [] ++ boxEntries n) q (n * 3 + i)) first (box-stands [] n i l))
+  zero-box i l =
+      put-stands n [] tt tt (boxSlopes a) i (n * 3 + i) refl
+      (subst (λ (q : ℕ). Stands (entriesOf [] ++ boxEntries n) q (n * 3 + i)) first (box-stands [] n i l))
     where
       first : length {A = ℕ} [] * 3 + i ≡ i
       first = omega arith

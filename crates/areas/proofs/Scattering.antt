@@ -70,6 +70,22 @@ unfolding entriesOf
 entries-many [] = refl
 entries-many (j ∷ js) = omega (arith, entries-many js)
 
+-- the places of a set's heads and of the box's four, among n heads
+module _ (n : ℕ) (js : List ℕ) (below : Every (λ j. j < n) js) where
+  pub places-increasing : Increasing js → Increasing (entriesOf js ++ boxEntries n)
+  places-increasing up =
+      increasing-append (n * 3) (entriesOf js) (boxEntries n)
+      (entries-increasing js up)
+      ((omega arith, (omega arith, (omega arith, tt))), ((omega arith, (omega arith, tt)), ((omega arith, tt), (tt, tt))))
+      (entries-below n js below)
+      (omega arith, (omega arith, (omega arith, (omega arith, tt))))
+
+  pub places-below : Every (λ p. p < n * 3 + 4) (entriesOf js ++ boxEntries n)
+  places-below =
+      every-append (λ p. p < n * 3 + 4) (entriesOf js) (boxEntries n)
+      (every-map (entriesOf js) (λ p h. omega (arith, h)) (entries-below n js below))
+      (omega arith, (omega arith, (omega arith, (omega arith, tt))))
+
 -- the entry i of position k stands at the entry i of its head
 pub entry-at : (js : List ℕ) (k i : ℕ) → k < length js → i < 3 → getD (entriesOf js) (k * 3 + i) 0 ≡ getD js k 0 * 3 + i
 unfolding entriesOf

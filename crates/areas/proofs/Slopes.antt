@@ -23,7 +23,9 @@ use Rattle.inside.specs.Breaks.{breaks}
 use Rattle.lists.specs.Lists.{overPairs}
 use Rattle.inside.specs.Parts.{summed}
 use Rattle.clip.specs.Area.{emptyBox}
-use Rattle.clip.specs.Gradient.{WithGradient, with-gradient, subArcByDifferences, partSlopes, subArcWithGradient, addPartWithGradient, clippedArcIntegralWithGradient, addClippedArcWithGradient, addClippedArcsWithGradient, moved, edgeSlopes, addSpanWithGradient, bottomEdge, rightEdge, topEdge, leftEdge, addEdgesWithGradient, clippedWithGradient}
+use Rattle.clip.specs.Gradient.{WithGradient, with-gradient, subArcByDifferences, partSlopes, subArcWithGradient, addPartWithGradient}
+use Rattle.clip.specs.Gradient.{clippedArcIntegralWithGradient, addClippedArcWithGradient, addClippedArcsWithGradient, moved, edgeSlopes}
+use Rattle.clip.specs.Gradient.{addSpanWithGradient, bottomEdge, rightEdge, topEdge, leftEdge, addEdgesWithGradient, clippedWithGradient}
 use Rattle.areas.proofs.Naming.{own, Below, has-own, has-head, same-circle}
 use Rattle.lists.proofs.Folds.{pairs-related, fold-related}
 use Rattle.areas.proofs.Scattering.{Increasing, Scattered, Stands, StandFrom, stands-first, entry-changed}
@@ -46,7 +48,8 @@ module _ (ps : List ℕ) (out : List Float) (increasing : Increasing ps) (inside
       → Scattered ps out (addAt (subAt (addAt g off a) (off + 1) b) (off + 2) c) (addAt (subAt (addAt G off' a) (off' + 1) b) (off' + 2) c)
   three-kept off off' a b c g G at s =
       add-kept (off + 2) (off' + 2) c (subAt (addAt g off a) (off + 1) b) (subAt (addAt G off' a) (off' + 1) b) (at 2 (omega arith))
-      (sub-kept (off + 1) (off' + 1) b (addAt g off a) (addAt G off' a) (at 1 (omega arith)) (add-kept off off' a g G (stands-first ps 3 off off' (omega arith) at) s))
+      (sub-kept (off + 1) (off' + 1) b (addAt g off a) (addAt G off' a) (at 1 (omega arith))
+      (add-kept off off' a g G (stands-first ps 3 off off' (omega arith) at) s))
 
   -- ---- the parts of an arc
 
@@ -92,9 +95,11 @@ module _ (ps : List ℕ) (out : List Float) (increasing : Increasing ps) (inside
     edge-kept e l g G s =
         moved-kept (e .upright) (at + 3) (at' + 3) _ _ _ (four 3 (omega arith))
         (add-kept (at + 2) (at' + 2) _ _ _ (four 2 (omega arith))
-        (moved-kept (e .outward) _ _ l g G (stands-if (e .upright) at (at + 1) at' (at' + 1) (stands-first ps 4 at at' (omega arith) four) (four 1 (omega arith))) s))
+        (moved-kept (e .outward) _ _ l g G (stands-if (e .upright) at (at + 1) at' (at' + 1) (stands-first ps 4 at at' (omega arith) four)
+        (four 1 (omega arith))) s))
 
-    span-kept : (e : Edge) (l : List Interval) (s t : WithGradient) → Both ps out s t → Both ps out (addSpanWithGradient e at s l) (addSpanWithGradient e at' t l)
+    span-kept : (e : Edge) (l : List Interval) (s t : WithGradient) → Both ps out s t
+        → Both ps out (addSpanWithGradient e at s l) (addSpanWithGradient e at' t l)
     unfolding addSpanWithGradient
     span-kept e [] s t r = r
     span-kept e (i ∷ l) s t r =

@@ -12,7 +12,8 @@ use Rattle.drawn.specs.Drawn.{boxOf}
 use Rattle.boundary.specs.Outline.{outline}
 use Rattle.clip.specs.Area.{clippedArea}
 use Rattle.clip.specs.Gradient.{WithGradient, clippedGradient}
-use Rattle.regions.specs.Table.{Exclusives, Method, planMembers, areaAt}
+use Rattle.regions.specs.Edit.{present, afreshRow}
+use Rattle.regions.specs.Table.{Exclusives, Method, planMembers, areaAt, afresh}
 
 -- the area in a box of one member alone comes from its full circle
 pub clipped-alone : (box : Bounds) (c : Circle) (ps qs : List Point)
@@ -31,6 +32,12 @@ clippedMethod sets exclusives =
       sets = sets;
       exclusives = exclusives;
     }
+
+-- "Row 0 has byte 1 and the box area."
+pub clipped-row-zero : (sets : Plan → ℕ → Bool) (exclusives : Exclusives) (p : Plan)
+    → afresh (clippedMethod sets exclusives) p 0 ≡ present (area (boxOf (p .ground)))
+unfolding afreshRow
+clipped-row-zero sets exclusives p = refl
 
 -- the area of row S and its gradient by position: three entries a member, in the order of the members, then the box's four
 abbrev pub clippedGradientRow : Plan → ℕ → WithGradient

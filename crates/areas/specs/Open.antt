@@ -10,7 +10,8 @@ use Rattle.geometry.specs.declared.point.Point.{Point}
 use Rattle.plan.specs.declared.Plan.{Plan}
 use Rattle.boundary.specs.Outline.{outline}
 use Rattle.outline.specs.Area.{openArea, openGradient}
-use Rattle.regions.specs.Table.{Exclusives, Method, planMembers, areaAt}
+use Rattle.regions.specs.Edit.{absent, afreshRow}
+use Rattle.regions.specs.Table.{Exclusives, Method, planMembers, areaAt, afresh}
 
 -- the open area of one member alone comes from its full circle
 pub open-alone : (c : Circle) (ps qs : List Point) → openArea (record { circle = c; points = ps } ∷ []) ≡ openArea (record { circle = c; points = qs } ∷ [])
@@ -28,6 +29,11 @@ openMethod sets exclusives =
       sets = sets;
       exclusives = exclusives;
     }
+
+-- without a box row 0 is absent
+pub open-row-zero : (sets : Plan → ℕ → Bool) (exclusives : Exclusives) (p : Plan) → afresh (openMethod sets exclusives) p 0 ≡ absent
+unfolding afreshRow
+open-row-zero sets exclusives p = refl
 
 -- the gradient of row S by position: three entries a member, in the order of the members
 abbrev pub openGradientRow : Plan → ℕ → List Float

@@ -62,7 +62,16 @@ module _ (c : Circle) (S j : ℕ) (l : List IntersectionPoint) (q : Intersection
             many = en ∙ rw (known, b, points-with S j l q e, b, length-append (pointsFor l S j) (q .point ∷ []), h .many);
             angles =
                 ea
-                ∙ rw (known, b, points-with S j l q e, b, map-append (angleAbout c) (pointsFor l S j) (q .point ∷ []), sorted-push (map (angleAbout c) (pointsFor l S j)) (angleAbout c (q .point)), ex, h .angles);
+                ∙ rw (
+                  known,
+                  b,
+                  points-with S j l q e,
+                  b,
+                  map-append (angleAbout c) (pointsFor l S j) (q .point ∷ []),
+                  sorted-push (map (angleAbout c) (pointsFor l S j)) (angleAbout c (q .point)),
+                  ex,
+                  h .angles,
+                );
           }
       by false b =
           record {

@@ -20,7 +20,8 @@ use Rattle.geometry.specs.declared.point.Point.{Point}
 use Rattle.intersections.specs.Members.{Member, circlesOf}
 use Rattle.boundary.specs.declared.arcs.BoundaryArc.{BoundaryArc}
 use Rattle.boundary.specs.NoArc.{NoneOf, OnePointNoArc}
-use Rattle.boundary.specs.Outline.{gap, collapsed, owned, pointAt, probe, fullCircle, between, angleAbout, arcFrom, arcsAt, anglesOf, outlineFrom, outline}
+use Rattle.boundary.specs.Outline.{gap, collapsed, owned, pointAt, probe, fullCircle, between, angleAbout, arcFrom, arcsAt, anglesOf}
+use Rattle.boundary.specs.Outline.{outlineFrom, outline}
 use Rattle.boundary.specs.Sort.{insert, sortOnto, sorted}
 
 opposite-signs : (x : Float) → Finite x → (negative x && negative (neg x)) ≡ false
@@ -31,7 +32,7 @@ opposite-signs (fin true m e) f = refl
 opposite-signs (fin false m e) f = refl
 
 -- a finite float less itself is +0
-less-itself : (x : Float) → Finite x → sub binary64 x x ≡ signedZero false
+pub less-itself : (x : Float) → Finite x → sub binary64 x x ≡ signedZero false
 unfolding sub
 less-itself x f =
     rw (sym (opposite-signs x f)) (add-zero-sum f (neg-finite f) (omega (arith, neg-plus f, neg-minus f)))
@@ -88,27 +89,44 @@ later-own cs j (m ∷ ms) =
     (every-map (arcsAt cs j (m .circle) (anglesOf m)) (λ arc e. omega (arith, e)) (arcs-own cs j (m .circle) (anglesOf m)))
     (every-map (outlineFrom cs (suc j) ms) (λ arc h. omega (arith, h)) (later-own cs (suc j) ms))
 
-none-from : (cs : List Circle) (j : ℕ) (before after : List Member) (m : Member) → length (m .points) ≡ 1
+-- A member without arcs has none in the outline from position j on, where it stands after those of `before`.
+none-from : (cs : List Circle) (j : ℕ) (before after : List Member) (m : Member) → arcsAt cs (j + length before) (m .circle) (anglesOf m) ≡ []
     → NoneOf (j + length before) (outlineFrom cs j (before ++ (m ∷ after)))
 unfolding outlineFrom
 none-from cs j [] after m e =
-    rw (member-no-arc cs j m e) (every-map (outlineFrom cs (suc j) after) (λ arc h d. omega (arith, h, d)) (later-own cs (suc j) after))
+    rw (here e) (every-map (outlineFrom cs (suc j) after) (λ arc h d. omega (arith, h, d)) (later-own cs (suc j) after))
+  where
+    here : arcsAt cs (j + 0) (m .circle) (anglesOf m) ≡ [] → arcsAt cs j (m .circle) (anglesOf m) ≡ []
+    here e = let first : j + 0 ≡ j = omega arith in subst (λ (k : ℕ). arcsAt cs k (m .circle) (anglesOf m) ≡ []) first e
 none-from cs j (m' ∷ before) after m e =
     every-append (λ arc. arc .circle ≡ j + suc (length before) → ⊥) (arcsAt cs j (m' .circle) (anglesOf m')) (outlineFrom cs (suc j) (before ++ (m ∷ after)))
     (every-map (arcsAt cs j (m' .circle) (anglesOf m')) (λ arc h d. omega (arith, h, d)) (arcs-own cs j (m' .circle) (anglesOf m')))
-    (every-map (outlineFrom cs (suc j) (before ++ (m ∷ after))) (λ arc h d. h (omega (arith, d))) (none-from cs (suc j) before after m e))
+    (every-map (outlineFrom cs (suc j) (before ++ (m ∷ after))) (λ arc h d. h (omega (arith, d))) (none-from cs (suc j) before after m (there e)))
+  where
+    there : arcsAt cs (j + suc (length before)) (m .circle) (anglesOf m) ≡ [] → arcsAt cs (suc j + length before) (m .circle) (anglesOf m) ≡ []
+    there e =
+        let next : j + suc (length before) ≡ suc j + length before = omega arith in
+        subst (λ (k : ℕ). arcsAt cs k (m .circle) (anglesOf m) ≡ []) next e
 
 -- from the first position on
-none-at : (cs : List Circle) (before after : List Member) (m : Member) → length (m .points) ≡ 1 → NoneOf (length before) (outlineFrom cs 0 (before ++ (m ∷ after)))
+none-at : (cs : List Circle) (before after : List Member) (m : Member) → arcsAt cs (length before) (m .circle) (anglesOf m) ≡ []
+    → NoneOf (length before) (outlineFrom cs 0 (before ++ (m ∷ after)))
 none-at cs before after m e =
     let first : 0 + length before ≡ length before = omega arith in
-    subst (λ (k : ℕ). NoneOf k (outlineFrom cs 0 (before ++ (m ∷ after)))) first (none-from cs 0 before after m e)
+    subst (λ (k : ℕ). NoneOf k (outlineFrom cs 0 (before ++ (m ∷ after)))) first
+    (none-from cs 0 before after m (subst (λ (k : ℕ). arcsAt cs k (m .circle) (anglesOf m) ≡ []) (sym first) e))
 
--- In a larger set a head with just one meeting point counted for it gets no arc.
-pub one-counted-point : OnePointNoArc
+-- In a larger set a member without arcs of its own has none in the outline.
+pub none-in : (before after : List Member) (m : Member) → 2 ≤ length before + suc (length after)
+    → arcsAt (circlesOf (before ++ (m ∷ after))) (length before) (m .circle) (anglesOf m) ≡ [] → NoneOf (length before) (outline (before ++ (m ∷ after)))
 unfolding outline
-one-counted-point [] [] m l e = absurd (omega arith)
-one-counted-point [] (m' ∷ after) m l e = none-at (circlesOf (m ∷ (m' ∷ after))) [] (m' ∷ after) m e
-one-counted-point (m' ∷ []) after m l e = none-at (circlesOf (m' ∷ (m ∷ after))) (m' ∷ []) after m e
-one-counted-point (m' ∷ (m'' ∷ before)) after m l e =
+none-in [] [] m l e = absurd (omega arith)
+none-in [] (m' ∷ after) m l e = none-at (circlesOf (m ∷ (m' ∷ after))) [] (m' ∷ after) m e
+none-in (m' ∷ []) after m l e = none-at (circlesOf (m' ∷ (m ∷ after))) (m' ∷ []) after m e
+none-in (m' ∷ (m'' ∷ before)) after m l e =
     none-at (circlesOf (m' ∷ (m'' ∷ (before ++ (m ∷ after))))) (m' ∷ (m'' ∷ before)) after m e
+
+-- A head with just one meeting point counted for it gets no arc there.
+pub one-counted-point : OnePointNoArc
+one-counted-point before after m l e =
+    none-in before after m l (member-no-arc (circlesOf (before ++ (m ∷ after))) (length before) m e)

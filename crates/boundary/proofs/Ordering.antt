@@ -104,7 +104,8 @@ module _ (a : Float) (fa : Finite a) where
   sortOnto-level done [] fd fl o = sym (append-nil (keep (level a) done))
   sortOnto-level done (x ∷ l) fd fl o =
       sortOnto-level (insert x done) l (insert-every Finite x done (fl .0) fd) (fl .1) (insert-ordered x done (fl .0) fd o)
-      ∙ rw (insert-level x done (fl .0) fd o) (append-assoc (keep (level a) done) (keep (level a) (x ∷ [])) (keep (level a) l) ∙ ap (λ t. keep (level a) done ++ t) (joined (level a x)))
+      ∙ rw (insert-level x done (fl .0) fd o) (append-assoc (keep (level a) done) (keep (level a) (x ∷ [])) (keep (level a) l)
+      ∙ ap (λ t. keep (level a) done ++ t) (joined (level a x)))
     where
       joined : (b : Bool) → cond b (x ∷ []) [] ++ keep (level a) l ≡ cond b (x ∷ keep (level a) l) (keep (level a) l)
       joined true = refl

@@ -3,3 +3,4 @@ pub mod Outline
 pub mod Set
 pub mod Counted
 pub mod NoArc
+pub mod Identical

@@ -2,14 +2,13 @@
 use mathlib.Core.Path.{_≡_, refl, sym, ap, ap₂, _∙_}
 use mathlib.Core.Bool.{Bool, true, false, _&&_, _||_}
 use mathlib.Core.List.{List, [], _∷_, map}
-use Prim.Native.Nat.{ℕ, zero, suc, _+_, _-_, _<_}
+use Prim.Native.Nat.{ℕ, _+_, _-_, _<_}
 use native.Mathlib.Omega.{arith}
 use borrow.Author.Tests.{eqb-true, eq-eqb}
 use lib.Dec.{eqb}
 use lib.ListN.{length}
-use Rattle.lists.specs.Lists.{upTo}
 use Rattle.lists.specs.Some.{some, any}
-use Rattle.lists.proofs.Somes.{some-of, some-none, some-cong, any-append}
+use Rattle.lists.proofs.Somes.{some-of, some-none, some-cong, any-upTo}
 use Rattle.masks.specs.Subset.{and-both}
 use Rattle.geometry.specs.Circle.{intersectionPoints}
 use Rattle.geometry.specs.declared.point.Point.{Point}
@@ -19,11 +18,6 @@ use Rattle.intersections.specs.Points.{withAdopters, pairPoints, laterPoints, c
 use Rattle.sets.specs.Regions.{parents, meetsAt}
 
 -- ---- a test on the parents of the collected points
-
-any-upTo : {A : Type 0} (p : A → Bool) (f : ℕ → List A) (m : ℕ) → any p (upTo f m) ≡ some m (λ k. any p (f k))
-unfolding upTo some any
-any-upTo p f zero = refl
-any-upTo p f (suc m) = any-append p (upTo f m) (f m) ∙ ap (λ (b : Bool). b || any p (f m)) (any-upTo p f m)
 
 -- some point
 abbrev pub nonempty : {A : Type 0} → List A → Bool
@@ -54,7 +48,8 @@ module _ (cs : List Circle) (i j : ℕ) where
   unfolding collected laterPoints pairPoints
   of-pairs =
       any-upTo (parents i j) (laterPoints cs) (length cs)
-      ∙ some-cong (length cs) (λ a. any (parents i j) (laterPoints cs a)) (λ a. some (length cs - (a + 1)) (λ d. these a (a + 1 + d) && nonempty (points a (a + 1 + d))))
+      ∙ some-cong (length cs) (λ a. any (parents i j) (laterPoints cs a))
+      (λ a. some (length cs - (a + 1)) (λ d. these a (a + 1 + d) && nonempty (points a (a + 1 + d))))
       (λ a h. any-upTo (parents i j) (λ d. pairPoints cs a (a + 1 + d)) (length cs - (a + 1))
       ∙ some-cong (length cs - (a + 1)) (λ d. any (parents i j) (pairPoints cs a (a + 1 + d))) (λ d. these a (a + 1 + d) && nonempty (points a (a + 1 + d)))
       (λ d k. of-points a (a + 1 + d) (points a (a + 1 + d))))
@@ -74,7 +69,8 @@ module _ (cs : List Circle) (i j : ℕ) where
       second true b e = refl
       second false b e = e
 
-      go : (t : Bool) → nonempty (points j i) ≡ t → some (length cs) (λ a. some (length cs - (a + 1)) (λ d. these a (a + 1 + d) && nonempty (points a (a + 1 + d)))) ≡ t
+      go : (t : Bool) → nonempty (points j i) ≡ t
+          → some (length cs) (λ a. some (length cs - (a + 1)) (λ d. these a (a + 1 + d) && nonempty (points a (a + 1 + d)))) ≡ t
       go true e =
           some-of (length cs) (λ a. some (length cs - (a + 1)) (λ d. these a (a + 1 + d) && nonempty (points a (a + 1 + d)))) j (omega arith)
           (some-of (length cs - (j + 1)) (λ d. these j (j + 1 + d) && nonempty (points j (j + 1 + d))) (i - (j + 1)) (omega arith)
@@ -82,7 +78,8 @@ module _ (cs : List Circle) (i j : ℕ) where
           ∙ ap₂ _&&_ (second (eqb j i && eqb i j) (eqb j j && eqb i i) (ap₂ _&&_ (eq-eqb j j refl) (eq-eqb i i refl))) e))
       go false e =
           some-none (length cs) (λ a. some (length cs - (a + 1)) (λ d. these a (a + 1 + d) && nonempty (points a (a + 1 + d))))
-          (λ a l. some-none (length cs - (a + 1)) (λ d. these a (a + 1 + d) && nonempty (points a (a + 1 + d))) (λ d m. no a (a + 1 + d) (omega arith) (these a (a + 1 + d)) refl))
+          (λ a l. some-none (length cs - (a + 1)) (λ d. these a (a + 1 + d) && nonempty (points a (a + 1 + d)))
+          (λ d m. no a (a + 1 + d) (omega arith) (these a (a + 1 + d)) refl))
         where
           no : (a b : ℕ) → a < b → (t : Bool) → these a b ≡ t → (these a b && nonempty (points a b)) ≡ false
           no a b l false f = ap (λ (t : Bool). t && nonempty (points a b)) f
@@ -93,4 +90,6 @@ module _ (cs : List Circle) (i j : ℕ) where
                 where
                   ways : (t : Bool) → (eqb a i && eqb b j) ≡ t → (a ≡ j) × (b ≡ i)
                   ways true g = let w = and-both (eqb a i) (eqb b j) g in absurd (omega (arith, eqb-true a i (w .0), eqb-true b j (w .1)))
-                  ways false g = let w = and-both (eqb a j) (eqb b i) (sym (ap (λ (t : Bool). t || (eqb a j && eqb b i)) g) ∙ f) in (eqb-true a j (w .0), eqb-true b i (w .1))
+                  ways false g =
+                      let w = and-both (eqb a j) (eqb b i) (sym (ap (λ (t : Bool). t || (eqb a j && eqb b i)) g) ∙ f) in
+                      (eqb-true a j (w .0), eqb-true b i (w .1))

@@ -94,7 +94,8 @@ module _ (p : Plan) (ten : length (p .heads) ≡ 10) (ok : Acceptable p) where
 
   whole-in : (S : ℕ) → S < 2 ^ length cs
       → inRegions cs (collected cs) S
-      ≡ isSet (length cs) (isOneHead (length cs)) (isAdoptersOf (collected cs)) (λ i j. meetsOf (headAt p i) (headAt p j)) (λ i j. containsOf (headAt p i) (headAt p j)) S
+      ≡ isSet (length cs) (isOneHead (length cs)) (isAdoptersOf (collected cs)) (λ i j. meetsOf (headAt p i) (headAt p j))
+      (λ i j. containsOf (headAt p i) (headAt p j)) S
   whole-in S hs =
       let drawn : (i : ℕ) → i < length cs → circleAt cs i ≡ circleOf (headAt p i) = λ i l. circle-at p ten (ok .count) i noCircle (below l) in
       let limits : (i : ℕ) → i < length cs → T (inLimits (headAt p i)) = λ i l. within-limits (headAt p i) (ok .heads i (below l)) in

@@ -2,27 +2,26 @@
 -- were. It needs that no row comes twice and that a row's strict supersets all come after it.
 use mathlib.Core.Path.{_≡_, refl, sym, ap, ap₂, _∙_, subst}
 use mathlib.Core.Bool.{Bool, true, false}
-use mathlib.Core.List.{List, [], _∷_, _++_}
+use mathlib.Core.List.{List, [], _∷_}
 use Prim.Native.Nat.{ℕ, suc, _+_, _*_, _^_, _≤_, _<_}
 use native.Mathlib.Nat.{mul-le-mul-right}
 use native.Mathlib.Numerals.{add-one}
-use native.Mathlib.Omega.{arith}
 use lib.Dec.{eqb}
 use lib.Ieee.{Float}
 use lib.ListN.{length, getD, take, drop, drop-of-length-le}
-use lib.Seq.{drop-cons, take-suc, take-all}
+use lib.Seq.{drop-cons, take-suc}
 use borrow.Author.Tests.{eqb-true, eqb-false}
 use Rattle.lists.specs.Lists.{keep}
-use Rattle.lists.specs.Every.{Every, every-map, every-both, every-at}
+use Rattle.lists.specs.Every.{Every, every-map, every-both, every-left, every-right, every-kept}
 use Rattle.masks.specs.Mask.{strictSubset}
 use Rattle.binary64.specs.Constants.{zero64}
 use Rattle.binary64.specs.Floats.{_-ᶠ_}
 use Rattle.exclusive.specs.RowOrder.{rowOrder, Ordered}
 use Rattle.exclusive.specs.Exclusive.{sumOnto, above, unclamped}
 use Rattle.exclusive.specs.Entries.{entry, RowSubtracted, Subtracted}
-use Rattle.exclusive.proofs.RowOrder.{rows-ordered, all-earlier, earlier-other, every-left, every-right}
+use Rattle.exclusive.proofs.RowOrder.{rows-ordered, all-earlier, earlier-other}
 use Rattle.exclusive.proofs.Sums.{cut, later}
-use Rattle.exclusive.proofs.Unclamped.{sum-same, keep-every, unclamped-is}
+use Rattle.exclusive.proofs.Unclamped.{sum-same, unclamped-is}
 
 module _ (n : ℕ) (present : ℕ → Bool) (width i : ℕ) (before after : List Float) where
   pub record Pass : Type 0 where
@@ -94,7 +93,7 @@ module _ (n : ℕ) (present : ℕ → Bool) (width : ℕ) where
         sums k hk =
             ap (sumOnto (entry width mid k) zero64) e
             ∙ sum-same (entry width mid k) (unclamped n present (entry width before k)) zero64 (keep (strictSubset n S) (drop (i + 1) L))
-            (keep-every (Reached mid k) (Reached mid k) (strictSubset n S) (drop (i + 1) L) (p .reached k hk) (λ T t e. t))
+            (every-kept (Reached mid k) (Reached mid k) (strictSubset n S) (drop (i + 1) L) (p .reached k hk) (λ T t e. t))
             ∙ ap (sumOnto (unclamped n present (entry width before k)) zero64) all-above
 
         own : (k : ℕ) → k < width → Reached after k S

@@ -1,36 +1,20 @@
 -- Laws of row order: what holds of every present mask of the table holds of every row and the other way; rows come by number of heads, then
 -- by mask, so no row comes twice.
-use mathlib.Core.Path.{_≡_, refl, sym, ap, ap₂, _∙_, subst}
+use mathlib.Core.Path.{_≡_, refl, ap, ap₂, subst}
 use mathlib.Core.Bool.{Bool, true, false, cond, _&&_}
 use mathlib.Core.List.{List, [], _∷_, _++_}
 use mathlib.Core.Logic.{_⊎_, inl, inr, ⊎-elim}
 use Prim.Native.Nat.{ℕ, zero, suc, _+_, _-_, _^_, _≤_, _<_}
-use native.Mathlib.Nat.{eq-or-lt-of-le, le-of-suc-le-suc}
 use native.Mathlib.Omega.{arith}
 use borrow.Author.Tests.{eqb-true, eq-eqb}
 use lib.Count.{ones, ones-le}
 use lib.Dec.{eqb}
 use Rattle.lists.specs.Lists.{upTo}
-use Rattle.lists.specs.Every.{Every, every-append, every-map, every-upTo}
+use Rattle.lists.specs.Every.{Every, every-append, every-map, every-upTo, every-part}
 use Rattle.masks.specs.Subset.{and-both}
 use Rattle.exclusive.specs.RowOrder.{rowsOf, rowOrder, Earlier, Ordered, RowsOrdered}
 
 -- ---- every row
-
-pub every-left : {A : Type 0} (P : A → Type 0) (a b : List A) → Every P (a ++ b) → Every P a
-every-left P [] b e = tt
-every-left P (x ∷ a) b e = (e .0, every-left P a b (e .1))
-
-pub every-right : {A : Type 0} (P : A → Type 0) (a b : List A) → Every P (a ++ b) → Every P b
-every-right P [] b e = e
-every-right P (x ∷ a) b e = every-right P a b (e .1)
-
-every-part : {A : Type 0} (P : A → Type 0) (f : ℕ → List A) (m i : ℕ) → i < m → Every P (upTo f m) → Every P (f i)
-unfolding upTo
-every-part P f zero i h e = absurd (omega arith)
-every-part P f (suc m) i h e =
-    ⊎-elim (λ k. subst (λ (j : ℕ). Every P (f j)) (sym k) (every-right P (upTo f m) (f m) e)) (λ k. every-part P f m i k (every-left P (upTo f m) (f m) e))
-    (eq-or-lt-of-le (le-of-suc-le-suc h))
 
 module _ (present : ℕ → Bool) where
   -- one row or none

@@ -9,7 +9,7 @@ use lib.Count.{ones, ones-le}
 use lib.Ieee.{Float}
 use Rattle.lists.specs.Lists.{upTo, keep}
 use Rattle.lists.proofs.Lists.{upTo-cong}
-use Rattle.lists.specs.Every.{Every}
+use Rattle.lists.specs.Every.{Every, every-kept}
 use Rattle.masks.specs.Mask.{strictSubset}
 use Rattle.masks.specs.Size.{strict-more}
 use Rattle.binary64.specs.Constants.{zero64}
@@ -25,16 +25,6 @@ unfolding sumOnto
 sum-same f g sum [] e = refl
 sum-same f g sum (T ∷ l) e = ap (λ (x : Float). sumOnto f (sum +ᶠ x) l) (e .0) ∙ sum-same f g (sum +ᶠ g T) l (e .1)
 
--- what holds of the rows, and of those that pass
-pub keep-every : {A : Type 0} (P Q : A → Type 0) (p : A → Bool) (l : List A) → Every P l → ((x : A) → P x → p x ≡ true → Q x) → Every Q (keep p l)
-unfolding keep
-keep-every P Q p [] e h = tt
-keep-every P Q p (x ∷ l) e h = go (p x) refl (keep-every P Q p l (e .1) h)
-  where
-    go : (b : Bool) → p x ≡ b → Every Q (keep p l) → Every Q (cond b (x ∷ keep p l) (keep p l))
-    go true f r = (h x (e .0) f, r)
-    go false f r = r
-
 none : (l : List ℕ) → Every (λ T. ⊥) l → l ≡ []
 none [] e = refl
 none (T ∷ l) e = absurd (e .0)
@@ -44,7 +34,7 @@ module _ (n : ℕ) (present : ℕ → Bool) where
   pub above-every : (S : ℕ) → S < 2 ^ n → (Q : ℕ → Type 0) → ((T : ℕ) → T < 2 ^ n → ones S < ones T → Q T) → Every Q (above n present S)
   unfolding above
   above-every S hs Q h =
-      keep-every (λ T. T < 2 ^ n) Q (strictSubset n S) (rowOrder present n) (every-row present (λ T. T < 2 ^ n) n (λ T k p. k))
+      every-kept (λ T. T < 2 ^ n) Q (strictSubset n S) (rowOrder present n) (every-row present (λ T. T < 2 ^ n) n (λ T k p. k))
       (λ T k e. h T k (strict-more n S T hs e))
 
   -- as many levels as there are supersets of more and more heads are enough

@@ -19,7 +19,7 @@ use Rattle.plan.specs.declared.Refusal.the-variants.{Ended, TablesTooShort}
 use Rattle.plan.specs.Book.{withHead}
 use Rattle.plan.specs.Checks.{firstOf}
 use Rattle.plan.specs.Exactly.{Satisfied}
-use Rattle.plan.specs.Table.{holds, refusalOf, numberOf, answerNumber, examined}
+use Rattle.plan.specs.Table.{holds, refusalOf, numberOf, answerNumber, answerOffset, examined}
 use Rattle.plan.proofs.Answers.{firstOf-assoc}
 use Rattle.plan.proofs.Exactly.{holds-exactly}
 use Rattle.file.specs.declared.reader.Handed.the-variants.{Nothing, ThePlan}
@@ -31,7 +31,7 @@ use Rattle.file.specs.declared.reader.Target.the-variants.{TheBox, HeadA
 use Rattle.file.specs.File.{nextOffset, number32, readFile}
 use Rattle.file.specs.Reader.{countOf, itemOf, nextField, start, moveOn, goesOn, checkOr, begin, mapRead, valueRead, toField, turn, toHead, completeAt, complete, seek, choose, stepAt, step, finishedAt, finish, feed}
 use Rattle.file.specs.Same.{endOf}
-use Rattle.file.specs.Exactly.{Check, checkOf, checksAt, checksOf, checks, PlacedAt, ChecksPlaced, AllPassed, FirstFails, Wanted, FileTaken, FileEnded, FileRefused, FileSevenNever}
+use Rattle.file.specs.Exactly.{Check, checkOf, checksAt, checksOf, checks, PlacedAt, ChecksPlaced, AllPassed, FirstFails, Wanted, FileTaken, FileEnded, FileRefused, FirstNumbered, FileNumber, FileSevenNever}
 use Rattle.file.proofs.Offsets.{At, Clean, fed-at, ended-at}
 use Rattle.file.proofs.Reading.{by-test, checked}
 use Rattle.file.proofs.Same.{reader-answers}
@@ -357,6 +357,32 @@ file-refused s r o n = (
       (decided (checks start s))),
   failing s r o,
 )
+
+-- the number of the first check that fails, from its refusal, and back
+to-number : (r : Refusal) (o : ℕ) (cs : List Check) → FirstFails r o cs → FirstNumbered (numberOf r) o cs
+to-number r o [] u = absurd u
+to-number r o (c ∷ cs) u = ⊎-elim (λ v. inl (v .0, ap numberOf (v .1), v .2)) (λ v. inr (v .0, to-number r o cs (v .1))) u
+
+from-number : (k o : ℕ) (cs : List Check) → FirstNumbered k o cs → (r : Refusal) × (numberOf r ≡ k) × FirstFails r o cs
+from-number k o [] u = absurd u
+from-number k o (c ∷ cs) u =
+    ⊎-elim (λ v. (refusalOf (c .item), v .1, inl (v .0, refl, v .2)))
+    (λ v. let rest = from-number k o cs (v .1) in (rest .0, rest .1, inr (v .0, rest .2))) u
+
+pub file-number : FileNumber
+file-number s k o h = ((λ q. given (endOf (readFile s)) refl (q .0) (q .1)), found)
+  where
+    given : (a : Answer) → endOf (readFile s) ≡ a → answerNumber a ≡ k → answerOffset a ≡ o → FirstNumbered k o (checks start s)
+    given Taken e n at = absurd (omega (arith, n))
+    given (Refused r p) e n at =
+        let first = file-refused s r p (λ q. let is = ap numberOf q in omega (arith, is, n)) .0 e in
+        subst (λ i. FirstNumbered i o (checks start s)) n (subst (λ i. FirstNumbered (numberOf r) i (checks start s)) at (to-number r p (checks start s) first))
+
+    found : FirstNumbered k o (checks start s) → (answerNumber (endOf (readFile s)) ≡ k) × (answerOffset (endOf (readFile s)) ≡ o)
+    found u =
+        let r = from-number k o (checks start s) u in
+        let is = file-refused s (r .0) o (λ q. let one = ap numberOf q in omega (arith, one, r .1)) .1 (r .2) in
+        (ap answerNumber is ∙ r .1, ap answerOffset is)
 
 pub file-seven-never : FileSevenNever
 file-seven-never s e = go (endOf (readFile s)) refl e

@@ -13,7 +13,7 @@ use Rattle.plan.specs.declared.Item.the-variants.{Count, Map, Coordinate, Side,
 use Rattle.plan.specs.declared.Refusal.{Refusal}
 use Rattle.plan.specs.declared.Refusal.the-variants.{Ended}
 use Rattle.plan.specs.Exactly.{Satisfied}
-use Rattle.plan.specs.Table.{answerNumber, refusalOf}
+use Rattle.plan.specs.Table.{answerNumber, answerOffset, numberOf, refusalOf}
 use Rattle.file.specs.declared.reader.Reader.{Reader}
 use Rattle.file.specs.declared.reader.Stage.{Stage}
 use Rattle.file.specs.declared.reader.Stage.the-variants.{AtCount, AtMap, AtByte0, AtByte1, AtByte2, AtByte3, AtEdit, Stopped}
@@ -99,6 +99,17 @@ FileEnded = (s : List ℕ) (o : ℕ)
 -- any other refusal: it is that of the first check that fails, and so is its offset
 abbrev pub FileRefused : Type 0
 FileRefused = (s : List ℕ) (r : Refusal) (o : ℕ) → (r ≡ Ended → ⊥) → (endOf (readFile s) ≡ Refused r o) ↔ FirstFails r o (checks start s)
+
+-- the first check that is not passed has this number and this offset
+abbrev pub FirstNumbered : ℕ → ℕ → List Check → Type 0
+FirstNumbered k o [] = ⊥
+FirstNumbered k o (c ∷ cs) =
+    (¬ Satisfied (c .item) × (numberOf (refusalOf (c .item)) ≡ k) × (c .offset ≡ o)) ⊎ (Satisfied (c .item) × FirstNumbered k o cs)
+
+-- The same by document 01's numbers: k, beyond 1, with the offset o is given exactly if the first check that is not passed has both.
+abbrev pub FileNumber : Type 0
+FileNumber = (s : List ℕ) (k o : ℕ) → 1 < k
+    → ((answerNumber (endOf (readFile s)) ≡ k) × (answerOffset (endOf (readFile s)) ≡ o)) ↔ FirstNumbered k o (checks start s)
 
 -- 7: never from the file alone
 abbrev pub FileSevenNever : Type 0

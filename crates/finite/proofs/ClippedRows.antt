@@ -1,17 +1,19 @@
--- The rows in the box of heads within the limits, and so of a taken plan, are finite. Rests on proofs/Clipped.antt and
+-- The row in the box of a set of drawn heads is finite, and so are the rows of a taken plan. Rests on proofs/Clipped.antt and
 -- proofs/Slopes.antt: the box of such a plan is of the domain, as are the circles of its heads.
-use mathlib.Core.Bool.{Bool, true}
-use mathlib.Core.Path.{refl, subst}
-use Prim.Native.Nat.{_≤_}
+use mathlib.Core.Bool.{true}
+use mathlib.Core.Path.{_≡_, refl, subst}
+use Prim.Native.Nat.{_+_, _*_, _≤_}
+use native.Mathlib.Omega.{arith}
 use lib.Dec.{lit≤}
 use lib.Ieee.{binary64, ofInt, ofBits}
 use lib.IntN.{ℤ, pos}
-use lib.ListN.{replicate}
+use lib.ListN.{length, replicate}
 use Rattle.binary64.specs.Units.{mag, pow2}
 use Rattle.binary64.specs.Constants.{zero64, two64}
 use Rattle.binary64.specs.Magnitude.{Most, Least}
-use Rattle.binary64.proofs.Magnitude.{literal-least, most-weaken, most-zero, add-most, sub-most, mul-most, div-most}
+use Rattle.binary64.proofs.Magnitude.{literal-least, most-weaken, add-most, sub-most, mul-most, div-most}
 use Rattle.plan.specs.declared.Ground.{Ground}
+use Rattle.plan.specs.declared.Plan.{Plan}
 use Rattle.plan.specs.Limits.{Within, GroundWithin}
 use Rattle.plan.proofs.Exactly.{plan-taken}
 use Rattle.plan.specs.Table.{gradientWidth}
@@ -22,19 +24,19 @@ use Rattle.geometry.specs.Rectangle.{area, bounds}
 use Rattle.boundary.specs.Set.{regionArcs}
 use Rattle.intersections.specs.Points.{collected}
 use Rattle.outline.specs.Counts.{outline-few}
-use Rattle.lists.specs.Every.{Every, every-replicate}
-use Rattle.outline.proofs.Walking.{circles-of-members}
-use Rattle.areas.specs.Clipped.{clippedMethod}
-use Rattle.drawn.proofs.Circles.{circles-few}
-use Rattle.finite.specs.Open.{InDomain}
+use Rattle.areas.specs.Clipped.{clippedMethod, clippedGradientRow}
+use Rattle.areas.proofs.ByHead.{plan-by-head}
+use Rattle.clip.specs.Gradient.{clippedWithGradient}
+use Rattle.intersections.specs.Members.{headsOf}
+use Rattle.drawn.proofs.Circles.{circles-many, circles-few}
 use Rattle.finite.specs.Clipped.{BoxInDomain, GradientMost}
 use Rattle.areas.specs.Scatter.{circlesIn}
-use Rattle.finite.specs.ClippedRows.{AcceptableClippedFinite, PlanClippedFinite, PlanBoxFinite, TableClippedFinite}
+use Rattle.finite.specs.ClippedRows.{DrawnClippedFinite, AcceptableClippedFinite, PlanClippedFinite, PlanBoxFinite, TableClippedFinite}
 use Rattle.finite.proofs.Limits.{position-most, side-most}
-use Rattle.finite.proofs.Open.{region-short, region-few}
-use Rattle.finite.proofs.Rows.{circles-domain, members-domain, afresh-most}
-use Rattle.finite.proofs.Clipped.{clipped-area-finite, area-clipped-finite}
-use Rattle.finite.proofs.Slopes.{clipped-gradient-finite, gradient-clipped-finite}
+use Rattle.finite.proofs.Rows.{all-drawn, drawn-members, afresh-most}
+use Rattle.finite.proofs.Scattering.{clipped-most}
+use Rattle.finite.proofs.Clipped.{area-clipped-finite}
+use Rattle.finite.proofs.Slopes.{gradient-clipped-finite}
 
 -- ---- the box
 
@@ -66,27 +68,37 @@ box-area-most g m = mul-most (side-most (g .width) (m .2)) (side-most (g .height
 
 -- ---- rows
 
--- The row in the box of any set of the heads of a plan within the limits is finite.
-pub acceptable-clipped-finite : AcceptableClippedFinite
-acceptable-clipped-finite p ten ok S =
+-- three entries a circle and the box's four are the row's width
+width : (p : Plan) → length (p .heads) ≡ 10 → p .n ≤ 10 → length (planCircles p) * 3 + 4 ≡ gradientWidth (p .n)
+width p ten few = omega (arith, circles-many p ten few)
+
+-- The row in the box of a set whose heads are drawn is finite. By head number it is the row by position, its gradient scattered.
+pub drawn-clipped-finite : DrawnClippedFinite
+drawn-clipped-finite p ten few ground S drawn =
     let box = bounds (boxOf (p .ground)) in
     let cs = planCircles p in
-    let points = collected cs in
-    let arcs = regionArcs cs points S in
-    let b = box-domain (p .ground) (ok .x, ok .y, ok .width, ok .height) in
-    let d = circles-domain p ten ok in
-    let inside = members-domain cs points S d in
-    let own = subst (Every InDomain) (circles-of-members cs points S) inside in
-    let few = outline-few cs S (circles-few p (ok .count)) in
-    let short = region-short cs points S in
-    let few-arcs = region-few cs points S in
-    let zeros = every-replicate (Most 0 1074) (gradientWidth (p .n)) zero64 most-zero in
+    let b = box-domain (p .ground) ground in
+    let inside = drawn-members p ten few S drawn in
+    let short = outline-few cs S (circles-few p few) in
+    let area = area-clipped-finite box (planMembers p S) b inside short in
+    let gradient = gradient-clipped-finite box (planMembers p S) b inside short in
     record {
-      area = area-clipped-finite box (planMembers p S) b inside few;
-      gradient = gradient-clipped-finite box (planMembers p S) b inside few;
-      numberedArea = clipped-area-finite box cs (circlesIn cs S) arcs b d own short few-arcs;
-      numberedGradient = clipped-gradient-finite box cs (circlesIn cs S) arcs 0 (replicate (gradientWidth (p .n)) zero64) b d own short few-arcs zeros (lit≤ tt);
+      area = area;
+      gradient = gradient;
+      numberedArea = rw (plan-by-head p S few .clipped-area box) area;
+      numberedGradient =
+          subst
+          (λ g. GradientMost 41197685760000 31490604288 (clippedWithGradient box cs (circlesIn cs S) (regionArcs cs (collected cs) S) (replicate g zero64)))
+          (width p ten few)
+          (rw (plan-by-head p S few .clipped-gradient box) (record {
+            sum = gradient .sum;
+            entries = clipped-most 31490604288 (headsOf (length cs) S) (length cs) (clippedGradientRow p S .grad) (gradient .entries);
+          }));
     }
+
+-- The row in the box of any set of the heads of a plan within the limits is finite.
+pub acceptable-clipped-finite : AcceptableClippedFinite
+acceptable-clipped-finite p ten ok S = drawn-clipped-finite p ten (ok .count) (ok .x, ok .y, ok .width, ok .height) S (all-drawn p ok S)
 
 -- The row in the box of any set of a taken plan's heads is finite.
 pub plan-clipped-finite : PlanClippedFinite

@@ -60,7 +60,7 @@ between-most {j} {low} {high} {x} l h f d e = record { finite = f; bound = go (o
     go (inr s) = omega (arith, s, plus-minus low, l .bound, units-of-lt (l .finite) f d)
 
 -- What is kept has passed the test.
-keep-passes : {A : Type 0} (p : A → Bool) (l : List A) → Every (λ x. p x ≡ true) (keep p l)
+pub keep-passes : {A : Type 0} (p : A → Bool) (l : List A) → Every (λ x. p x ≡ true) (keep p l)
 unfolding keep
 keep-passes p [] = tt
 keep-passes p (x ∷ l) = by (p x) refl (keep-passes p l)

@@ -12,6 +12,6 @@ abbrev pub CircleFinite : Type 0
 CircleFinite = (h : Head) → T (inLimits h) → Most 1600000000 1074 (area (circleOf h))
 
 -- Two sectors of at most 1,600,000,000, and half the root of a product of four numbers of at most 105,536 each, which is at most 2^33. (The
--- quotients handed to acos are not bounded here: outside -1 to 1 acos gives +0.)
+-- quotients handed to acos are within its domain: `quotients-within` of exact.)
 abbrev pub SharedFinite : Type 0
 SharedFinite = (a b : Head) → T (inLimits a) → T (inLimits b) → Most 11789934592 1074 (intersectionArea (circleOf a) (circleOf b))

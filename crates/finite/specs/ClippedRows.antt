@@ -2,7 +2,7 @@
 -- proofs/ClippedRows.antt. A bound is a whole number j: `Most j 1074 x` says that x is finite and |x| ≤ j.
 use mathlib.Core.Path.{_≡_}
 use mathlib.Core.Bool.{Bool}
-use Prim.Native.Nat.{ℕ, _^_, _<_}
+use Prim.Native.Nat.{ℕ, _^_, _≤_, _<_}
 use lib.Ieee.{Float}
 use lib.ListN.{length, replicate}
 use Rattle.binary64.specs.Constants.{zero64}
@@ -10,7 +10,7 @@ use Rattle.binary64.specs.Magnitude.{Most}
 use Rattle.plan.specs.declared.Answer.the-variants.{Taken}
 use Rattle.plan.specs.declared.Plan.{Plan}
 use Rattle.plan.specs.Checks.{planAnswer}
-use Rattle.plan.specs.Limits.{Acceptable}
+use Rattle.plan.specs.Limits.{GroundWithin, Acceptable}
 use Rattle.plan.specs.Table.{gradientWidth}
 use Rattle.drawn.specs.Drawn.{planCircles, boxOf}
 use Rattle.regions.specs.Table.{Exclusives, planMembers, afresh}
@@ -22,6 +22,7 @@ use Rattle.areas.specs.Clipped.{clippedMethod, clippedGradientRow}
 use Rattle.clip.specs.Area.{clippedAreaOf, clippedArea}
 use Rattle.clip.specs.Gradient.{WithGradient, clippedWithGradient}
 use Rattle.finite.specs.Clipped.{GradientMost}
+use Rattle.finite.specs.Rows.{MembersDrawn}
 
 -- the area of row S of a plan in its box, from arcs under head numbers
 abbrev pub areaByHead : Plan → ℕ → Float
@@ -40,6 +41,11 @@ pub record ClippedRowFinite (p : Plan) (S : ℕ) : Type 0 where
   pub gradient : GradientMost 41197685760000 31490604288 (clippedGradientRow p S)
   pub numberedArea : Most 41197685760000 1074 (areaByHead p S)
   pub numberedGradient : GradientMost 41197685760000 31490604288 (gradientByHead p S)
+
+-- At most ten heads, in a box within the limits: the row of a set whose heads are drawn, whatever the other heads are.
+abbrev pub DrawnClippedFinite : Type 0
+DrawnClippedFinite =
+    (p : Plan) → length (p .heads) ≡ 10 → p .n ≤ 10 → GroundWithin (p .ground) → (S : ℕ) → MembersDrawn p S → ClippedRowFinite p S
 
 -- A plan within the limits: the row of any set of its heads, the empty set too.
 abbrev pub AcceptableClippedFinite : Type 0

@@ -1,6 +1,6 @@
 -- What sine, cosine, atan2, acos and asin are handed lies where document 01 promises them: "Sine and cosine for |v| ≤ 16", "atan2 is promised for
 -- magnitudes up to 2^20", acos and asin from -1 to 1. So no area and no gradient rests on the +0 outside these domains. Proved in proofs/Turns.antt,
--- proofs/Domains.antt and proofs/Arguments.antt. What is not claimed: that a meeting point is not the centre of either parent, where both arguments are 0.
+-- proofs/Domains.antt and proofs/Arguments.antt; of the acos in intersection_area exact proves it (`QuotientsWithin`, specs/Decisions.antt).
 use mathlib.Core.Path.{_≡_}
 use mathlib.Core.Bool.{true}
 use mathlib.Core.List.{List}
@@ -18,6 +18,7 @@ use Rattle.binary64.specs.Floats.{_+ᶠ_, _-ᶠ_, _*ᶠ_, _≤ᶠ_}
 use Rattle.geometry.specs.declared.bounds.Bounds.{Bounds}
 use Rattle.geometry.specs.declared.circle.Circle.{Circle}
 use Rattle.geometry.specs.declared.point.Point.{Point}
+use Rattle.exact.specs.Points.{Off}
 use Rattle.lists.specs.Every.{Every}
 use Rattle.intersections.specs.declared.points.IntersectionPoint.{IntersectionPoint}
 use Rattle.intersections.specs.Members.{Member}
@@ -67,10 +68,12 @@ RegionInDomain = (cs : List Circle) (points : List IntersectionPoint) (S : ℕ) 
 
 -- ---- atan2, acos and asin
 
--- Both arguments of the atan2 that gives the angle of a point about a circle (boundary's `angleAbout`) are at most 2^20.
+-- Both arguments of the atan2 that gives the angle of a point about a circle (boundary's `angleAbout`) are at most 2^20, and "not both zero": the point
+-- is not the circle's centre.
 pub record PointInDomain (c : Circle) (p : Point) : Type 0 where
   pub y : Most 1048576 1074 (p .y -ᶠ c .center .y)
   pub x : Most 1048576 1074 (p .x -ᶠ c .center .x)
+  pub off : Off (c .center) p
 
 -- For a taken plan: at every point counted at every head of any set.
 abbrev pub ArgumentsInDomain : Type 0

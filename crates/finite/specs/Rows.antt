@@ -1,20 +1,21 @@
 -- The open rows of a taken plan are finite, areas and gradients, with a bound: what is claimed, and proved in proofs/Rows.antt.
 -- A bound is a whole number j: `Most j 1074 x` says that x is finite and |x| ≤ j.
 use mathlib.Core.Path.{_≡_}
-use mathlib.Core.Bool.{Bool}
+use mathlib.Core.Bool.{Bool, true}
 use mathlib.Core.List.{List}
-use Prim.Native.Nat.{ℕ, _*_, _^_, _<_}
+use Prim.Native.Nat.{ℕ, _*_, _^_, _≤_, _<_}
 use lib.Ieee.{Float}
 use lib.ListN.{length, replicate}
 use Rattle.binary64.specs.Constants.{zero64}
 use Rattle.binary64.specs.Magnitude.{Most}
 use Rattle.plan.specs.declared.Answer.the-variants.{Taken}
-use Rattle.plan.specs.declared.Ground.{Ground}
 use Rattle.plan.specs.declared.Plan.{Plan}
 use Rattle.plan.specs.Checks.{planAnswer}
 use Rattle.plan.specs.Limits.{Acceptable}
 use Rattle.drawn.specs.Drawn.{planCircles}
-use Rattle.regions.specs.Table.{Exclusives, planMembers, afresh}
+use Rattle.masks.specs.Mask.{inSet}
+use Rattle.exact.specs.Decisions.{Drawn}
+use Rattle.regions.specs.Table.{Exclusives, headAt, planMembers, afresh}
 use Rattle.outline.specs.Area.{addGradient, openArea}
 use Rattle.lists.specs.Every.{Every}
 use Rattle.intersections.specs.Points.{collected}
@@ -30,6 +31,14 @@ pub record OpenRowFinite (p : Plan) (S : ℕ) : Type 0 where
   pub area : Most 1440000000000 1074 (openArea (planMembers p S))
   pub gradient : Every (Most 72000000 1074) (openGradientRow p S)
   pub gradientByHead : Every (Most 72000000 1074) (rowGradientByHead p S)
+
+-- The heads of a set are drawn: of the float domain. "Accepted by the checks" is another name, `Acceptable`; today all heads that are accepted are drawn.
+abbrev pub MembersDrawn : Plan → ℕ → Type 0
+MembersDrawn p S = (j : ℕ) → j < p .n → inSet S j ≡ true → Drawn (headAt p j)
+
+-- At most ten heads: the row of a set whose heads are drawn, whatever the other heads are.
+abbrev pub DrawnFinite : Type 0
+DrawnFinite = (p : Plan) → length (p .heads) ≡ 10 → p .n ≤ 10 → (S : ℕ) → MembersDrawn p S → OpenRowFinite p S
 
 -- A plan within the limits: the row of any set of its heads, the empty set too.
 abbrev pub AcceptableFinite : Type 0

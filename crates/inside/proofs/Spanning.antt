@@ -16,7 +16,8 @@ use Rattle.inside.specs.Span.{misses, halfChord, missed, raised, lowered
 module _ (y lo hi : Float) (cs : List Circle) (i : ℕ) where
   -- the circle at i reaches the line: the ends move to its chord, and the rest go on
   span-on : i < length cs → misses y (getD cs i noCircle) ≡ false
-      → horizontalSpan y (raised lo (getD cs i noCircle .center .x -ᶠ halfChord y (getD cs i noCircle))) (lowered hi (getD cs i noCircle .center .x +ᶠ halfChord y (getD cs i noCircle))) (drop (i + 1) cs)
+      → horizontalSpan y (raised lo (getD cs i noCircle .center .x -ᶠ halfChord y (getD cs i noCircle)))
+      (lowered hi (getD cs i noCircle .center .x +ᶠ halfChord y (getD cs i noCircle))) (drop (i + 1) cs)
       ≡ horizontalSpan y lo hi (drop i cs)
   unfolding horizontalSpan missed lowEnd highEnd
   span-on h e = rw (drop-cons cs i noCircle h, e, add-one i)

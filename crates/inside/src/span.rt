@@ -60,14 +60,7 @@ fn seen(upright: bool, c: Circle) -> Circle
     ensures { λ r. ⌜ r ≡ seen upright c ⌝ }
 {
     if upright {
-        let center = Point {
-            x: c.center.y,
-            y: c.center.x,
-        };
-        return Circle {
-            center: center,
-            radius: c.radius,
-        };
+        return Circle::new(Point::new(c.center.y, c.center.x), c.radius);
     }
     c
 }

@@ -71,7 +71,8 @@ uncounted cs S j a b h =
     keep-none (countedFor S j) (pairPoints cs a b) (every-mapped _ (withAdopters cs a b) points (every-all _ points h))
 
 -- of a head k that is apart from head j no point is counted at j
-none-counted : (cs : List Circle) (S j k a b : ℕ) → (k ≡ j → ⊥) → Apart (circleAt cs k) (circleAt cs j) → (a ≡ k) ⊎ (b ≡ k) → countedOf S j (pairPoints cs a b) ≡ []
+none-counted : (cs : List Circle) (S j k a b : ℕ) → (k ≡ j → ⊥) → Apart (circleAt cs k) (circleAt cs j) → (a ≡ k) ⊎ (b ≡ k)
+    → countedOf S j (pairPoints cs a b) ≡ []
 unfolding countedOf pairPoints withAdopters countedFor keep
 none-counted cs S j k a b n e (inl ea) = rw ea (by (ℕ-discrete b j))
   where
@@ -100,7 +101,8 @@ module _ (cs : List Circle) (k : ℕ) (c : Circle) (S : ℕ) (out : inSet S k �
   pair-stays j a b na nb =
       keep-alike (countedFor S j) (λ q. q .point) (withAdopters cs a b) (withAdopters (set cs k c) a b)
       (λ p. ap (λ t. (eqb a j || eqb b j) && t)
-      (rw (length-set cs k c) (subset-alike 64 (length cs) S (adopts cs a b p) (adopts (set cs k c) a b p) (λ l i. rw (stays a na, stays b nb, stays l (other l i))))))
+      (rw (length-set cs k c) (subset-alike 64 (length cs) S (adopts cs a b p) (adopts (set cs k c) a b p)
+      (λ l i. rw (stays a na, stays b nb, stays l (other l i))))))
       (λ p. refl) (intersectionPoints (circleAt cs a) (circleAt cs b))
       ∙ ap₂ (λ x y. countedOf S j (map (withAdopters (set cs k c) a b) (intersectionPoints x y))) (stays a na) (stays b nb)
 
@@ -143,10 +145,12 @@ module _ (cs : List Circle) (k : ℕ) (c : Circle) (S : ℕ) (out : inSet S k �
 abbrev bare : Circle → Member
 bare c = record { circle = c; points = [] }
 
-module _ (area : List Member → Float) (alone : (c : Circle) (ps qs : List Point) → area (record { circle = c; points = ps } ∷ []) ≡ area (record { circle = c; points = qs } ∷ []))
+module _ (area : List Member → Float) (alone : (c : Circle) (ps qs : List Point) → area (record { circle = c; points = ps } ∷ [])
+    ≡ area (record { circle = c; points = qs } ∷ []))
     (S : ℕ) (small : S < 2 ^ 64) (single : isSingle S ≡ true) where
   -- the area of a set of one comes from its circle
-  area-bare : (cs : List Circle) (points : List IntersectionPoint) → area (membersOf cs points S) ≡ area (map (λ j. bare (circleAt cs j)) (headsOf (length cs) S))
+  area-bare : (cs : List Circle) (points : List IntersectionPoint) → area (membersOf cs points S)
+      ≡ area (map (λ j. bare (circleAt cs j)) (headsOf (length cs) S))
   unfolding membersOf memberAt
   area-bare cs points = rw (single-heads (length cs) S small (eqb-true (ones S) 1 single)) (by (trailingZeros 64 S) (ltb (trailingZeros 64 S) (length cs)))
     where
@@ -169,5 +173,6 @@ area-same area alone cs k c S within small out clear = by (isSingle S) refl
         area-bare area alone S small s cs (collected cs)
         ∙ ap area
         (rw (length-set cs k c)
-        (heads-alike (λ j. bare (circleAt cs j)) (λ j. bare (circleAt (set cs k c) j)) (length cs) S (λ j i. ap bare (stays cs k c S out j (other cs k c S out j i)))))
+        (heads-alike (λ j. bare (circleAt cs j)) (λ j. bare (circleAt (set cs k c) j)) (length cs) S
+        (λ j i. ap bare (stays cs k c S out j (other cs k c S out j i)))))
         ∙ sym (area-bare area alone S small s (set cs k c) (collected (set cs k c)))

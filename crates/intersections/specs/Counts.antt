@@ -109,7 +109,12 @@ module _ (cs : List Circle) (S j : ℕ) where
   unfolding upTo many keep
   many-higher i zero h = refl
   many-higher i (suc m) h =
-      omega (arith, many-append (upTo (λ d. pairPoints cs i (i + 1 + d)) m) (pairPoints cs i (i + 1 + m)), many-higher i m h, many-other i (i + 1 + m) (λ e. omega arith) (λ e. omega arith))
+      omega (
+        arith,
+        many-append (upTo (λ d. pairPoints cs i (i + 1 + d)) m) (pairPoints cs i (i + 1 + m)),
+        many-higher i m h,
+        many-other i (i + 1 + m) (λ e. omega arith) (λ e. omega arith),
+      )
 
   row-above : (m : ℕ) → j < m → many (laterPoints cs m) ≡ 0
   unfolding laterPoints

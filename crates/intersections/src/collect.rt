@@ -16,7 +16,7 @@ ghost use Rattle.intersections.specs.Points.{adoptsPoint, adopts, withAd
 ghost use Rattle.intersections.specs.Counted.{pointList};
 
 // Whether the circle c adopts the point p of the circles a and b.
-pub fn adopts_point(a: Circle, b: Circle, c: Circle, p: Point) -> bool
+fn adopts_point(a: Circle, b: Circle, c: Circle, p: Point) -> bool
     ensures { λ r. ⌜ r ≡ adoptsPoint a b c p ⌝ }
 {
     c.contains_point(p)
@@ -56,7 +56,7 @@ fn adopters(circles: [Circle; 10], n: usize, i: usize, j: usize, p: Point) -> us
 }
 
 // A point more, while there is room.
-pub fn push_point(list: Intersections, q: IntersectionPoint) -> Intersections
+fn push_point(list: Intersections, q: IntersectionPoint) -> Intersections
     ensures { λ r. ⌜ pointList r ≡ take 90 (pointList list ++ (q ∷ [])) ⌝ }
     ensures { λ r. ⌜ r .n ≡ cond (ltb (list .n) 90) (list .n + 1) (list .n) ⌝ }
 {

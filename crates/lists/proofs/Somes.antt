@@ -1,6 +1,6 @@
 -- Laws of `some` and `any` along a loop.
 use mathlib.Core.Path.{_≡_, refl, sym, ap, ap₂, _∙_}
-use mathlib.Core.Bool.{Bool, true, false, _||_}
+use mathlib.Core.Bool.{Bool, true, false, _||_, or-false, or-true, or-assoc}
 use mathlib.Core.List.{List, [], _∷_, _++_}
 use mathlib.Core.Logic.{⊎-elim}
 use Prim.Native.Nat.{ℕ, zero, suc, _+_, _<_}
@@ -9,19 +9,8 @@ use native.Mathlib.Numerals.{add-one}
 use native.Mathlib.Omega.{arith}
 use lib.ListN.{length, getD, take}
 use lib.Seq.{take-suc}
+use Rattle.lists.specs.Lists.{upTo}
 use Rattle.lists.specs.Some.{some, any}
-
-or-assoc : (a b c : Bool) → (a || (b || c)) ≡ ((a || b) || c)
-or-assoc true b c = refl
-or-assoc false b c = refl
-
-or-none : (a : Bool) → (a || false) ≡ a
-or-none true = refl
-or-none false = refl
-
-or-yes : (a : Bool) → (a || true) ≡ true
-or-yes true = refl
-or-yes false = refl
 
 -- ---- some number below n
 
@@ -45,7 +34,7 @@ unfolding some
 some-of zero p i h e = absurd (omega arith)
 some-of (suc n) p i h e =
     ⊎-elim
-    (λ k. ap (λ (b : Bool). some n p || b) (ap p (sym k) ∙ e) ∙ or-yes (some n p))
+    (λ k. ap (λ (b : Bool). some n p || b) (ap p (sym k) ∙ e) ∙ or-true (some n p))
     (λ k. ap (λ (b : Bool). b || p n) (some-of n p i k e))
     (eq-or-lt-of-le (le-of-suc-le-suc h))
 
@@ -60,11 +49,11 @@ some-none (suc n) p h = ap₂ (λ (a b : Bool). a || b) (some-none n p (λ i k. 
 pub any-append : {A : Type 0} (p : A → Bool) (l m : List A) → any p (l ++ m) ≡ (any p l || any p m)
 unfolding any
 any-append p [] m = refl
-any-append p (x ∷ l) m = ap (λ (b : Bool). p x || b) (any-append p l m) ∙ or-assoc (p x) (any p l) (any p m)
+any-append p (x ∷ l) m = ap (λ (b : Bool). p x || b) (any-append p l m) ∙ sym (or-assoc (p x) (any p l) (any p m))
 
 any-one : {A : Type 0} (p : A → Bool) (x : A) → any p (x ∷ []) ≡ p x
 unfolding any
-any-one p x = or-none (p x)
+any-one p x = or-false (p x)
 
 pub any-none : {A : Type 0} (p : A → Bool) (l : List A) → any p (take 0 l) ≡ false
 unfolding any
@@ -83,4 +72,10 @@ any-of p [] k n d h g e = absurd (omega arith)
 any-of p (x ∷ l) k zero d h g e = absurd (omega arith)
 any-of p (x ∷ l) zero (suc n) d h g e = ap (λ (b : Bool). b || any p (take n l)) e
 any-of p (x ∷ l) (suc k) (suc n) d h g e =
-    ap (λ (b : Bool). p x || b) (any-of p l k n d (omega arith) (omega arith) e) ∙ or-yes (p x)
+    ap (λ (b : Bool). p x || b) (any-of p l k n d (omega arith) (omega arith) e) ∙ or-true (p x)
+
+-- some element of a loop that appends
+pub any-upTo : {A : Type 0} (p : A → Bool) (f : ℕ → List A) (m : ℕ) → any p (upTo f m) ≡ some m (λ k. any p (f k))
+unfolding upTo some any
+any-upTo p f zero = refl
+any-upTo p f (suc m) = any-append p (upTo f m) (f m) ∙ ap (λ (b : Bool). b || any p (f m)) (any-upTo p f m)

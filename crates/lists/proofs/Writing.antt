@@ -109,4 +109,4 @@ written-cong f g m k l e d = ap₂ _++_ (tab-cong f g m e) d
 
 -- written twice: the second stands
 pub written-again : {A : Type 0} (f g : ℕ → A) (m : ℕ) (l : List A) → written g m (written f m l) ≡ written g m l
-written-again f g m l = ap (λ t. tab g m ++ t) (drop-at (tab f m) (drop m l) m (length-tab f m))
+written-again f g m l = ap (λ t. tab g m ++ t) (drop-written f m m l (le-refl m))

@@ -1,7 +1,10 @@
 -- A property of every element of a list, and its laws.
+use mathlib.Core.Path.{_≡_, refl, sym, subst}
 use mathlib.Core.Bool.{Bool, true, false, cond}
 use mathlib.Core.List.{List, [], _∷_, _++_, map}
+use mathlib.Core.Logic.{⊎-elim}
 use Prim.Native.Nat.{ℕ, zero, suc, _<_}
+use native.Mathlib.Nat.{eq-or-lt-of-le, le-of-suc-le-suc}
 use native.Mathlib.Omega.{arith}
 use lib.ListN.{length, getD, set, replicate, take}
 use Rattle.lists.specs.Lists.{upTo, keep}
@@ -28,6 +31,23 @@ unfolding upTo
 every-upTo P f zero h = tt
 every-upTo P f (suc m) h = every-append P (upTo f m) (f m) (every-upTo P f m (λ i k. h i (omega arith))) (h m (omega arith))
 
+-- the two parts of a list, and one part of a loop that appends
+pub every-left : {A : Type 0} (P : A → Type 0) (a b : List A) → Every P (a ++ b) → Every P a
+every-left P [] b e = tt
+every-left P (x ∷ a) b e = (e .0, every-left P a b (e .1))
+
+pub every-right : {A : Type 0} (P : A → Type 0) (a b : List A) → Every P (a ++ b) → Every P b
+every-right P [] b e = e
+every-right P (x ∷ a) b e = every-right P a b (e .1)
+
+pub every-part : {A : Type 0} (P : A → Type 0) (f : ℕ → List A) (m i : ℕ) → i < m → Every P (upTo f m) → Every P (f i)
+unfolding upTo
+every-part P f zero i h e = absurd (omega arith)
+every-part P f (suc m) i h e =
+    ⊎-elim (λ k. subst (λ (j : ℕ). Every P (f j)) (sym k) (every-right P (upTo f m) (f m) e))
+    (λ k. every-part P f m i k (every-left P (upTo f m) (f m) e))
+    (eq-or-lt-of-le (le-of-suc-le-suc h))
+
 -- one element
 pub every-at : {A : Type 0} (P : A → Type 0) (l : List A) (i : ℕ) (d : A) → i < length l → Every P l → P (getD l i d)
 every-at P [] i d h e = absurd (omega arith)
@@ -53,15 +73,18 @@ pub every-one : {A : Type 0} (P : A → Type 0) (b : Bool) (x : A) → P x → E
 every-one P true x h = (h, tt)
 every-one P false x h = tt
 
--- those that pass
-pub every-keep : {A : Type 0} (P : A → Type 0) (p : A → Bool) (l : List A) → Every P l → Every P (keep p l)
+-- those that pass: what holds of each, and of its passing
+pub every-kept : {A : Type 0} (P Q : A → Type 0) (p : A → Bool) (l : List A) → Every P l → ((x : A) → P x → p x ≡ true → Q x) → Every Q (keep p l)
 unfolding keep
-every-keep P p [] e = tt
-every-keep P p (x ∷ l) e = by (p x) (every-keep P p l (e .1))
+every-kept P Q p [] e h = tt
+every-kept P Q p (x ∷ l) e h = by (p x) refl (every-kept P Q p l (e .1) h)
   where
-    by : (b : Bool) → Every P (keep p l) → Every P (cond b (x ∷ keep p l) (keep p l))
-    by true r = (e .0, r)
-    by false r = r
+    by : (b : Bool) → p x ≡ b → Every Q (keep p l) → Every Q (cond b (x ∷ keep p l) (keep p l))
+    by true t r = (h x (e .0) t, r)
+    by false t r = r
+
+pub every-keep : {A : Type 0} (P : A → Type 0) (p : A → Bool) (l : List A) → Every P l → Every P (keep p l)
+every-keep P p l e = every-kept P P p l e (λ x h t. h)
 
 -- mapped, repeated and cut off
 pub every-mapped : {A B : Type 0} (P : B → Type 0) (f : A → B) (l : List A) → Every (λ a. P (f a)) l → Every P (map f l)

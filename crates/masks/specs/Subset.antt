@@ -10,7 +10,8 @@ use lib.Bits.{bitAnd, bitOr}
 use lib.Dec.{T, eqb, ltb}
 use borrow.Author.Tests.{ltb-true, ltb-false, eqb-true, eqb-false, eq-eqb, ne-eqb}
 use Rattle.masks.specs.Mask.{bit, inSet, Subset, every, subset, shifted, complement}
-use Rattle.masks.specs.Operations.{bit-zero, bit-suc, bit-le, bit-and, bit-or, bit-ext, bit-minus, bit-beyond, bit-power-other, shifted-lt, bit-with, bit-without, in-of-one, one-of-in, zero-of-in}
+use Rattle.masks.specs.Operations.{bit-zero, bit-suc, bit-le, bit-and, bit-or, bit-ext, bit-minus, bit-beyond, bit-power-other, shifted-lt}
+use Rattle.masks.specs.Operations.{bit-with, bit-without, in-of-one, one-of-in, zero-of-in}
 
 -- an order on sets
 pub subset-refl : (S : ℕ) → Subset S S
@@ -50,7 +51,14 @@ subset-of-and S T e i = omega (arith, bit-and S T i, ap (λ (n : ℕ). bit n i) 
 pub subset-le : (S T : ℕ) → Subset S T → S ≤ T
 subset-le =
     bin-ind (λ (n : ℕ). (T : ℕ) → Subset n T → n ≤ T) (λ T h. omega arith)
-    (λ n ih T h. omega (arith, ih (T / 2) (λ i. subst (λ (a : ℕ). a ≤ bit (T / 2) i) (bit-suc n i) (subst (λ (b : ℕ). bit n (suc i) ≤ b) (bit-suc T i) (h (suc i)))), bit-zero n, bit-zero T, h 0))
+    (λ n ih T h. omega (
+      arith,
+      ih (T / 2) (λ i. subst (λ (a : ℕ). a ≤ bit (T / 2) i) (bit-suc n i)
+          (subst (λ (b : ℕ). bit n (suc i) ≤ b) (bit-suc T i) (h (suc i)))),
+      bit-zero n,
+      bit-zero T,
+      h 0,
+    ))
 
 -- a strict subset is smaller as a number
 pub subset-lt : (S T : ℕ) → Subset S T → (S ≡ T → ⊥) → S < T

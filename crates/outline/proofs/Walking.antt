@@ -210,7 +210,8 @@ module _ {S : Type 0} {f : S → BoundaryArc → S} {s₀ : S} {cs : List Circle
       g .sum ∙ rw (e, arcs-of-gaps cs k c phis (omega (arith, g .count, g .some)))
 
 -- no angles: the whole circle, or nothing
-pub without-gaps : {S : Type 0} (f : S → BoundaryArc → S) (s₀ more : S) (cs : List Circle) (k : ℕ) (c : Circle) (phis : List Float) {n : ℕ} {arcs : List BoundaryArc}
+pub without-gaps : {S : Type 0} (f : S → BoundaryArc → S) (s₀ more : S) (cs : List Circle) (k : ℕ) (c : Circle)
+    (phis : List Float) {n : ℕ} {arcs : List BoundaryArc}
     → n ≡ length phis → n ≡ 0 → arcs ≡ arcsAt cs k c [] → more ≡ foldl f s₀ arcs → more ≡ foldl f s₀ (arcsAt cs k c phis)
 without-gaps f s₀ more cs k c phis e h ea em = em ∙ rw (ea, none-of-length phis (sym e ∙ h))
 
@@ -269,7 +270,8 @@ region-arcs : (circles : List Circle) (points : List IntersectionPoint) (S : ℕ
 unfolding regionArcs
 region-arcs circles points S = refl
 
-module _ (circles : List Circle) (points : List IntersectionPoint) (S : ℕ) (js : List ℕ) (cs : List Circle) (heads : js ≡ headsOf (length circles) S) (theirs : cs ≡ circlesOf (membersOf circles points S)) where
+module _ (circles : List Circle) (points : List IntersectionPoint) (S : ℕ) (js : List ℕ) (cs : List Circle) (heads : js ≡ headsOf (length circles) S)
+    (theirs : cs ≡ circlesOf (membersOf circles points S)) where
   -- the arcs of one member, and of any other number, under head numbers
   pub arcs-one : (c : Circle) → length (membersOf circles points S) ≡ 1 → c ≡ getD cs 0 noCircle
       → take arcsHeld (numbered js (fullCircle 0 c) ∷ []) ≡ regionArcs circles points S

@@ -60,7 +60,12 @@ members-arcs circles all points S b k [] o h = omega arith
 members-arcs circles all points S b k (j ∷ js) o h =
     let m : Member = memberAt circles points S j in
     let phis : List Float = anglesOf m in
-    let many : length phis ≤ b = omega (arith, sorted-length (map (angleAbout (m .circle)) (m .points)), length-map (m .points) (angleAbout (m .circle)), h .0) in
+    let many : length phis ≤ b = omega (
+      arith,
+      sorted-length (map (angleAbout (m .circle)) (m .points)),
+      length-map (m .points) (angleAbout (m .circle)),
+      h .0,
+    ) in
     omega (
       arith,
       length-append (arcsAt all k (m .circle) phis) (outlineFrom all (suc k) (map (memberAt circles points S) js)),
@@ -86,7 +91,8 @@ outline-few cs S h =
     let each = every-map js (λ j g. held cs S j h g) (heads-below (length cs) S) in
     omega (
       arith,
-      outline-le ms 18 (omega arith) (rw (length-map js (memberAt cs (collected cs) S)) (members-arcs cs (circlesOf ms) (collected cs) S 18 0 js (omega arith) each)),
+      outline-le ms 18 (omega arith) (rw (length-map js (memberAt cs (collected cs) S))
+          (members-arcs cs (circlesOf ms) (collected cs) S 18 0 js (omega arith) each)),
       length-map js (memberAt cs (collected cs) S),
       heads-few (length cs) S,
     )

@@ -25,7 +25,7 @@ ghost use Rattle.intersections.specs.Counted.{pointList, headList, circleList};
 ghost use Rattle.boundary.specs.Counted.{angleList, candidateList, arcList};
 
 // The three terms of an arc of a circle, added to a sum.
-pub fn arc_terms(total: f64, c: Circle, arc: BoundaryArc) -> f64
+fn arc_terms(total: f64, c: Circle, arc: BoundaryArc) -> f64
     ensures { λ r. ⌜ r ≡ arcTerms total c arc ⌝ }
 {
     let r = c.radius;
@@ -37,7 +37,7 @@ pub fn arc_terms(total: f64, c: Circle, arc: BoundaryArc) -> f64
 }
 
 // An arc added to a sum; one of no circle adds nothing.
-pub fn add_arc(total: f64, circles: [Circle; 10], n: usize, arc: BoundaryArc) -> f64
+fn add_arc(total: f64, circles: [Circle; 10], n: usize, arc: BoundaryArc) -> f64
     ensures { λ r. ⌜ r ≡ addArc (take n circles) total arc ⌝ }
 {
     let at = arc.circle;

@@ -25,7 +25,7 @@ ghost use Rattle.intersections.specs.Counted.{pointList, headList, circleList};
 ghost use Rattle.boundary.specs.Counted.{angleList, candidateList, arcList};
 
 // No arcs; the places are filled with some arc.
-pub fn no_arcs(filler: BoundaryArc) -> Arcs
+fn no_arcs(filler: BoundaryArc) -> Arcs
     ensures { λ r. ⌜ (r .n ≡ 0) × (arcList r ≡ []) ⌝ }
 {
     let all = [filler; 180];
@@ -33,7 +33,7 @@ pub fn no_arcs(filler: BoundaryArc) -> Arcs
 }
 
 // An arc more, while there is room.
-pub fn push(arcs: Arcs, arc: BoundaryArc) -> Arcs
+fn push(arcs: Arcs, arc: BoundaryArc) -> Arcs
     ensures { λ r. ⌜ arcList r ≡ take arcsHeld (arcList arcs ++ (arc ∷ [])) ⌝ }
     ensures { λ r. ⌜ r .n ≡ cond (ltb (arcs .n) arcsHeld) (arcs .n + 1) (arcs .n) ⌝ }
 {
@@ -47,7 +47,7 @@ pub fn push(arcs: Arcs, arc: BoundaryArc) -> Arcs
 }
 
 // The arc of a member as the arc of its head.
-pub fn numbered(arc: BoundaryArc, set: Members) -> BoundaryArc
+fn numbered(arc: BoundaryArc, set: Members) -> BoundaryArc
     ensures { λ r. ⌜ r ≡ numbered (headList set) arc ⌝ }
 {
     let mut renamed = arc;

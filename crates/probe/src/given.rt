@@ -8,6 +8,7 @@ ghost use Rattle.boundary.specs.Counted.{arcList};
 ghost use Rattle.probe.specs.Handed as spec;
 use crate::Extents;
 use boundary::arcs::Arcs;
+use boundary::arcs::BoundaryArc;
 use geometry::bounds::Bounds;
 use geometry::circle::Circle;
 use geometry::point::Point;
@@ -142,6 +143,18 @@ pub(crate) fn arc_at(list: Arcs, k: usize) -> Arc
         start: a.phi_start,
         end: a.phi_end,
         delta: a.delta_phi,
+    }
+}
+
+// The same head and angles.
+pub(crate) fn boundary_arc(a: Arc) -> BoundaryArc
+    ensures { λ r. ⌜ r ≡ spec.boundaryArc a ⌝ }
+{
+    BoundaryArc {
+        circle: a.head,
+        phi_start: a.start,
+        phi_end: a.end,
+        delta_phi: a.delta,
     }
 }
 

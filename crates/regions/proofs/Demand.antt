@@ -24,12 +24,13 @@ use Rattle.plan.proofs.Keeps.{applied-acceptable}
 use Rattle.intersections.specs.Members.{isSingle}
 use Rattle.regions.specs.Edit.{Row, absent, present, boxRow, afreshRow, overlaps, meetsAny, met, reworked, editedRow}
 use Rattle.regions.specs.Table.{Method, PlanTable, headAt, afresh, metBy, edited, overlaid, settled, rowsOver, afreshStep, tableStep}
-use Rattle.regions.specs.Demand.{AfreshRows, ExclusivesOf, BeyondStays, AfreshWorks, ListEndsAfresh, Reworks, EditReworksExactly, RefusedLeavesAll, DemandThree}
+use Rattle.regions.specs.Demand.{AfreshRows, ExclusivesOf, BeyondStays, AfreshWorks, ListEndsAfresh, Reworks, EditReworksExactly}
+use Rattle.regions.specs.Demand.{RefusedLeavesAll, DemandThree}
 use Rattle.masks.specs.Operations.{in-power}
 use Rattle.masks.specs.Gather.{in-gather}
 use Rattle.regions.proofs.Masks.{overlap-at, overlap-none, head-below}
 use Rattle.regions.proofs.Rows.{edited-afresh}
-use Rattle.regions.proofs.Steps.{rows-over, overlaid-below, settled-exclusives, settled-beyond, any-taken, none-taken}
+use Rattle.regions.proofs.Steps.{rows-over, overlaid-below, settled-exclusives, settled-beyond, after-keeps, any-taken, none-taken}
 use Rattle.lists.specs.Run as Run
 use Rattle.lists.proofs.Simulation.{simulates}
 
@@ -75,7 +76,8 @@ left-below m s e S h = overlaid-below (rowsOver (s .plan) e) (edited m (s .plan)
 
 -- the exclusives are those of the rows left, and what stands beyond stays
 left-exclusives : (m : Method) (s : PlanTable) (e : Edit) → ExclusivesOf m (s .plan .n) (left m s e .rows) (left m s e .exclusives)
-left-exclusives m s e = settled-exclusives m (rowsOver (s .plan) e) (applied (s .plan) e) (edited m (s .plan) e (s .rows)) s (le-of-eq (sym (rows-over (s .plan) e)))
+left-exclusives m s e =
+    settled-exclusives m (rowsOver (s .plan) e) (applied (s .plan) e) (edited m (s .plan) e (s .rows)) s (le-of-eq (sym (rows-over (s .plan) e)))
 
 left-beyond : (m : Method) (s : PlanTable) (e : Edit) → BeyondStays (2 ^ s .plan .n) s (left m s e)
 left-beyond m s e S h =
@@ -168,17 +170,23 @@ list-ends-afresh m s begin es =
       beyond = λ S h. (refl, refl);
     } in
     let end = simulates (tableStep m) bookStep (KeepsTo m s) (step-keeps m s) es s (s .plan) start in
-    let rows = Run.after (tableStep m) s es .rows in
+    let left = Run.after (tableStep m) s es in
     let p = book (s .plan) es in
+    let of-book : Settled m s left → ExclusivesOf m (p .n) (afresh m p) (left .exclusives) =
+    λ k S h.
+    subst (λ q. ExclusivesOf m (q .n) (left .rows) (left .exclusives)) (end .1 .plan) k S h
+    ∙ m .exclusives .below (p .n) (left .rows) (afresh m p) (end .1 .fresh) S h in
     record {
       answered = end .0;
       planned = end .1 .plan;
       fresh = end .1 .fresh;
-      exclusive = λ t S h.
-          subst (λ q. ExclusivesOf m (q .n) rows (Run.after (tableStep m) s es .exclusives)) (end .1 .plan)
-          (any-taken (tableStep m) (Settled m s) (taken-settled m s) (stays-settled m s) es s (subst AnyTaken (sym (end .0)) t)) S h
-          ∙ m .exclusives .below (p .n) rows (afresh m p) (end .1 .fresh) S h;
+      exclusive = λ t.
+          of-book (any-taken (tableStep m) (Settled m s) (taken-settled m s) (stays-settled m s) es s (subst AnyTaken (sym (end .0)) t));
       untouched = λ t. none-taken (tableStep m) (refused-leaves-all m) es s (λ u. t (subst AnyTaken (end .0) u));
+      both = λ k.
+          of-book
+          (after-keeps (tableStep m) (Settled m s) (taken-settled m s) (stays-settled m s) es s
+          (λ S h. k S h ∙ sym (m .exclusives .below (s .plan .n) (s .rows) (afresh m (s .plan)) (begin .fresh) S h)));
       beyond = end .1 .beyond;
     }
 
@@ -189,7 +197,9 @@ module _ (m : Method) (p : Plan) (e : Edit) (rows : ℕ → Row) where
   met-at : (j : ℕ) → j < p .n → (j ≡ e .head → ⊥)
       → inSet (metBy p e) j ≡ (meetsOf (headAt p (e .head)) (headAt p j) || (meetsOf (headOf e) (headAt p j) || false))
   unfolding met meetsAny
-  met-at j hj n = in-gather (p .n) _ j hj ∙ ap (λ b. not b && (meetsOf (headAt p (e .head)) (headAt p j) || (meetsOf (headOf e) (headAt p j) || false))) (ne-eqb j (e .head) n)
+  met-at j hj n =
+      in-gather (p .n) _ j hj ∙ ap (λ b. not b && (meetsOf (headAt p (e .head)) (headAt p j) || (meetsOf (headOf e) (headAt p j) || false)))
+      (ne-eqb j (e .head) n)
 
   -- a set after the edit whose row is worked out
   row-reworked : (S : ℕ) → 0 < S → m .sets (applied p e) S ≡ true → reworked (2 ^ e .head) (metBy p e) (m .sets p) S ≡ true
@@ -274,7 +284,8 @@ edited-reworks m s e =
 -- demand 3, second half
 pub edit-reworks-exactly : (m : Method) → EditReworksExactly m
 edit-reworks-exactly m s e q =
-    subst (λ t. (t .plan ≡ applied (s .plan) (e .edit)) × Reworks m (s .plan) (e .edit) (s .rows) (t .rows) × ExclusivesOf m (s .plan .n) (t .rows) (t .exclusives) × BeyondStays (2 ^ s .plan .n) s t)
+    subst (λ t. (t .plan ≡ applied (s .plan) (e .edit)) × Reworks m (s .plan) (e .edit) (s .rows) (t .rows)
+    × ExclusivesOf m (s .plan .n) (t .rows) (t .exclusives) × BeyondStays (2 ^ s .plan .n) s t)
     (sym (step-left m s e Taken q))
     (refl, edited-reworks m s (e .edit), left-exclusives m s (e .edit), left-beyond m s (e .edit))
 

@@ -11,6 +11,7 @@ use lib.ListN.{length}
 use lib.Pow.{pow-mono}
 use borrow.Author.Tests.{ne-eqb}
 use Rattle.heads.specs.declared.Head.{Head}
+use Rattle.heads.specs.Limits.{accepted-drawn}
 use Rattle.heads.specs.Pair.{meetsOf}
 use Rattle.masks.specs.Mask.{inSet}
 use Rattle.masks.specs.Gather.{in-gather}
@@ -50,10 +51,16 @@ module _ (m : Method) (p : Plan) (e : Edit) (ten : length (p .heads) ≡ 10) (ok
       (apart (headAt p (e .head)) (ok .heads (e .head) (oke .head)) (tests .0), apart (headOf e) (oke .x, oke .y, oke .radius) (or-false _ _ (tests .1) .0))
     where
       tests : (meetsOf (headAt p (e .head)) (headAt p j) ≡ false) × ((meetsOf (headOf e) (headAt p j) || false) ≡ false)
-      tests = or-false _ _ (rw (in-gather (p .n) (λ i. not (eqb i (e .head)) && meetsAny (headAt p (e .head) ∷ headOf e ∷ []) (headAt p i)) j hj, ne-eqb j (e .head) n) at i)
+      tests =
+          or-false _ _ (rw (
+            in-gather (p .n) (λ i. not (eqb i (e .head)) && meetsAny (headAt p (e .head) ∷ headOf e ∷ []) (headAt p i)) j hj,
+            ne-eqb j (e .head) n,
+          ) at i)
 
       apart : (v : Head) → HeadWithin v → meetsOf v (headAt p j) ≡ false → Apart (circleOf v) (circleOf (headAt p j))
-      apart v w no-meeting = no-points-unless-met v (headAt p j) (within-limits v w) (within-limits (headAt p j) (ok .heads j hj)) no-meeting
+      apart v w no-meeting =
+          no-points-unless-met v (headAt p j) (accepted-drawn v (within-limits v w))
+          (accepted-drawn (headAt p j) (within-limits (headAt p j) (ok .heads j hj))) no-meeting
 
   -- a row that is not reworked was a set's, and has the area it had
   kept-area : (S : ℕ) → S < 2 ^ p .n → reworked (2 ^ e .head) (metBy p e) (m .sets p) S ≡ false

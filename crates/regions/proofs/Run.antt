@@ -1,27 +1,30 @@
 -- A list of edits over slices: the next edit of a run, and demand 3's list of the slices themselves, from that of their rows.
-use Prim.Native.Nat.{ℕ, suc, _+_, _^_, _≤_, _<_}
+use Prim.Native.Nat.{ℕ, suc, _+_, _^_, _<_}
 use mathlib.Core.Path.{_≡_, refl, sym, ap, ap₂, _∙_, subst}
 use mathlib.Core.List.{List, [], _∷_, _++_, map, map-append, append-assoc}
+use native.Mathlib.Nat.{le-refl}
 use native.Mathlib.Numerals.{add-one}
-use native.Mathlib.Omega.{arith}
 use lib.ListN.{length, getD, set, drop, length-map, length-set}
-use lib.Seq.{drop-cons, drop-at, set-at}
+use lib.Seq.{drop-cons, set-at}
 use Rattle.lists.specs.Run as Run
 use Rattle.lists.specs.Run.{Step}
-use Rattle.lists.specs.Written.{tab, written}
-use Rattle.lists.proofs.Writing.{length-tab, length-written}
+use Rattle.lists.specs.Written.{tab}
+use Rattle.lists.proofs.Writing.{length-tab, length-written, drop-written}
 use Rattle.plan.specs.declared.Answer.{Answer}
 use Rattle.plan.specs.declared.Answer.the-variants.{Taken, Refused}
 use Rattle.plan.specs.declared.Edit.{Edit}
-use Rattle.plan.specs.declared.Lent.{Lent}
-use Rattle.plan.specs.Book.{AnyTaken, headOf, applied, leaves}
+use Rattle.plan.specs.declared.Gradients.the-variants.{None}
+use Rattle.plan.specs.Book.{AnyTaken, headOf, leaves}
+use Rattle.plan.specs.Checks.{planAnswer, callAnswer}
 use Rattle.plan.specs.Table.{answerNumber}
+use Rattle.plan.proofs.Exactly.{plan-taken, call-taken}
 use Rattle.regions.specs.Edit.{Row}
-use Rattle.regions.specs.Demand.{Fresh, Ends}
-use Rattle.regions.specs.Table.{Method, edited, tableStep}
-use Rattle.regions.specs.Slices.{Slices, rowAt, withRows, LentTables, lentOf, PlanSlices, settledTables, stepOf, sliceAnswer, editedLeft, editSlices, planTable, entryOf}
-use Rattle.regions.specs.Run.{slicesAfter, answersAfter, answersWritten, entriesOf, BytesStay, SlicesEnd, RunEnds}
-use Rattle.regions.proofs.Demand.{list-ends-afresh}
+use Rattle.regions.specs.Demand.{AfreshRows, ExclusivesOf, Fresh, Ends, Reworks}
+use Rattle.regions.specs.Table.{Method, afresh, edited, afreshStep, tableStep}
+use Rattle.regions.specs.Slices.{rowAt, withRows, LentTables, lentOf, PlanSlices, settledTables, stepOf, sliceAnswer, editedLeft, afreshSlices}
+use Rattle.regions.specs.Slices.{editSlices, planTable, entryOf}
+use Rattle.regions.specs.Run.{slicesAfter, answersAfter, answersWritten, entriesOf, BytesStay, AfreshBegins, SlicesRework, RunEnds}
+use Rattle.regions.proofs.Demand.{afresh-works, list-ends-afresh, edit-reworks-exactly}
 use Rattle.regions.proofs.Slices.{Room, edit-room, edited-left, slices-are-tables}
 use Rattle.regions.proofs.Steps.{none-taken}
 
@@ -88,17 +91,14 @@ module _ (m : Method) (start : PlanSlices) (f : ℕ → Edit) (i : ℕ) where
 
 -- ---- what a list of edits keeps of the slices
 
-drop-written : {A : Type 0} (f : ℕ → A) (count : ℕ) (l : List A) → drop count (written f count l) ≡ drop count l
-drop-written f count l = drop-at (tab f count) (drop count l) count (length-tab f count)
-
 settled-stays : (m : Method) (n : ℕ) (F : ℕ → Row) (t : LentTables) → Room n t → BytesStay (2 ^ n) t (settledTables m (2 ^ n) n F t)
 settled-stays m n F t r =
     let G : ℕ → Row = m .exclusives .of n (rowAt (withRows F (2 ^ n) (t .rows))) in
     record {
-      bytes = (drop-written (λ S. F S .byte) (2 ^ n) (t .rows .bytes), length-written (λ S. F S .byte) (2 ^ n) (t .rows .bytes) (r .bytes));
-      numbers = (drop-written (λ S. F S .number) (2 ^ n) (t .rows .numbers), length-written (λ S. F S .number) (2 ^ n) (t .rows .numbers) (r .numbers));
-      others = (drop-written (λ S. G S .byte) (2 ^ n) (t .exclusives .bytes), length-written (λ S. G S .byte) (2 ^ n) (t .exclusives .bytes) (r .others));
-      areas = (drop-written (λ S. G S .number) (2 ^ n) (t .exclusives .numbers), length-written (λ S. G S .number) (2 ^ n) (t .exclusives .numbers) (r .areas));
+      bytes = (drop-written (λ S. F S .byte) (2 ^ n) (2 ^ n) (t .rows .bytes) (le-refl (2 ^ n)), length-written (λ S. F S .byte) (2 ^ n) (t .rows .bytes) (r .bytes));
+      numbers = (drop-written (λ S. F S .number) (2 ^ n) (2 ^ n) (t .rows .numbers) (le-refl (2 ^ n)), length-written (λ S. F S .number) (2 ^ n) (t .rows .numbers) (r .numbers));
+      others = (drop-written (λ S. G S .byte) (2 ^ n) (2 ^ n) (t .exclusives .bytes) (le-refl (2 ^ n)), length-written (λ S. G S .byte) (2 ^ n) (t .exclusives .bytes) (r .others));
+      areas = (drop-written (λ S. G S .number) (2 ^ n) (2 ^ n) (t .exclusives .numbers) (le-refl (2 ^ n)), length-written (λ S. G S .number) (2 ^ n) (t .exclusives .numbers) (r .areas));
     }
 
 stay-stays : (count : ℕ) (t u v : LentTables) → BytesStay count t u → BytesStay count u v → BytesStay count t v
@@ -126,7 +126,8 @@ module _ (m : Method) (start : PlanSlices) where
         ten = length-set (d .plan .heads) (e .head) (headOf e) ∙ k .ten;
         count = k .count;
         stay = stay-stays (2 ^ start .plan .n) (start .tables) (d .tables) _ (k .stay)
-            (subst (λ n. BytesStay (2 ^ n) (d .tables) (settledTables m (2 ^ d .plan .n) (d .plan .n) (edited m (d .plan) e (rowAt (d .tables .rows))) (d .tables))) (k .count)
+            (subst (λ n. BytesStay (2 ^ n) (d .tables)
+            (settledTables m (2 ^ d .plan .n) (d .plan .n) (edited m (d .plan) e (rowAt (d .tables .rows))) (d .tables))) (k .count)
             (settled-stays m (d .plan .n) (edited m (d .plan) e (rowAt (d .tables .rows))) (d .tables) (edit-room d e (k .ten) q .0)));
       })
 
@@ -148,12 +149,14 @@ module _ (m : Method) (start : PlanSlices) where
   step-table : (d : PlanSlices) (e : Edit) → Kept d → planTable (editSlices m d e .left) ≡ tableStep m (planTable d) (entryOf (start .tables) e) .left
   step-table d e k =
       slices-are-tables m .edit-left d e
-      ∙ ap (λ lent. tableStep m (planTable d) (record { edit = e; lent = lent }) .left) (same-lengths (2 ^ start .plan .n) (start .tables) (d .tables) (k .stay))
+      ∙ ap (λ lent. tableStep m (planTable d) (record { edit = e; lent = lent }) .left)
+      (same-lengths (2 ^ start .plan .n) (start .tables) (d .tables) (k .stay))
 
   step-answer : (d : PlanSlices) (e : Edit) → Kept d → editSlices m d e .answer ≡ tableStep m (planTable d) (entryOf (start .tables) e) .answer
   step-answer d e k =
       slices-are-tables m .edit-answer d e
-      ∙ ap (λ lent. tableStep m (planTable d) (record { edit = e; lent = lent }) .answer) (same-lengths (2 ^ start .plan .n) (start .tables) (d .tables) (k .stay))
+      ∙ ap (λ lent. tableStep m (planTable d) (record { edit = e; lent = lent }) .answer)
+      (same-lengths (2 ^ start .plan .n) (start .tables) (d .tables) (k .stay))
 
   after-table : (es : List Edit) (d : PlanSlices) → Kept d → planTable (slicesAfter m d es) ≡ Run.after (tableStep m) (planTable d) (entriesOf start es)
   unfolding Run.after
@@ -177,10 +180,44 @@ refused-slices m d e n = go (sliceAnswer d e) n
     go Taken n = absurd (n refl)
     go (Refused r at) n = refl
 
--- Demand 3's list, of the slices.
+-- ---- demand 3, of the slices
+
+afresh-answer-is : (m : Method) (d : PlanSlices) → callAnswer (d .plan) None (lentOf (d .tables)) ≡ afreshSlices m d .answer
+unfolding afreshSlices
+afresh-answer-is m d = refl
+
+-- what a run begins with
+pub afresh-begins : (m : Method) → AfreshBegins m
+afresh-begins m d ten q =
+    let same = slices-are-tables m in
+    let works = afresh-works m (planTable d) (lentOf (d .tables)) .taken (sym (same .afresh-answer d) ∙ q) in
+    let left = sym (same .afresh-left d) in
+    let accepted = call-taken (d .plan) None (lentOf (d .tables)) ten .0 (afresh-answer-is m d ∙ q) .0 in (
+      subst (Fresh m) left
+          (record {
+            room = ap (λ p. length (p .heads)) (works .0) ∙ ten;
+            taken = ap planAnswer (works .0) ∙ plan-taken (d .plan) ten .1 accepted;
+            fresh = subst (λ p. AfreshRows m p (afreshStep m (planTable d) (lentOf (d .tables)) .left .rows)) (sym (works .0)) (works .1);
+          }),
+      subst (λ t. ExclusivesOf m (d .plan .n) (afresh m (d .plan)) (t .exclusives)) left (works .2),
+    )
+
+-- the second half
+pub slices-rework : (m : Method) → SlicesRework m
+slices-rework m d e q =
+    let same = slices-are-tables m in
+    let rows = ap (λ t. t .rows) (sym (same .edit-left d e)) in
+    subst (Reworks m (d .plan) e (rowAt (d .tables .rows))) rows
+    (edit-reworks-exactly m (planTable d) (entryOf (d .tables) e) (sym (same .edit-answer d e) ∙ q) .1)
+
+-- the list
 pub run-ends : (m : Method) → RunEnds m
 run-ends m d es begin =
-    let start : Kept m d d = record { ten = begin .room; count = refl; stay = record { bytes = (refl, refl); numbers = (refl, refl); others = (refl, refl); areas = (refl, refl) } } in
+    let start : Kept m d d = record {
+      ten = begin .room;
+      count = refl;
+      stay = record { bytes = (refl, refl); numbers = (refl, refl); others = (refl, refl); areas = (refl, refl) };
+    } in
     let end = list-ends-afresh m (planTable d) begin (entriesOf d es) in
     let answered = answers-table m d es d start in
     record {

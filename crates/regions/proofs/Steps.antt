@@ -48,7 +48,8 @@ refused-not-taken r at q = let z : _≡_ {A = ℕ} 0 1 = cc q in omega arith
 module _ {State Entry : Type 0} (step : State → Entry → Step State Answer) where
   module _ (Q : State → Type 0) (set : (s : State) (e : Entry) → step s e .answer ≡ Taken → Q (step s e .left))
       (keep : (s : State) (e : Entry) → Q s → Q (step s e .left)) where
-    after-keeps : (es : List Entry) (s : State) → Q s → Q (after step s es)
+    -- what every step keeps holds after a list
+    pub after-keeps : (es : List Entry) (s : State) → Q s → Q (after step s es)
     unfolding after
     after-keeps [] s k = k
     after-keeps (e ∷ es) s k = after-keeps es (step s e .left) (keep s e k)

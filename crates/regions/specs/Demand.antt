@@ -56,14 +56,16 @@ AfreshWorks m = (s : PlanTable) (lent : Lent) → WorksAfresh m s lent
 -- ---- a list of edits
 
 -- What a list of edits of s leaves: each answer is the one the checks give on the book, the plan left is the book's, the rows are the book's
--- afresh rows. The exclusives are those of the afresh rows if an edit was taken; if none was, nothing has changed. What stands beyond is as it
--- was handed in.
+-- afresh rows. The exclusives are those of the afresh rows if an edit was taken; if none was, nothing has changed. So where both tables were the
+-- plan's afresh ones, both are the book's. What stands beyond is as it was handed in.
 pub record Ends (m : Method) (s : PlanTable) (es : List Entry) (left : PlanTable) (given : List Answer) : Type 0 where
   pub answered : given ≡ answers (s .plan) es
   pub planned : left .plan ≡ book (s .plan) es
   pub fresh : AfreshRows m (book (s .plan) es) (left .rows)
   pub exclusive : AnyTaken (answers (s .plan) es) → ExclusivesOf m (book (s .plan) es .n) (afresh m (book (s .plan) es)) (left .exclusives)
   pub untouched : (AnyTaken (answers (s .plan) es) → ⊥) → left ≡ s
+  pub both : ExclusivesOf m (s .plan .n) (afresh m (s .plan)) (s .exclusives)
+      → ExclusivesOf m (book (s .plan) es .n) (afresh m (book (s .plan) es)) (left .exclusives)
   pub beyond : BeyondStays (2 ^ s .plan .n) s left
 
 -- Demand 3, first half: after any list of edits, refused ones included, each with the lengths lent for it, the table equals the

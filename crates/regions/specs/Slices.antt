@@ -44,9 +44,13 @@ writtenNumbers rows count l = written (λ S. rows S .number) count l
 abbrev pub withRows : (ℕ → Row) → ℕ → Slices → Slices
 withRows rows count t = slicesOf (writtenBytes rows count (t .bytes)) (writtenNumbers rows count (t .numbers))
 
--- what is written is read, and beyond it what stood there
+-- what is written is read, and beyond it what stood there. Proved as `row-written`.
 abbrev pub RowWritten : Type 0
 RowWritten = (rows : ℕ → Row) (count : ℕ) (t : Slices) (S : ℕ) → rowAt (withRows rows count t) S ≡ cond (ltb S count) (rows S) (rowAt t S)
+
+-- and back: slices of the same lengths that hold the same rows are the same, in every byte and every bit. Proved as `rows-fix`.
+abbrev pub RowsFix : Type 0
+RowsFix = (t u : Slices) → length (t .bytes) ≡ length (u .bytes) → length (t .numbers) ≡ length (u .numbers) → ((S : ℕ) → rowAt t S ≡ rowAt u S) → t ≡ u
 
 -- ---- the tables of a call
 

@@ -37,7 +37,8 @@ pub record Exclusives : Type 0 where
 pub record Method : Type 0 where
   pub area : Ground → List Member → Float
   -- "The outline of a single is its head's full circle, whatever meets it": of one member alone no point is looked at.
-  pub alone : (g : Ground) (c : Circle) (ps qs : List Point) → area g (record { circle = c; points = ps } ∷ []) ≡ area g (record { circle = c; points = qs } ∷ [])
+  pub alone : (g : Ground) (c : Circle) (ps qs : List Point) → area g (record { circle = c; points = ps } ∷ [])
+      ≡ area g (record { circle = c; points = qs } ∷ [])
   pub hasBox : Bool
   pub boxArea : Ground → Float
   pub sets : Plan → ℕ → Bool

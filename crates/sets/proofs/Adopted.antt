@@ -22,17 +22,20 @@ module _ (n : ℕ) (all : List IntersectionPoint) (k : ℕ) (found : List ℕ) (
   more : (S : ℕ) → isAdoptersOf (take (k + 1) all) S ≡ (isAdoptersOf (take k all) S || eqb S v)
   more S = any-next (λ q. eqb S (q .adopters)) all k noPoint h
 
-  pub adopted-next : v < 2 ^ n → set (marked (λ S. ltb S (2 ^ n) && isAdoptersOf (take k all) S) found) v 1 ≡ marked (λ S. ltb S (2 ^ n) && isAdoptersOf (take (k + 1) all) S) found
+  pub adopted-next : v < 2 ^ n → set (marked (λ S. ltb S (2 ^ n) && isAdoptersOf (take k all) S) found) v 1
+      ≡ marked (λ S. ltb S (2 ^ n) && isAdoptersOf (take (k + 1) all) S) found
   adopted-next below =
       mark-next (λ S. ltb S (2 ^ n) && isAdoptersOf (take k all) S) found v
       ∙ marked-same (λ S. (ltb S (2 ^ n) && isAdoptersOf (take k all) S) || eqb S v) (λ S. ltb S (2 ^ n) && isAdoptersOf (take (k + 1) all) S) found
       (λ S l. go S (ltb S (2 ^ n)) refl ∙ ap (λ (b : Bool). ltb S (2 ^ n) && b) (sym (more S)))
     where
-      go : (S : ℕ) (b : Bool) → ltb S (2 ^ n) ≡ b → ((ltb S (2 ^ n) && isAdoptersOf (take k all) S) || eqb S v) ≡ (ltb S (2 ^ n) && (isAdoptersOf (take k all) S || eqb S v))
+      go : (S : ℕ) (b : Bool) → ltb S (2 ^ n) ≡ b → ((ltb S (2 ^ n) && isAdoptersOf (take k all) S) || eqb S v)
+          ≡ (ltb S (2 ^ n) && (isAdoptersOf (take k all) S || eqb S v))
       go S true e = rw e
       go S false e = rw (e, ne-eqb S v (λ f. omega (arith, ltb-false S (2 ^ n) e)))
 
-  pub adopted-past : 2 ^ n ≤ v → marked (λ S. ltb S (2 ^ n) && isAdoptersOf (take k all) S) found ≡ marked (λ S. ltb S (2 ^ n) && isAdoptersOf (take (k + 1) all) S) found
+  pub adopted-past : 2 ^ n ≤ v → marked (λ S. ltb S (2 ^ n) && isAdoptersOf (take k all) S) found
+      ≡ marked (λ S. ltb S (2 ^ n) && isAdoptersOf (take (k + 1) all) S) found
   adopted-past beyond =
       marked-same (λ S. ltb S (2 ^ n) && isAdoptersOf (take k all) S) (λ S. ltb S (2 ^ n) && isAdoptersOf (take (k + 1) all) S) found
       (λ S l. go S (ltb S (2 ^ n)) refl ∙ ap (λ (b : Bool). ltb S (2 ^ n) && b) (sym (more S)))

@@ -16,7 +16,8 @@ use Rattle.lists.specs.Written.{written}
 use Rattle.sets.specs.Marked.{marked}
 use Rattle.masks.specs.Presence.{byte, stands, byte-stands}
 use Rattle.lists.specs.Some.{some}
-use Rattle.sets.specs.Sets.{paired, pair, pairsOf, isPair, witnessed, isPart, withParts, allPairs, oneInAll, inLevel, joined, withLevels, overlapping, containing, isSet}
+use Rattle.sets.specs.Sets.{paired, pair, pairsOf, isPair, witnessed, isPart, withParts, allPairs, oneInAll, inLevel, joined, withLevels}
+use Rattle.sets.specs.Sets.{overlapping, containing, isSet}
 use lib.Pow.{pow-mono}
 use Rattle.sets.proofs.Marks.{length-marked, marked-at, marked-again}
 use Rattle.lists.proofs.Writing.{length-written, written-before, written-past, written-cong, written-again}
@@ -51,9 +52,12 @@ module _ (n : ℕ) (f g : ℕ → Bool) (same : (T : ℕ) → T < 2 ^ n → f T 
     level-agree zero S hs = ap (λ (b : Bool). eqb (ones S) 2 && b) (same S hs)
     level-agree (suc e) S hs =
         ap₂ _&&_ (ap not (same S hs))
-        (ap₂ _&&_ (every-cong n (λ i. not (inSet S i) || subset n (withoutHead n S i) (o i)) (λ i. not (inSet S i) || subset n (withoutHead n S i) (p i)) (λ i k. ap (λ (m : ℕ). not (inSet S i) || subset n (withoutHead n S i) m) (over i k)))
-        (ap₂ _&&_ (some-cong n (λ i. inSet S i && subset n (withoutHead n S i) (c i)) (λ i. inSet S i && subset n (withoutHead n S i) (d i)) (λ i k. ap (λ (m : ℕ). inSet S i && subset n (withoutHead n S i) m) (cont i k)))
-        (some-cong n (λ i. inSet S i && inLevel n f o c e (withoutHead n S i)) (λ i. inSet S i && inLevel n g p d e (withoutHead n S i)) (λ i k. ap (λ (b : Bool). inSet S i && b) (level-agree e (withoutHead n S i) (gather-lt n _))))))
+        (ap₂ _&&_ (every-cong n (λ i. not (inSet S i) || subset n (withoutHead n S i) (o i)) (λ i. not (inSet S i) || subset n (withoutHead n S i) (p i))
+        (λ i k. ap (λ (m : ℕ). not (inSet S i) || subset n (withoutHead n S i) m) (over i k)))
+        (ap₂ _&&_ (some-cong n (λ i. inSet S i && subset n (withoutHead n S i) (c i)) (λ i. inSet S i && subset n (withoutHead n S i) (d i))
+        (λ i k. ap (λ (m : ℕ). inSet S i && subset n (withoutHead n S i) m) (cont i k)))
+        (some-cong n (λ i. inSet S i && inLevel n f o c e (withoutHead n S i)) (λ i. inSet S i && inLevel n g p d e (withoutHead n S i))
+        (λ i k. ap (λ (b : Bool). inSet S i && b) (level-agree e (withoutHead n S i) (gather-lt n _))))))
 
 -- ---- bytes
 
@@ -69,7 +73,8 @@ marks p q m h same beyond =
     (length-marked p (zeros 1024) ∙ sym (length-written (λ S. byte (q S)) m (zeros 1024) (omega (arith, length-replicate {A = ℕ} 1024 0))))
     (λ S k.
     let r : S < 1024 = omega (arith, length-marked p (zeros 1024), length-replicate {A = ℕ} 1024 0) in
-    marked-at p (zeros 1024) S (omega (arith, length-replicate {A = ℕ} 1024 0)) ∙ ap (λ (x : ℕ). cond (p S) 1 x) (getD-replicate 1024 S 0 0 r) ∙ at S r (ltb S m) refl)
+    marked-at p (zeros 1024) S (omega (arith, length-replicate {A = ℕ} 1024 0)) ∙ ap (λ (x : ℕ). cond (p S) 1 x) (getD-replicate 1024 S 0 0 r)
+    ∙ at S r (ltb S m) refl)
   where
     at : (S : ℕ) → S < 1024 → (b : Bool) → ltb S m ≡ b → cond (p S) 1 0 ≡ getD (written (λ T. byte (q T)) m (zeros 1024)) S 0
     at S r true e =

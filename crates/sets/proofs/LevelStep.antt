@@ -21,7 +21,8 @@ module _ (n : ℕ) (found below : ℕ → Bool) (overlapping containing : ℕ �
   bases : (d : ℕ) → ones S ≡ suc (suc (suc d))
       → some n (λ i. inSet S i && below (withoutHead n S i)) ≡ some n (λ i. inSet S i && inLevel n found overlapping containing d (withoutHead n S i))
   bases d e =
-      some-cong n (λ i. inSet S i && below (withoutHead n S i)) (λ i. inSet S i && inLevel n found overlapping containing d (withoutHead n S i)) (λ i h. at i h (inSet S i) refl)
+      some-cong n (λ i. inSet S i && below (withoutHead n S i)) (λ i. inSet S i && inLevel n found overlapping containing d (withoutHead n S i))
+      (λ i h. at i h (inSet S i) refl)
     where
       at : (i : ℕ) → i < n → (b : Bool) → inSet S i ≡ b
           → (b && below (withoutHead n S i)) ≡ (b && inLevel n found overlapping containing d (withoutHead n S i))
@@ -35,16 +36,19 @@ module _ (n : ℕ) (found below : ℕ → Bool) (overlapping containing : ℕ �
   level-step = go (leb (ones S) 2) refl
     where
       go : (b : Bool) → leb (ones S) 2 ≡ b
-          → cond (leb (ones S) 2) (eqb (ones S) 2 && found S) (not (found S) && (allPairs n overlapping S && (oneInAll n containing S && some n (λ i. inSet S i && below (withoutHead n S i)))))
+          → cond (leb (ones S) 2) (eqb (ones S) 2 && found S)
+          (not (found S) && (allPairs n overlapping S && (oneInAll n containing S && some n (λ i. inSet S i && below (withoutHead n S i)))))
           ≡ inLevel n found overlapping containing (ones S - 2) S
       go true e =
           let z : ones S - 2 ≡ 0 = omega (arith, leb-true (ones S) 2 e) in
-          ap (λ (b : Bool). cond b (eqb (ones S) 2 && found S) (not (found S) && (allPairs n overlapping S && (oneInAll n containing S && some n (λ i. inSet S i && below (withoutHead n S i)))))) e
+          ap (λ (b : Bool). cond b (eqb (ones S) 2 && found S)
+          (not (found S) && (allPairs n overlapping S && (oneInAll n containing S && some n (λ i. inSet S i && below (withoutHead n S i)))))) e
           ∙ sym (ap (λ (k : ℕ). inLevel n found overlapping containing k S) z)
       go false e =
           let m : ones S ≡ suc (suc (suc (ones S - 3))) = omega (arith, leb-false (ones S) 2 e) in
           let z : ones S - 2 ≡ suc (ones S - 3) = omega (arith, leb-false (ones S) 2 e) in
-          ap (λ (b : Bool). cond b (eqb (ones S) 2 && found S) (not (found S) && (allPairs n overlapping S && (oneInAll n containing S && some n (λ i. inSet S i && below (withoutHead n S i)))))) e
+          ap (λ (b : Bool). cond b (eqb (ones S) 2 && found S)
+          (not (found S) && (allPairs n overlapping S && (oneInAll n containing S && some n (λ i. inSet S i && below (withoutHead n S i)))))) e
           ∙ ap (λ (b : Bool). not (found S) && (allPairs n overlapping S && (oneInAll n containing S && b))) (bases (ones S - 3) m)
           ∙ sym (ap (λ (k : ℕ). inLevel n found overlapping containing k S) z)
 
@@ -53,11 +57,13 @@ module _ (n : ℕ) (below : ℕ → Bool) (overlapping containing : ℕ → ℕ)
   pub few-heads : {f a b : Bool} → leb (ones S) 2 ≡ true → eqb (ones S) 2 ≡ a → f ≡ b → byte (a && b) ≡ byte (levelFrom n f below overlapping containing S)
   unfolding levelFrom
   few-heads {f} e ea eb =
-      sym (ap byte (ap (λ (t : Bool). cond t (eqb (ones S) 2 && f) (not f && (allPairs n overlapping S && (oneInAll n containing S && some n (λ i. inSet S i && below (withoutHead n S i)))))) e ∙ ap₂ _&&_ ea eb))
+      sym (ap byte (ap (λ (t : Bool). cond t (eqb (ones S) 2 && f)
+      (not f && (allPairs n overlapping S && (oneInAll n containing S && some n (λ i. inSet S i && below (withoutHead n S i)))))) e ∙ ap₂ _&&_ ea eb))
 
   pub more-heads : {f a b c d : Bool} → leb (ones S) 2 ≡ false → f ≡ a → allPairs n overlapping S ≡ b → oneInAll n containing S ≡ c
       → some n (λ i. inSet S i && below (withoutHead n S i)) ≡ d → byte (not a && (b && (c && d))) ≡ byte (levelFrom n f below overlapping containing S)
   unfolding levelFrom
   more-heads {f} e ea eb ec ed =
-      sym (ap byte (ap (λ (t : Bool). cond t (eqb (ones S) 2 && f) (not f && (allPairs n overlapping S && (oneInAll n containing S && some n (λ i. inSet S i && below (withoutHead n S i)))))) e
+      sym (ap byte (ap (λ (t : Bool). cond t (eqb (ones S) 2 && f)
+      (not f && (allPairs n overlapping S && (oneInAll n containing S && some n (λ i. inSet S i && below (withoutHead n S i)))))) e
       ∙ ap₂ (λ (x y : Bool). not x && y) ea (ap₂ _&&_ eb (ap₂ _&&_ ec ed))))

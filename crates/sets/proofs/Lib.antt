@@ -8,4 +8,3 @@ pub mod LevelStep
 pub mod Singles
 pub mod Assembled
 pub mod Bytes
-pub mod Capped

@@ -13,12 +13,12 @@ use Rattle.table.specs.Ready.{areaOf}
 use Rattle.table.specs.Rows.{byteAfter, numberAfter}
 
 -- what a row is worked out from, at its own place
-pub row-cong : (boxed : Bool) (own met : ℕ) (area area' : ℕ → Float) (before before' after after' : ℕ → Bool) (rows rows' : ℕ → Row) (S : ℕ)
+pub row-cong : (hasBox : Bool) (own met : ℕ) (area area' : ℕ → Float) (before before' after after' : ℕ → Bool) (rows rows' : ℕ → Row) (S : ℕ)
     → area S ≡ area' S → before S ≡ before' S → after S ≡ after' S → rows S .number ≡ rows' S .number
-    → editedRow boxed own met area before after rows S ≡ editedRow boxed own met area' before' after' rows' S
+    → editedRow hasBox own met area before after rows S ≡ editedRow hasBox own met area' before' after' rows' S
 unfolding editedRow reworked
-row-cong boxed own met area area' before before' after after' rows rows' zero a b c d = rw d
-row-cong boxed own met area area' before before' after after' rows rows' (suc S) a b c d = rw (a, b, c, d)
+row-cong hasBox own met area area' before before' after after' rows rows' zero a b c d = rw d
+row-cong hasBox own met area area' before before' after after' rows rows' (suc S) a b c d = rw (a, b, c, d)
 
 -- the byte of a row that is there or not
 byte-of : (b : Bool) (v : Float) → byte b ≡ cond b (present v) absent .byte
@@ -26,58 +26,68 @@ byte-of true v = refl
 byte-of false v = refl
 
 -- its byte is that of the sets after
-pub byte-after : (boxed : Bool) (own met : ℕ) (area : ℕ → Float) (before after : ℕ → Bool) (rows : ℕ → Row) (is S : ℕ) → after S ≡ eqb is 1
-    → byteAfter boxed is S ≡ editedRow boxed own met area before after rows S .byte
+pub byte-after : (hasBox : Bool) (own met : ℕ) (area : ℕ → Float) (before after : ℕ → Bool) (rows : ℕ → Row) (is S : ℕ) → after S ≡ eqb is 1
+    → byteAfter hasBox is S ≡ editedRow hasBox own met area before after rows S .byte
 unfolding editedRow
-byte-after boxed own met area before after rows is zero e = byte-of boxed (rows zero .number)
-byte-after boxed own met area before after rows is (suc S) e =
+byte-after hasBox own met area before after rows is zero e = byte-of hasBox (rows zero .number)
+byte-after hasBox own met area before after rows is (suc S) e =
     rw e (byte-of (eqb is 1) (cond (reworked own met before (suc S)) (area (suc S)) (rows (suc S) .number)))
 
 -- afresh: no sets before, and, where there is a box, its area in row 0
-pub afresh-edited : (boxed : Bool) (own met : ℕ) (box : Float) (area : ℕ → Float) (sets : ℕ → Bool) (rows : ℕ → Row) (S : ℕ)
-    → boxRow boxed (rows 0 .number) ≡ boxRow boxed box
-    → editedRow boxed own met area (λ T. false) sets rows S ≡ afreshRow boxed box area sets S
+pub afresh-edited : (hasBox : Bool) (own met : ℕ) (box : Float) (area : ℕ → Float) (sets : ℕ → Bool) (rows : ℕ → Row) (S : ℕ)
+    → boxRow hasBox (rows 0 .number) ≡ boxRow hasBox box
+    → editedRow hasBox own met area (λ T. false) sets rows S ≡ afreshRow hasBox box area sets S
 unfolding editedRow afreshRow reworked
-afresh-edited boxed own met box area sets rows zero e = e
-afresh-edited boxed own met box area sets rows (suc S) e = simp or-true
+afresh-edited hasBox own met box area sets rows zero e = e
+afresh-edited hasBox own met box area sets rows (suc S) e = simp or-true
 
 -- ---- the byte and the number of a row, branch by branch
 
-pub byte-box : (boxed b : Bool) (is S : ℕ) → S ≡ 0 → boxed ≡ b → byte b ≡ byteAfter boxed is S
-byte-box boxed b is S n e = rw (n, e)
+pub byte-box : (hasBox b : Bool) (is S : ℕ) → S ≡ 0 → hasBox ≡ b → byte b ≡ byteAfter hasBox is S
+byte-box hasBox b is S n e = rw (n, e)
 
-pub byte-there : (boxed : Bool) (is S : ℕ) → (S ≡ 0 → ⊥) → is ≡ 1 → 1 ≡ byteAfter boxed is S
-byte-there boxed is zero n e = absurd (n refl)
-byte-there boxed is (suc S) n e = rw (eq-eqb is 1 e)
+pub byte-there : (hasBox : Bool) (is S : ℕ) → (S ≡ 0 → ⊥) → is ≡ 1 → 1 ≡ byteAfter hasBox is S
+byte-there hasBox is zero n e = absurd (n refl)
+byte-there hasBox is (suc S) n e = rw (eq-eqb is 1 e)
 
-pub byte-gone : (boxed : Bool) (is S : ℕ) → (S ≡ 0 → ⊥) → (is ≡ 1 → ⊥) → 0 ≡ byteAfter boxed is S
-byte-gone boxed is zero n e = absurd (n refl)
-byte-gone boxed is (suc S) n e = rw (ne-eqb is 1 e)
+pub byte-gone : (hasBox : Bool) (is S : ℕ) → (S ≡ 0 → ⊥) → (is ≡ 1 → ⊥) → 0 ≡ byteAfter hasBox is S
+byte-gone hasBox is zero n e = absurd (n refl)
+byte-gone hasBox is (suc S) n e = rw (ne-eqb is 1 e)
 
 -- the row of a set, and of no set
-module _ (boxed : Bool) (own met : ℕ) (area : ℕ → Float) (before after : ℕ → Bool) (rows : ℕ → Row) (S : ℕ) where
-  row-gone : after (suc S) ≡ false → editedRow boxed own met area before after rows (suc S) ≡ absent
+module _ (hasBox : Bool) (own met : ℕ) (area : ℕ → Float) (before after : ℕ → Bool) (rows : ℕ → Row) (S : ℕ) where
+  row-gone : after (suc S) ≡ false → editedRow hasBox own met area before after rows (suc S) ≡ absent
   unfolding editedRow
   row-gone e = rw e
 
   row-there : (b : Bool) → after (suc S) ≡ true → reworked own met before (suc S) ≡ b
-      → editedRow boxed own met area before after rows (suc S) ≡ present (cond b (area (suc S)) (rows (suc S) .number))
+      → editedRow hasBox own met area before after rows (suc S) ≡ present (cond b (area (suc S)) (rows (suc S) .number))
   unfolding editedRow
   row-there b e f = rw (e, f)
 
 -- row 0
-row-box : (boxed b : Bool) (own met : ℕ) (area : ℕ → Float) (before after : ℕ → Bool) (rows : ℕ → Row) → boxed ≡ b
-    → editedRow boxed own met area before after rows 0 ≡ boxRow b (rows 0 .number)
+row-box : (hasBox b : Bool) (own met : ℕ) (area : ℕ → Float) (before after : ℕ → Bool) (rows : ℕ → Row) → hasBox ≡ b
+    → editedRow hasBox own met area before after rows 0 ≡ boxRow b (rows 0 .number)
 unfolding editedRow
-row-box boxed b own met area before after rows e = rw e
+row-box hasBox b own met area before after rows e = rw e
 
 module _ (r : Ready) (c : Change) (was is S : ℕ) (v : Float) where
-  pub number-box : S ≡ 0 → r .boxed ≡ true → v ≡ numberAfter r c was is S v
-  number-box n e = rw n (sym (ap (λ row. row .number) (row-box (r .boxed) true (c .own) (c .met) (areaOf r) (λ T. eqb was 1) (λ T. eqb is 1) (λ T. record { byte = 0; number = v }) e)))
+  -- the rows of which numberAfter takes the number
+  abbrev was-there : ℕ → Bool
+  was-there T = eqb was 1
 
-  pub number-open : S ≡ 0 → r .boxed ≡ false → ofBits binary64 0 ≡ numberAfter r c was is S v
+  abbrev is-there : ℕ → Bool
+  is-there T = eqb is 1
+
+  abbrev holding : ℕ → Row
+  holding T = record { byte = 0; number = v }
+
+  pub number-box : S ≡ 0 → r .clipped ≡ true → v ≡ numberAfter r c was is S v
+  number-box n e = rw n (sym (ap (λ row. row .number) (row-box (r .clipped) true (c .own) (c .met) (areaOf r) was-there is-there holding e)))
+
+  pub number-open : S ≡ 0 → r .clipped ≡ false → ofBits binary64 0 ≡ numberAfter r c was is S v
   unfolding ofBits
-  number-open n e = rw n (sym (ap (λ row. row .number) (row-box (r .boxed) false (c .own) (c .met) (areaOf r) (λ T. eqb was 1) (λ T. eqb is 1) (λ T. record { byte = 0; number = v }) e)))
+  number-open n e = rw n (sym (ap (λ row. row .number) (row-box (r .clipped) false (c .own) (c .met) (areaOf r) was-there is-there holding e)))
 
   pub number-gone : (S ≡ 0 → ⊥) → (is ≡ 1 → ⊥) → ofBits binary64 0 ≡ numberAfter r c was is S v
   unfolding ofBits
@@ -85,16 +95,20 @@ module _ (r : Ready) (c : Change) (was is S : ℕ) (v : Float) where
     where
       by : (T : ℕ) → (T ≡ 0 → ⊥) → ofBits binary64 0 ≡ numberAfter r c was is T v
       by zero m = absurd (m refl)
-      by (suc T) m = sym (ap (λ row. row .number) (row-gone (r .boxed) (c .own) (c .met) (areaOf r) (λ U. eqb was 1) (λ U. eqb is 1) (λ U. record { byte = 0; number = v }) T (ne-eqb is 1 e)))
+      by (suc T) m =
+          sym (ap (λ row. row .number) (row-gone (r .clipped) (c .own) (c .met) (areaOf r) was-there is-there holding T (ne-eqb is 1 e)))
 
-  there : (b : Bool) → (S ≡ 0 → ⊥) → is ≡ 1 → reworked (c .own) (c .met) (λ T. eqb was 1) S ≡ b → cond b (areaOf r S) v ≡ numberAfter r c was is S v
+  there : (b : Bool) → (S ≡ 0 → ⊥) → is ≡ 1 → reworked (c .own) (c .met) (λ T. eqb was 1) S ≡ b
+      → cond b (areaOf r S) v ≡ numberAfter r c was is S v
   there b n e f = by S n f
     where
       by : (T : ℕ) → (T ≡ 0 → ⊥) → reworked (c .own) (c .met) (λ U. eqb was 1) T ≡ b → cond b (areaOf r T) v ≡ numberAfter r c was is T v
       by zero m f = absurd (m refl)
-      by (suc T) m f = sym (ap (λ row. row .number) (row-there (r .boxed) (c .own) (c .met) (areaOf r) (λ U. eqb was 1) (λ U. eqb is 1) (λ U. record { byte = 0; number = v }) T b (eq-eqb is 1 e) f))
+      by (suc T) m f =
+          sym (ap (λ row. row .number) (row-there (r .clipped) (c .own) (c .met) (areaOf r) was-there is-there holding T b (eq-eqb is 1 e) f))
 
-  pub number-worked : (S ≡ 0 → ⊥) → is ≡ 1 → reworked (c .own) (c .met) (λ T. eqb was 1) S ≡ true → {w : Float} → w ≡ areaOf r S → w ≡ numberAfter r c was is S v
+  pub number-worked : (S ≡ 0 → ⊥) → is ≡ 1 → reworked (c .own) (c .met) (λ T. eqb was 1) S ≡ true
+      → {w : Float} → w ≡ areaOf r S → w ≡ numberAfter r c was is S v
   number-worked n e f {w} g = g ∙ there true n e f
 
   pub number-kept : (S ≡ 0 → ⊥) → is ≡ 1 → reworked (c .own) (c .met) (λ T. eqb was 1) S ≡ false → v ≡ numberAfter r c was is S v

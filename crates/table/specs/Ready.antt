@@ -22,11 +22,12 @@ membersIn r S = membersOf (take (r .n) (r .circles)) (pointList (r .points)) S
 
 -- the area of row S
 unfoldable pub areaOf : Ready → ℕ → Float
-areaOf r S = cond (r .boxed) (clippedArea (r .bounds) (membersIn r S)) (openArea (membersIn r S))
+areaOf r S = cond (r .clipped) (clippedArea (r .bounds) (membersIn r S)) (openArea (membersIn r S))
 
 -- r is made of the plan p, with its box or without it
 pub record Of (p : Plan) (hasBox : Bool) (r : Ready) : Type 0 where
-  pub boxed : r .boxed ≡ hasBox
+  pub clipped : r .clipped ≡ hasBox
+  pub n : r .n ≡ p .n
   pub circles : take (r .n) (r .circles) ≡ planCircles p
   pub points : pointList (r .points) ≡ collected (planCircles p)
   pub bounds : r .bounds ≡ bounds (boxOf (p .ground))

@@ -12,9 +12,9 @@ use outline::area::region_area;
 use plan::Plan;
 use sets::discover::discover_regions;
 
-// `boxed`: the rows are those in the box.
+// `clipped`: the rows are those in the box.
 pub struct Ready {
-    pub boxed: bool,
+    pub clipped: bool,
     pub n: usize,
     pub circles: [Circle; 10],
     pub points: Intersections,
@@ -22,12 +22,12 @@ pub struct Ready {
 }
 
 // The area of row `mask`, in the box or without it.
-pub fn row_area(ready: Ready, mask: usize) -> f64
+pub(crate) fn row_area(ready: Ready, mask: usize) -> f64
     ensures { λ r. ⌜ r ≡ spec.areaOf ready mask ⌝ }
 {
     let circles = ready.circles;
     let points = ready.points;
-    if ready.boxed {
+    if ready.clipped {
         let bounds = ready.bounds;
         return clipped_region_area(mask, circles, points, ready.n, bounds);
     }
@@ -35,15 +35,15 @@ pub fn row_area(ready: Ready, mask: usize) -> f64
 }
 
 // What the rows of a plan are worked out from, with its box or without it.
-pub fn ready_of(plan: Plan, boxed: bool) -> Ready
-    ensures { λ r. ⌜ spec.Of plan boxed r ⌝ }
+pub(crate) fn ready_of(plan: Plan, clipped: bool) -> Ready
+    ensures { λ r. ⌜ spec.Of plan clipped r ⌝ }
 {
     let ground = plan.ground;
     let circles = circles_of(plan);
     let points = collect_intersections(circles, plan.n);
     let bounds = box_of(ground).bounds();
     Ready {
-        boxed: boxed,
+        clipped: clipped,
         n: plan.n,
         circles: circles,
         points: points,
@@ -52,7 +52,7 @@ pub fn ready_of(plan: Plan, boxed: bool) -> Ready
 }
 
 // The presence bytes of a plan's sets.
-pub fn sets_of(plan: Plan) -> [u8; 1024]
+pub(crate) fn sets_of(plan: Plan) -> [u8; 1024]
     ensures { λ r. ⌜ r ≡ spec.setsWritten plan ⌝ }
 {
     let circles = circles_of(plan);

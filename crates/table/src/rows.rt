@@ -32,11 +32,11 @@ fn is_reworked(change: Change, was: u8, mask: usize) -> bool
 }
 
 // The byte of a row whose byte among the sets after the edit is `is`. Row 0 is there where there is a box.
-fn row_byte(boxed: bool, is: u8, mask: usize) -> u8
-    ensures { λ r. ⌜ r ≡ spec.byteAfter boxed is mask ⌝ }
+fn row_byte(clipped: bool, is: u8, mask: usize) -> u8
+    ensures { λ r. ⌜ r ≡ spec.byteAfter clipped is mask ⌝ }
 {
     if mask == 0 {
-        return if boxed { 1 } else { 0 };
+        return if clipped { 1 } else { 0 };
     }
     if is == 1 {
         return 1;
@@ -49,7 +49,7 @@ fn row_number(ready: Ready, change: Change, was: u8, is: u8, mask: usize, number
     ensures { λ r. ⌜ r ≡ spec.numberAfter ready change was is mask number ⌝ }
 {
     if mask == 0 {
-        return if ready.boxed { number } else { 0.0 };
+        return if ready.clipped { number } else { 0.0 };
     }
     if is != 1 {
         return 0.0;
@@ -71,14 +71,22 @@ pub(crate) fn write_rows(
     rows: &mut [f64],
 )
     requires { ⌜ (count ≤ 1024) × (count ≤ length (now presence)) × (count ≤ length (now rows)) ⌝ }
-    ensures { λ r. ⌜ now (presence .exit) ≡ written (λ S. spec.rowsWritten ready change (now (earlier .entry)) (now (later .entry)) (now (presence .entry)) (now (rows .entry)) S .byte) count (now (presence .entry)) ⌝ }
-    ensures { λ r. ⌜ now (rows .exit) ≡ written (λ S. spec.rowsWritten ready change (now (earlier .entry)) (now (later .entry)) (now (presence .entry)) (now (rows .entry)) S .number) count (now (rows .entry)) ⌝ }
+    ensures { λ r. ⌜
+        now (presence .exit)
+        ≡ written (λ S. spec.rowsWritten ready change (now (earlier .entry)) (now (later .entry)) (now (presence .entry)) (now (rows .entry)) S .byte)
+        count (now (presence .entry))
+        ⌝ }
+    ensures { λ r. ⌜
+        now (rows .exit)
+        ≡ written (λ S. spec.rowsWritten ready change (now (earlier .entry)) (now (later .entry)) (now (presence .entry)) (now (rows .entry)) S .number)
+        count (now (rows .entry))
+        ⌝ }
 {
-    let boxed = ready.boxed;
+    let clipped = ready.clipped;
     let mut mask: usize = 0;
     while mask < count {
         rows[mask] = row_number(ready, change, earlier[mask], later[mask], mask, rows[mask]);
-        presence[mask] = row_byte(boxed, later[mask], mask);
+        presence[mask] = row_byte(clipped, later[mask], mask);
         mask += 1;
     }
 }

@@ -1,6 +1,6 @@
 -- `box_of`: the definition opened, and what the two makers give put in its place.
 use borrow.Author.Needs.{needs}
-use Rattle.plan.proofs.Conditions.{kept}
+use Rattle.heads.proofs.Signed.{read-back}
 use Rattle.drawn.specs.Drawn.{boxOf}
 use Rattle.drawn.proofs.box_of.Statement.{statement}
 use Rattle.drawn.proofs.box_of.Tie as tie
@@ -29,7 +29,12 @@ returns c =
     let ground = c .before .before .before .before .before .before .before .before .before .before .args .ground in
     let told = c .before .struct-told4 .given in
     rw (c .new2 .ensures, c .before .before .before .before .before .new .ensures)
-    (simp (kept (ground .x) (told .0 .1), kept (ground .y) (told .1 .0 .1), kept (ground .width) (told .1 .1 .0 .1), kept (ground .height) (told .1 .1 .1 .0 .1)))
+    (simp (
+      read-back (ground .x) (told .0 .1),
+      read-back (ground .y) (told .1 .0 .1),
+      read-back (ground .width) (told .1 .1 .0 .1),
+      read-back (ground .height) (told .1 .1 .1 .0 .1),
+    ))
 
 pub box-of-spec : {M : Type 1} → statement M
 box-of-spec =

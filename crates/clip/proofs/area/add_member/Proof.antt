@@ -10,7 +10,8 @@ use Rattle.clip.proofs.area.add_member.Statement.{statement}
 use Rattle.clip.proofs.area.add_member.Tie as tie
 
 abbrev Inv-loop : tie.InvT-loop
-Inv-loop total bounds k circle angles set n sum₀ i₀ sum i = GapsTo (addClippedArc bounds (circleList set)) total (circleList set) k circle (angleList angles) n i sum
+Inv-loop total bounds k circle angles set n sum₀ i₀ sum i =
+    GapsTo (addClippedArc bounds (circleList set)) total (circleList set) k circle (angleList angles) n i sum
 
 abbrev μ-loop : tie.MeasureT-loop
 μ-loop total bounds k circle angles set n sum₀ i₀ sum i = n - i

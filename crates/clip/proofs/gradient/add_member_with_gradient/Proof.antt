@@ -15,7 +15,8 @@ use Rattle.clip.specs.Gradient.{WithGradient, with-gradient, addClippedA
 use Rattle.clip.proofs.gradient.add_member_with_gradient.Statement.{statement}
 use Rattle.clip.proofs.gradient.add_member_with_gradient.Tie as tie
 
-record Added (box : Bounds) (s₀ : WithGradient) (cs : List Circle) (k : ℕ) (c : Circle) (phis : List Float) (n i : ℕ) (sum : Float) (grad : List Float) : Type 0 where
+record Added (box : Bounds) (s₀ : WithGradient) (cs : List Circle) (k : ℕ) (c : Circle) (phis : List Float) (n i : ℕ) (sum : Float)
+    (grad : List Float) : Type 0 where
   same : length grad ≡ length (s₀ .grad)
   gaps : GapsTo (addClippedArcWithGradient box cs) s₀ cs k c phis n i (with-gradient sum grad)
 

@@ -1,4 +1,4 @@
--- `gradient::clipped_region_area_and_gradient` meets its contract: one member's whole circle, or the sum over all members.
+-- `gradient::clipped_region_area_and_gradient`: one member's whole circle (`fold-one`), or the sum over all members (`fold-other`).
 use borrow.Author.Needs.{needs}
 use mathlib.Core.Path.{_≡_, refl, sym, _∙_}
 use Prim.Native.Nat.{_≤_}
@@ -22,14 +22,21 @@ long c = search needs
 few : (c : tie.After-members-of) → c .members-of .result .n ≤ 10
 few c =
     let s = c .before .before .before .before in
-    omega (arith, c .members-of .ensures .0, heads-few (length (take (s .args .n-sets) (s .args .circles))) (s .args .mask), length-take (s .args .n-sets) (s .args .circles), long s)
+    omega (
+      arith,
+      c .members-of .ensures .0,
+      heads-few (length (take (s .args .n-sets) (s .args .circles))) (s .args .mask),
+      length-take (s .args .n-sets) (s .args .circles),
+      long s,
+    )
 
 empty-box-requires : tie.Need-empty-box-requires
 empty-box-requires c κs = search needs
 
 returns : tie.Need-returns
 returns c = let a = c .before .before .before .args in
-    gradient-of-members-nothing (a .bounds) (membersOf (take (a .n-sets) (a .circles)) (pointList (a .points)) (a .mask)) (a .grad .now) (sym (c .before .empty-box .ensures) ∙ c .if1 .taken)
+    gradient-of-members-nothing (a .bounds) (membersOf (take (a .n-sets) (a .circles)) (pointList (a .points)) (a .mask)) (a .grad .now)
+    (sym (c .before .empty-box .ensures) ∙ c .if1 .taken)
 
 members-of-requires : tie.Need-members-of-requires
 members-of-requires c κs = search needs
@@ -100,7 +107,8 @@ returns-3 c = let e = c .before .before in
     (m .members-of .ensures .1 .1 ∙ sym (circles-of-members circles points (a .mask)))
     many
     (t .outline-sum-with-gradient .ensures
-    ∙ fold-other (addClippedArcWithGradient (a .bounds) cs) (with-gradient zero64 (a .grad .now)) circles points (a .mask) _ cs (m .members-of .ensures .1 .0) (m .members-of .ensures .1 .1) (λ h. j .if2 .left (many ∙ h)))
+    ∙ fold-other (addClippedArcWithGradient (a .bounds) cs) (with-gradient zero64 (a .grad .now)) circles points (a .mask) _ cs
+    (m .members-of .ensures .1 .0) (m .members-of .ensures .1 .1) (λ h. j .if2 .left (many ∙ h)))
     (e .add-edges-with-gradient2 .ensures)
 
 pub clipped-region-area-and-gradient-spec : {M : Type 1} → statement M

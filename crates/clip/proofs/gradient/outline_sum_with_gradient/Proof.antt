@@ -17,7 +17,8 @@ use Rattle.clip.specs.Gradient.{with-gradient, addClippedArcWithGradient
 use Rattle.clip.proofs.gradient.outline_sum_with_gradient.Statement.{statement}
 use Rattle.clip.proofs.gradient.outline_sum_with_gradient.Tie as tie
 
-record Added (box : Bounds) (grad₀ : List Float) (points : List IntersectionPoint) (mask : ℕ) (set : Members) (n k : ℕ) (total : Float) (grad : List Float) : Type 0 where
+record Added (box : Bounds) (grad₀ : List Float) (points : List IntersectionPoint) (mask : ℕ) (set : Members) (n k : ℕ) (total : Float)
+    (grad : List Float) : Type 0 where
   same : length grad ≡ length grad₀
   walked : Walked (addClippedArcWithGradient box (circleList set)) (with-gradient zero64 grad₀) points mask set n k (with-gradient total grad)
 

@@ -1,4 +1,4 @@
--- `slopes::add_clipped_arc_with_gradient` meets its contract.
+-- `slopes::add_clipped_arc_with_gradient`: an arc of no circle of the first n adds nothing; any other finds its circle in the array.
 use borrow.Author.Needs.{needs}
 use mathlib.Core.Path.{_≡_, ap}
 use native.Mathlib.Omega.{arith}
@@ -44,7 +44,10 @@ returns-3 c = let p = c .before .before in
     let e = p .before .before .before .before in
     let s = e .before .before in
     let a = s .args in
-    rw (lt-ltb (a .arc .circle) (length (take (a .n) (a .t4))) (omega (arith, length-take (a .n) (a .t4), long s)), getD-take (a .n) (a .t4) (a .arc .circle) noCircle (e .if1 .left))
+    rw (
+      lt-ltb (a .arc .circle) (length (take (a .n) (a .t4))) (omega (arith, length-take (a .n) (a .t4), long s)),
+      getD-take (a .n) (a .t4) (a .arc .circle) noCircle (e .if1 .left),
+    )
     (ap (onto (a .total)) (p .arc-integral-with-gradient .ensures))
 
 pub add-clipped-arc-with-gradient-spec : {M : Type 1} → statement M

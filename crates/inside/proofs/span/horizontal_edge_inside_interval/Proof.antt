@@ -1,4 +1,4 @@
--- `span::horizontal_edge_inside_interval` meets its contract.
+-- `span::horizontal_edge_inside_interval`: a level edge sees the circles as they are (`seen-level`).
 use borrow.Author.Needs.{needs}
 use mathlib.Core.Path.{_∙_, ap}
 use Rattle.intersections.specs.Counted.{circleList}

@@ -1,4 +1,4 @@
--- `span::vertical_edge_inside_interval` meets its contract.
+-- `span::vertical_edge_inside_interval`: an upright edge is a level one of the swapped circles (`seen-upright`).
 use borrow.Author.Needs.{needs}
 use mathlib.Core.Path.{_∙_}
 use Rattle.intersections.specs.Counted.{circleList}

@@ -1,4 +1,4 @@
--- `collect::push_pair` meets its contract: case by case of the meeting.
+-- `collect::push_pair`: case by case of the meeting.
 use mathlib.Core.Path.{_≡_, sym, ap}
 use mathlib.Core.List.{[], _∷_, map}
 use Prim.Native.Nat.{ℕ, _<_}
@@ -24,7 +24,12 @@ found : (d : tie.After-new) → let a = d .before .before .before .args in let p
     pairPoints (take (a .n) (a .t2)) (a .i) (a .j) ≡ map (withAdopters (take (a .n) (a .t2)) (pair .first) (pair .second)) (points (pair .meeting))
 unfolding pairPoints
 found d = let s = d .before .before .before in let a = s .args in let made = d .new .ensures in
-    rw (made .0, made .1, getD-take (a .n) (a .t2) (a .i) noCircle (within s (s .pre .0) .1), getD-take (a .n) (a .t2) (a .j) noCircle (within s (s .pre .1) .1))
+    rw (
+      made .0,
+      made .1,
+      getD-take (a .n) (a .t2) (a .i) noCircle (within s (s .pre .0) .1),
+      getD-take (a .n) (a .t2) (a .j) noCircle (within s (s .pre .1) .1),
+    )
     (ap (map (withAdopters (take (a .n) (a .t2)) (a .i) (a .j))) (sym (made .2)))
 
 -- its heads are among the first n
@@ -97,7 +102,8 @@ returns-3 c = let d = c .before .before .before .before .before .before .before 
     let pushed = c .before .before .push-with-adopters2 .ensures in (
       rw (found d, one .before .before .meeting2 .given .1, ← (one .new3 .ensures), ← (c .before .new4 .ensures))
           (pushed-on 90 (pointList (a .list)) (pointList (c .before .before .push-with-adopters2 .result)) (pointList (c .push-with-adopters3 .result))
-          (withAdopters (take (a .n) (a .t2)) (pair .first) (pair .second) (one .new3 .result) ∷ []) (withAdopters (take (a .n) (a .t2)) (pair .first) (pair .second) (c .before .new4 .result) ∷ [])
+          (withAdopters (take (a .n) (a .t2)) (pair .first) (pair .second) (one .new3 .result) ∷ [])
+          (withAdopters (take (a .n) (a .t2)) (pair .first) (pair .second) (c .before .new4 .result) ∷ [])
           (pushed .0) (c .push-with-adopters3 .ensures .0)),
       λ h. c .push-with-adopters3 .ensures .1 (pushed .1 h),
     )

@@ -1,4 +1,4 @@
--- `collect::push_with_adopters` meets its contract.
+-- `collect::push_with_adopters`: one pushed, and its count (`pushed-count`).
 use mathlib.Core.Path.{_≡_}
 use native.Mathlib.Omega.{arith}
 use lib.ListN.{length, length-take}

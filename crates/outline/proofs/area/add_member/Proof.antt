@@ -29,7 +29,8 @@ returns c =
     let t = c .before .before in
     let a = t .before .before .args in
     let cs = circleList (a .set) in
-    without-gaps (addArc cs) (a .total) _ cs (a .k) (a .circle) (angleList (a .angles)) (t .before .count .ensures) (t .if1 .taken) (c .before .whole-circle .ensures) (c .add-candidate .ensures)
+    without-gaps (addArc cs) (a .total) _ cs (a .k) (a .circle) (angleList (a .angles)) (t .before .count .ensures) (t .if1 .taken)
+    (c .before .whole-circle .ensures) (c .add-candidate .ensures)
 
 loop-holds : tie.Need-loop-holds Inv-loop μ-loop
 loop-holds c = gaps-none (c .before .count .ensures) (omega arith)

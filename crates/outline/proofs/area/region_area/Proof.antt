@@ -35,7 +35,8 @@ returns c =
     area-by-sum ms (take 1 (m .result .circles)) _ own
     (c .add-arc .ensures
     ∙ rw (c .before .full-circle .ensures)
-    (fold-one (addArc (take 1 (m .result .circles))) zero64 ms (m .result .circles) _ (members-many circles points (a .mask) ∙ sym (m .ensures .0) ∙ one) own refl))
+    (fold-one (addArc (take 1 (m .result .circles))) zero64 ms (m .result .circles) _
+    (members-many circles points (a .mask) ∙ sym (m .ensures .0) ∙ one) own refl))
 
 outline-sum-requires : tie.Need-outline-sum-requires
 outline-sum-requires c κs = search needs

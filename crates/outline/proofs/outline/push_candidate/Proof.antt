@@ -1,4 +1,4 @@
--- `outline::push_candidate` meets its contract.
+-- `outline::push_candidate`: one pushed, and its count (`pushed-count`), or none (`pushed-none`).
 use mathlib.Core.Path.{_≡_}
 use native.Mathlib.Omega.{arith}
 use lib.ListN.{length, length-take}

@@ -82,7 +82,8 @@ loop-again c =
     let heads = headList (c .before .before .before .before .before .before .args .set) in
     let pushed = c .push-candidate2 .ensures in
     record {
-      gaps = gaps-next (inv .gaps) _ _ (omega arith) (c .before .arc-from .ensures) (pushed-arcs heads (arcList (l .list)) (candidateList (c .before .arc-from .result)) (inv .held) (pushed .0));
+      gaps = gaps-next (inv .gaps) _ _ (omega arith) (c .before .arc-from .ensures)
+          (pushed-arcs heads (arcList (l .list)) (candidateList (c .before .arc-from .result)) (inv .held) (pushed .0));
       held₀ = inv .held₀;
       held = pushed-held (arcList (l .list) ++ map (numbered heads) (candidateList (c .before .arc-from .result))) (pushed .0);
       exact = λ h. pushed .1 (inv .exact h);

@@ -51,8 +51,11 @@ loop-holds c =
 returns : tie.Need-returns Inv-loop μ-loop
 returns c =
     let inv = c .before .before .loop .inv in
-    let a = c .before .before .before .args in
-    (folded-arcs (headList (a .t3)) (arcList (a .arcs)) (all (pointList (a .points)) (a .mask) (a .t3)) (inv .held₀) (walked-by-count (inv .walked) (omega arith)), inv .exact)
+    let a = c .before .before .before .args in (
+      folded-arcs (headList (a .t3)) (arcList (a .arcs)) (all (pointList (a .points)) (a .mask) (a .t3)) (inv .held₀)
+          (walked-by-count (inv .walked) (omega arith)),
+      inv .exact,
+    )
 
 mul-circle : tie.Need-mul-circle Inv-loop μ-loop
 mul-circle c = omega arith
@@ -100,8 +103,11 @@ loop-again c =
 returns-2 : tie.Need-returns-2 Inv-loop μ-loop
 returns-2 c =
     let inv = c .before .loop .inv in
-    let a = c .before .before .args in
-    (folded-arcs (headList (a .t3)) (arcList (a .arcs)) (all (pointList (a .points)) (a .mask) (a .t3)) (inv .held₀) (walked-by-room (inv .walked) (omega arith)), inv .exact)
+    let a = c .before .before .args in (
+      folded-arcs (headList (a .t3)) (arcList (a .arcs)) (all (pointList (a .points)) (a .mask) (a .t3)) (inv .held₀)
+          (walked-by-room (inv .walked) (omega arith)),
+      inv .exact,
+    )
 
 pub push-members-spec : {M : Type 1} → statement M
 push-members-spec =

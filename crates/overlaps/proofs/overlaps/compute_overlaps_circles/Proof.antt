@@ -66,7 +66,9 @@ returns-3 c =
     let m = c .before in let k = m .before in let e = k .before in let s = e .before .before in let a = s .args in
     let cs = take (a .n-sets) (a .t1) in
     let many : length cs ≡ m .at-most-ten .result = length-take (a .n-sets) (a .t1) ∙ ap (min (a .n-sets)) (ten s) ∙ sym (m .at-most-ten .ensures) in
-    let mask : shifted 64 (m .at-most-ten .result) - 1 ≡ 2 ^ length cs - 1 = ap (λ (x : ℕ). x - 1) (shifted-is 64 (m .at-most-ten .result) (omega (arith, m .at-most-ten .ensures)) ∙ ap (λ (x : ℕ). 2 ^ x) (sym many)) in
+    let mask : shifted 64 (m .at-most-ten .result) - 1
+    ≡ 2 ^ length cs - 1 =
+    ap (λ (x : ℕ). x - 1) (shifted-is 64 (m .at-most-ten .result) (omega (arith, m .at-most-ten .ensures)) ∙ ap (λ (x : ℕ). 2 ^ x) (sym many)) in
     c .region-area .ensures ∙ ap₂ (λ (ps : List IntersectionPoint) (S : ℕ). openArea (membersOf cs ps S)) (k .collect-intersections .ensures .0) mask
     ∙ of-others cs (λ f. e .before .if1 .left (omega (arith, many, m .at-most-ten .ensures))) (λ f. e .if2 .left (omega (arith, many, m .at-most-ten .ensures)))
 

@@ -8,12 +8,12 @@ use lib.Seq.{take-all}
 use Rattle.geometry.specs.declared.circle.Circle.{Circle}
 use Rattle.intersections.specs.Counted.{pointList}
 use Rattle.lists.specs.Written.{written}
+use Rattle.lists.proofs.Arrays.{capped-take}
 use Rattle.sets.specs.Marked.{marked}
 use Rattle.masks.specs.Presence.{byte}
 use Rattle.sets.specs.Sets.{isSet, isPair}
 use Rattle.sets.specs.Regions.{isOneHead, isAdoptersOf, meetsAt, containsAt}
 use Rattle.sets.proofs.Assembled.{assembled}
-use Rattle.sets.proofs.Capped.{capped-take}
 use Rattle.sets.proofs.Singles.{one-head-beyond}
 use Rattle.sets.proofs.discover.discover_regions.Statement.{statement}
 use borrow.Author.Needs.{needs}
@@ -63,12 +63,17 @@ returns c =
     let a = ten .before .args in
     let n = ten .at-most-ten .result in
     let e = ten .at-most-ten .ensures in
-    assembled n (isOneHead n) (isAdoptersOf (pointList (a .points))) (meetsAt (pointList (a .points))) (containsAt (take n (a .circles))) (omega (arith, e)) (λ S h. one-head-beyond n S h)
-    (pai .add-pairs .result) (par .add-parts .result) (ove .overlapping-heads .result) (con .containing-heads .result) (lev .levels .result) (c .joined-bytes .result)
-    (pai .add-pairs .ensures ∙ ap (marked (isPair n (meetsAt (pointList (a .points))) (containsAt (take n (a .circles))))) (ado .add-adopters .ensures ∙ ap (marked _) (sin .add-singles .ensures)))
+    assembled n (isOneHead n) (isAdoptersOf (pointList (a .points))) (meetsAt (pointList (a .points))) (containsAt (take n (a .circles))) (omega (arith, e))
+    (λ S h. one-head-beyond n S h)
+    (pai .add-pairs .result) (par .add-parts .result) (ove .overlapping-heads .result) (con .containing-heads .result) (lev .levels .result)
+    (c .joined-bytes .result)
+    (pai .add-pairs .ensures ∙ ap (marked (isPair n (meetsAt (pointList (a .points))) (containsAt (take n (a .circles)))))
+    (ado .add-adopters .ensures ∙ ap (marked _) (sin .add-singles .ensures)))
     (par .add-parts .ensures) (ove .overlapping-heads .ensures) (con .containing-heads .ensures) (lev .levels .ensures) (c .joined-bytes .ensures)
-    ∙ ap₂ (λ (cs : List Circle) (m : ℕ). written (λ S. byte (isSet m (isOneHead m) (isAdoptersOf (pointList (a .points))) (meetsAt (pointList (a .points))) (containsAt cs) S)) (2 ^ m) (replicate 1024 0))
-    (ap (λ (m : ℕ). take m (a .circles)) e ∙ capped-take (a .circles) (a .n-sets) (ten-circles (ten .before))) (e ∙ sym (length-take (a .n-sets) (a .circles) ∙ ap (min (a .n-sets)) (ten-circles (ten .before))))
+    ∙ ap₂ (λ (cs : List Circle) (m : ℕ). written
+    (λ S. byte (isSet m (isOneHead m) (isAdoptersOf (pointList (a .points))) (meetsAt (pointList (a .points))) (containsAt cs) S)) (2 ^ m) (replicate 1024 0))
+    (ap (λ (m : ℕ). take m (a .circles)) e ∙ capped-take (a .circles) (a .n-sets) 10 (ten-circles (ten .before)))
+    (e ∙ sym (length-take (a .n-sets) (a .circles) ∙ ap (min (a .n-sets)) (ten-circles (ten .before))))
 
 pub discover-regions-spec : {M : Type 1} → statement M
 discover-regions-spec =

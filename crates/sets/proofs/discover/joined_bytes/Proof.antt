@@ -17,7 +17,8 @@ use borrow.Author.Needs.{needs}
 use Rattle.sets.proofs.discover.joined_bytes.Tie as tie
 
 abbrev Inv-loop : tie.InvT-loop
-Inv-loop level n bytes₀ masks s₀ bytes s = (n ≤ 10) × (masks ≡ 2 ^ n) × (length bytes₀ ≡ 1024) × (s ≤ masks) × (bytes ≡ written (λ S. byte (stands bytes₀ S || stands level S)) s bytes₀)
+Inv-loop level n bytes₀ masks s₀ bytes s =
+    (n ≤ 10) × (masks ≡ 2 ^ n) × (length bytes₀ ≡ 1024) × (s ≤ masks) × (bytes ≡ written (λ S. byte (stands bytes₀ S || stands level S)) s bytes₀)
 
 abbrev μ-loop : tie.MeasureT-loop
 μ-loop level n bytes₀ masks s₀ bytes s = masks - s
@@ -27,8 +28,13 @@ shl-masks c = search needs
 
 loop-holds : tie.Need-loop-holds Inv-loop μ-loop
 loop-holds c =
-    let a = c .args in
-    (c .pre, shifted-is 64 (a .n) (omega arith), search needs, search needs, written-none (λ S. byte (stands (a .found) S || stands (a .level .now) S)) (a .found))
+    let a = c .args in (
+      c .pre,
+      shifted-is 64 (a .n) (omega arith),
+      search needs,
+      search needs,
+      written-none (λ S. byte (stands (a .found) S || stands (a .level .now) S)) (a .found),
+    )
 
 array-read-either : tie.Need-array-read-either Inv-loop μ-loop
 array-read-either c = let l = c .before .loop in row-lt (c .before .before .args .n) (l .s) (l .inv .0) (omega (arith, l .inv .1))
@@ -40,7 +46,8 @@ either-requires : tie.Need-either-requires Inv-loop μ-loop
 either-requires c κs = search needs
 
 array-write-bytes : tie.Need-array-write-bytes Inv-loop μ-loop
-array-write-bytes c = let l = c .before .before .before .loop in row-lt (c .before .before .before .before .args .n) (l .s) (l .inv .0) (omega (arith, l .inv .1))
+array-write-bytes c =
+    let l = c .before .before .before .loop in row-lt (c .before .before .before .before .args .n) (l .s) (l .inv .0) (omega (arith, l .inv .1))
 
 add-s : tie.Need-add-s Inv-loop μ-loop
 add-s c = search needs

@@ -41,7 +41,8 @@ returns : tie.Need-returns Inv-loop μ-loop
 returns c =
     let l = c .before .before .before .loop in
     let a = c .before .before .before .before .args in
-    sym (every-none (a .n) (test (a .t1) (a .s) (a .n)) (l .i) (omega arith) (sym (c .before .others-in-if .ensures) ∙ not-true (c .before .others-in-if .result) (c .if1 .taken)))
+    sym (every-none (a .n) (test (a .t1) (a .s) (a .n)) (l .i) (omega arith)
+    (sym (c .before .others-in-if .ensures) ∙ not-true (c .before .others-in-if .result) (c .if1 .taken)))
 
 add-i : tie.Need-add-i Inv-loop μ-loop
 add-i c = search needs
@@ -52,8 +53,11 @@ loop-less c = search needs
 loop-again : tie.Need-loop-again Inv-loop μ-loop
 loop-again c =
     let l = c .before .before .before .loop in
-    let a = c .before .before .before .before .args in
-    (omega arith, every-next (l .i) (test (a .t1) (a .s) (a .n)) ∙ ap₂ _&&_ (l .inv .1) (sym (c .before .others-in-if .ensures) ∙ not-false (c .before .others-in-if .result) (c .if1 .left)))
+    let a = c .before .before .before .before .args in (
+      omega arith,
+      every-next (l .i) (test (a .t1) (a .s) (a .n))
+          ∙ ap₂ _&&_ (l .inv .1) (sym (c .before .others-in-if .ensures) ∙ not-false (c .before .others-in-if .result) (c .if1 .left)),
+    )
 
 returns-2 : tie.Need-returns-2 Inv-loop μ-loop
 returns-2 c =

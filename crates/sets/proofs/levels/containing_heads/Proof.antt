@@ -42,7 +42,8 @@ loop-again c =
       l .inv .0,
       omega arith,
       ap (λ (t : List ℕ). set t (l .k) (c .containing-head .result)) (l .inv .2)
-          ∙ write-next (containing (a .n) (containsAt (take (a .n) (a .circles)))) (l .k) (replicate 10 0) (c .containing-head .result) 0 (omega (arith, length-replicate {A = ℕ} 10 0)) (c .containing-head .ensures),
+          ∙ write-next (containing (a .n) (containsAt (take (a .n) (a .circles)))) (l .k) (replicate 10 0) (c .containing-head .result) 0
+          (omega (arith, length-replicate {A = ℕ} 10 0)) (c .containing-head .ensures),
     )
 
 returns : tie.Need-returns Inv-loop μ-loop

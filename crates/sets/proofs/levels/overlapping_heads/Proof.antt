@@ -42,7 +42,8 @@ loop-again c =
       l .inv .0,
       omega arith,
       ap (λ (t : List ℕ). set t (l .i) (c .overlapping-head .result)) (l .inv .2)
-          ∙ write-next (overlapping (a .n) (stands (a .found .now))) (l .i) (replicate 10 0) (c .overlapping-head .result) 0 (omega (arith, length-replicate {A = ℕ} 10 0)) (c .overlapping-head .ensures),
+          ∙ write-next (overlapping (a .n) (stands (a .found .now))) (l .i) (replicate 10 0) (c .overlapping-head .result) 0
+          (omega (arith, length-replicate {A = ℕ} 10 0)) (c .overlapping-head .ensures),
     )
 
 returns : tie.Need-returns Inv-loop μ-loop

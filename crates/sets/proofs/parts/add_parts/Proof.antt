@@ -16,7 +16,8 @@ use borrow.Author.Needs.{needs}
 use Rattle.sets.proofs.parts.add_parts.Tie as tie
 
 abbrev Inv-loop : tie.InvT-loop
-Inv-loop n bytes₀ masks s₀ bytes s = (n ≤ 10) × (masks ≡ 2 ^ n) × (length bytes₀ ≡ 1024) × (s ≤ masks) × (bytes ≡ written (λ S. byte (withParts n (stands bytes₀) S)) s bytes₀)
+Inv-loop n bytes₀ masks s₀ bytes s =
+    (n ≤ 10) × (masks ≡ 2 ^ n) × (length bytes₀ ≡ 1024) × (s ≤ masks) × (bytes ≡ written (λ S. byte (withParts n (stands bytes₀) S)) s bytes₀)
 
 abbrev μ-loop : tie.MeasureT-loop
 μ-loop n bytes₀ masks s₀ bytes s = masks - s
@@ -33,7 +34,8 @@ part-byte-requires : tie.Need-part-byte-requires Inv-loop μ-loop
 part-byte-requires c κs = let l = c .before .before .loop in (l .inv .0, omega (arith, l .inv .1))
 
 array-write-bytes : tie.Need-array-write-bytes Inv-loop μ-loop
-array-write-bytes c = let l = c .before .before .before .loop in row-lt (c .before .before .before .before .args .n) (l .s) (l .inv .0) (omega (arith, l .inv .1))
+array-write-bytes c =
+    let l = c .before .before .before .loop in row-lt (c .before .before .before .before .args .n) (l .s) (l .inv .0) (omega (arith, l .inv .1))
 
 add-s : tie.Need-add-s Inv-loop μ-loop
 add-s c = search needs

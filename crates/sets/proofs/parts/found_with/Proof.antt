@@ -18,7 +18,8 @@ shl-if1 c = search needs
 returns : tie.Need-returns
 returns c =
     let s = c .before in
-    sym (ap (λ (b : Bool). not b && stands (s .args .found .now) (withHead (s .args .n) (s .args .s) (s .args .i))) (has-at (s .args .s) (s .args .i) (omega arith) (c .if1 .taken)))
+    sym (ap (λ (b : Bool). not b && stands (s .args .found .now) (withHead (s .args .n) (s .args .s) (s .args .i)))
+    (has-at (s .args .s) (s .args .i) (omega arith) (c .if1 .taken)))
 
 shl-result : tie.Need-shl-result
 shl-result c = search needs
@@ -30,7 +31,8 @@ returns-2 : tie.Need-returns-2
 returns-2 c =
     let s = c .before .before in
     ap (λ (v : ℕ). eqb (getD (s .args .found .now) v 0) 1) (with-at (s .args .n) (s .args .s) (s .args .i) (s .pre .0) (s .pre .1 .0) (s .pre .1 .1))
-    ∙ sym (ap (λ (b : Bool). not b && stands (s .args .found .now) (withHead (s .args .n) (s .args .s) (s .args .i))) (lacks-at (s .args .s) (s .args .i) (omega arith) (c .before .if1 .left)))
+    ∙ sym (ap (λ (b : Bool). not b && stands (s .args .found .now) (withHead (s .args .n) (s .args .s) (s .args .i)))
+    (lacks-at (s .args .s) (s .args .i) (omega arith) (c .before .if1 .left)))
 
 pub found-with-spec : {M : Type 1} → statement M
 found-with-spec = tie.close (tie.spec shl-if1 returns shl-result element-copy-out-result returns-2)

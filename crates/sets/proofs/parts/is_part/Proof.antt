@@ -27,7 +27,8 @@ returns : tie.Need-returns Inv-loop μ-loop
 returns c =
     let l = c .before .before .before .loop in
     let a = c .before .before .before .before .args in
-    sym (some-of (a .n) (λ k. not (inSet (a .s) k) && stands (a .found .now) (withHead (a .n) (a .s) k)) (l .i) (omega arith) (sym (c .before .found-with .ensures) ∙ c .if1 .taken))
+    sym (some-of (a .n) (λ k. not (inSet (a .s) k) && stands (a .found .now) (withHead (a .n) (a .s) k)) (l .i) (omega arith)
+    (sym (c .before .found-with .ensures) ∙ c .if1 .taken))
 
 add-i : tie.Need-add-i Inv-loop μ-loop
 add-i c = search needs

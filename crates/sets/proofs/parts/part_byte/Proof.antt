@@ -28,13 +28,15 @@ returns-3 : tie.Need-returns-3
 returns-3 c =
     let m = c .before .before .before in
     let a = m .before .before .args in
-    parts-byte (a .n) (a .found .now) (a .s) (ne-eqb _ _ (m .if1 .left)) (le-leb 2 _ (c .before .before .if2 .left)) (sym (c .before .is-part .ensures) ∙ c .if3 .taken)
+    parts-byte (a .n) (a .found .now) (a .s) (ne-eqb _ _ (m .if1 .left)) (le-leb 2 _ (c .before .before .if2 .left))
+    (sym (c .before .is-part .ensures) ∙ c .if3 .taken)
 
 returns-4 : tie.Need-returns-4
 returns-4 c =
     let m = c .before .before .before in
     let a = m .before .before .args in
-    parts-byte (a .n) (a .found .now) (a .s) (ne-eqb _ _ (m .if1 .left)) (le-leb 2 _ (c .before .before .if2 .left)) (sym (c .before .is-part .ensures) ∙ c .if3 .left)
+    parts-byte (a .n) (a .found .now) (a .s) (ne-eqb _ _ (m .if1 .left)) (le-leb 2 _ (c .before .before .if2 .left))
+    (sym (c .before .is-part .ensures) ∙ c .if3 .left)
 
 pub part-byte-spec : {M : Type 1} → statement M
 part-byte-spec =

@@ -24,7 +24,9 @@ use borrow.Author.Needs.{needs}
 use Rattle.sets.proofs.witnessed.add_adopters.Tie as tie
 
 abbrev Inv-loop : tie.InvT-loop
-Inv-loop n points bytes₀ masks count k₀ bytes k = (length (points .all) ≡ 90) × (count ≡ points .n) × (n ≤ 10) × (masks ≡ 2 ^ n) × (k ≤ 90) × (k ≤ count) × (bytes ≡ marked (λ S. ltb S (2 ^ n) && isAdoptersOf (take k (points .all)) S) bytes₀)
+Inv-loop n points bytes₀ masks count k₀ bytes k =
+    (length (points .all) ≡ 90) × (count ≡ points .n) × (n ≤ 10) × (masks ≡ 2 ^ n) × (k ≤ 90) × (k ≤ count)
+    × (bytes ≡ marked (λ S. ltb S (2 ^ n) && isAdoptersOf (take k (points .all)) S) bytes₀)
 
 abbrev μ-loop : tie.MeasureT-loop
 μ-loop n points bytes₀ masks count k₀ bytes k = 90 - k
@@ -49,7 +51,8 @@ loop-holds c =
       shifted-is 64 (a .n) (omega arith),
       omega arith,
       omega arith,
-      marked-none (λ S. ltb S (2 ^ a .n) && isAdoptersOf (take 0 (a .t2 .all)) S) (a .found) (λ S k. none (ltb S (2 ^ a .n)) (any-none (λ q. eqb S (q .adopters)) (a .t2 .all))),
+      marked-none (λ S. ltb S (2 ^ a .n) && isAdoptersOf (take 0 (a .t2 .all)) S) (a .found)
+          (λ S k. none (ltb S (2 ^ a .n)) (any-none (λ q. eqb S (q .adopters)) (a .t2 .all))),
     )
 
 returns : tie.Need-returns Inv-loop μ-loop
@@ -65,7 +68,9 @@ element-copy-out-q : tie.Need-element-copy-out-q Inv-loop μ-loop
 element-copy-out-q c = omega arith
 
 array-write-bytes : tie.Need-array-write-bytes Inv-loop μ-loop
-array-write-bytes c = let l = c .before .before .before .before .loop in let a = c .before .before .before .before .before .args in row-lt (a .n) (getD (a .t2 .all) (l .k) noPoint .adopters) (l .inv .2) (omega (arith, l .inv .3, c .if2 .taken))
+array-write-bytes c =
+    let l = c .before .before .before .before .loop in let a = c .before .before .before .before .before .args in
+    row-lt (a .n) (getD (a .t2 .all) (l .k) noPoint .adopters) (l .inv .2) (omega (arith, l .inv .3, c .if2 .taken))
 
 add-k : tie.Need-add-k Inv-loop μ-loop
 add-k c = search needs
@@ -84,7 +89,8 @@ loop-again c =
       omega arith,
       omega arith,
       ⊎-elim
-          (λ w. w .1 ∙ ap (λ (t : List ℕ). set t v 1) (l .inv .6) ∙ adopted-next (a .n) (a .t2 .all) (l .k) (a .found) (omega arith) (omega (arith, l .inv .3, w .0 .taken)))
+          (λ w. w .1 ∙ ap (λ (t : List ℕ). set t v 1) (l .inv .6)
+          ∙ adopted-next (a .n) (a .t2 .all) (l .k) (a .found) (omega arith) (omega (arith, l .inv .3, w .0 .taken)))
           (λ w. w .1 ∙ l .inv .6 ∙ adopted-past (a .n) (a .t2 .all) (l .k) (a .found) (omega arith) (omega (arith, l .inv .3, w .0 .left)))
           (c .if2 .came),
     )
@@ -92,7 +98,8 @@ loop-again c =
 returns-2 : tie.Need-returns-2 Inv-loop μ-loop
 returns-2 c =
     let l = c .before .loop in let a = c .before .before .args in
-    let e : take (l .k) (a .t2 .all) ≡ take (a .t2 .n) (a .t2 .all) = take-all (l .k) (a .t2 .all) (omega arith) ∙ sym (take-all (a .t2 .n) (a .t2 .all) (omega arith)) in
+    let e : take (l .k) (a .t2 .all) ≡ take (a .t2 .n) (a .t2 .all) = take-all (l .k) (a .t2 .all) (omega arith)
+    ∙ sym (take-all (a .t2 .n) (a .t2 .all) (omega arith)) in
     l .inv .6 ∙ ap (λ (t : List IntersectionPoint). marked (λ S. ltb S (2 ^ a .n) && isAdoptersOf t S) (a .found)) e
 
 pub add-adopters-spec : {M : Type 1} → statement M

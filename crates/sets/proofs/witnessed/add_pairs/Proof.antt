@@ -17,15 +17,20 @@ use borrow.Author.Needs.{needs}
 use Rattle.sets.proofs.witnessed.add_pairs.Tie as tie
 
 abbrev Inv-loop : tie.InvT-loop
-Inv-loop circles points n bytes₀ i₀ bytes i = (n ≤ 10) × (i ≤ n) × (bytes ≡ marked (λ S. some i (λ k. pairsOf n (meetsAt (pointList points)) (containsAt (take n circles)) k S)) bytes₀)
+Inv-loop circles points n bytes₀ i₀ bytes i =
+    (n ≤ 10) × (i ≤ n) × (bytes ≡ marked (λ S. some i (λ k. pairsOf n (meetsAt (pointList points)) (containsAt (take n circles)) k S)) bytes₀)
 
 abbrev μ-loop : tie.MeasureT-loop
 μ-loop circles points n bytes₀ i₀ bytes i = n - i
 
 loop-holds : tie.Need-loop-holds Inv-loop μ-loop
 loop-holds c =
-    let a = c .args in
-    (c .pre, omega arith, marked-none _ (a .found) (λ S k. some-zero (λ k. pairsOf (a .n) (meetsAt (pointList (a .points))) (containsAt (take (a .n) (a .circles))) k S)))
+    let a = c .args in (
+      c .pre,
+      omega arith,
+      marked-none _ (a .found)
+          (λ S k. some-zero (λ k. pairsOf (a .n) (meetsAt (pointList (a .points))) (containsAt (take (a .n) (a .circles))) k S)),
+    )
 
 add-pairs-of-requires : tie.Need-add-pairs-of-requires Inv-loop μ-loop
 add-pairs-of-requires c κs = (c .before .before .loop .inv .0, omega arith)
@@ -51,7 +56,8 @@ unfolding isPair
 returns c =
     let l = c .before .loop in let a = c .before .before .args in
     let e : l .i ≡ a .n = omega arith in
-    l .inv .2 ∙ ap (λ (m : ℕ). marked (λ S. some m (λ k. pairsOf (a .n) (meetsAt (pointList (a .points))) (containsAt (take (a .n) (a .circles))) k S)) (a .found)) e
+    l .inv .2 ∙ ap (λ (m : ℕ). marked (λ S. some m (λ k. pairsOf (a .n) (meetsAt (pointList (a .points))) (containsAt (take (a .n) (a .circles))) k S))
+    (a .found)) e
 
 pub add-pairs-spec : {M : Type 1} → statement M
 add-pairs-spec =

@@ -22,15 +22,23 @@ use borrow.Author.Needs.{needs}
 use Rattle.sets.proofs.witnessed.add_pairs_of.Tie as tie
 
 abbrev Inv-loop : tie.InvT-loop
-Inv-loop found₀ circles points i n j₀ found j = (n ≤ 10) × (i < n) × (j ≤ i) × (found ≡ marked (λ S. some j (λ k. eqb S (pair n i k) && (meetsAt (pointList points) i k || (containsAt (take n circles) i k || containsAt (take n circles) k i)))) found₀)
+Inv-loop found₀ circles points i n j₀ found j =
+    (n ≤ 10) × (i < n) × (j ≤ i) × (found ≡ marked
+    (λ S. some j (λ k. eqb S (pair n i k) && (meetsAt (pointList points) i k || (containsAt (take n circles) i k || containsAt (take n circles) k i)))) found₀)
 
 abbrev μ-loop : tie.MeasureT-loop
 μ-loop found₀ circles points i n j₀ found j = i - j
 
 loop-holds : tie.Need-loop-holds Inv-loop μ-loop
 loop-holds c =
-    let a = c .args in
-    (c .pre .0, c .pre .1, omega arith, marked-none _ (a .found .now) (λ S k. some-zero (λ k. eqb S (pair (a .n) (a .i) k) && (meetsAt (pointList (a .points)) (a .i) k || (containsAt (take (a .n) (a .circles)) (a .i) k || containsAt (take (a .n) (a .circles)) k (a .i))))))
+    let a = c .args in (
+      c .pre .0,
+      c .pre .1,
+      omega arith,
+      marked-none _ (a .found .now)
+          (λ S k. some-zero (λ k. eqb S (pair (a .n) (a .i) k) &&
+          (meetsAt (pointList (a .points)) (a .i) k || (containsAt (take (a .n) (a .circles)) (a .i) k || containsAt (take (a .n) (a .circles)) k (a .i))))),
+    )
 
 is-pair-requires : tie.Need-is-pair-requires Inv-loop μ-loop
 is-pair-requires c κs = (omega arith, (omega arith, omega arith))
@@ -55,7 +63,8 @@ loop-less c = search needs
 loop-again : tie.Need-loop-again Inv-loop μ-loop
 loop-again c =
     let l = c .before .before .before .loop in let a = c .before .before .before .before .args in
-    let test : ℕ → Bool = λ k. meetsAt (pointList (a .points)) (a .i) k || (containsAt (take (a .n) (a .circles)) (a .i) k || containsAt (take (a .n) (a .circles)) k (a .i)) in
+    let test : ℕ → Bool = λ k. meetsAt (pointList (a .points)) (a .i) k ||
+    (containsAt (take (a .n) (a .circles)) (a .i) k || containsAt (take (a .n) (a .circles)) k (a .i)) in
     let p : ℕ → ℕ → Bool = λ S k. eqb S (pair (a .n) (a .i) k) && test k in (
       l .inv .0,
       l .inv .1,
@@ -72,7 +81,9 @@ returns : tie.Need-returns Inv-loop μ-loop
 returns c =
     let l = c .before .loop in let a = c .before .before .args in
     let e : l .j ≡ a .i = omega arith in
-    l .inv .3 ∙ ap (λ (m : ℕ). marked (λ S. some m (λ k. eqb S (pair (a .n) (a .i) k) && (meetsAt (pointList (a .points)) (a .i) k || (containsAt (take (a .n) (a .circles)) (a .i) k || containsAt (take (a .n) (a .circles)) k (a .i))))) (a .found .now)) e
+    l .inv .3 ∙ ap (λ (m : ℕ). marked (λ S. some m
+    (λ k. eqb S (pair (a .n) (a .i) k) && (meetsAt (pointList (a .points)) (a .i) k ||
+    (containsAt (take (a .n) (a .circles)) (a .i) k || containsAt (take (a .n) (a .circles)) k (a .i))))) (a .found .now)) e
 
 pub add-pairs-of-spec : {M : Type 1} → statement M
 add-pairs-of-spec =

@@ -47,9 +47,11 @@ loop-again c =
     let so-far : ℕ → Bool = λ S. some (l .i) (λ k. eqb S (single (a .n) k)) in (
       l .inv .0,
       omega arith,
-      ap (λ (t : List ℕ). set t (shifted 64 (l .i)) 1) (l .inv .2) ∙ ap (λ (v : ℕ). set (marked so-far (a .found)) v 1) (single-at (a .n) (l .i) (l .inv .0) (omega arith))
+      ap (λ (t : List ℕ). set t (shifted 64 (l .i)) 1) (l .inv .2)
+          ∙ ap (λ (v : ℕ). set (marked so-far (a .found)) v 1) (single-at (a .n) (l .i) (l .inv .0) (omega arith))
           ∙ mark-next so-far (a .found) (single (a .n) (l .i))
-          ∙ marked-same (λ S. so-far S || eqb S (single (a .n) (l .i))) (λ S. some (l .i + 1) (λ k. eqb S (single (a .n) k))) (a .found) (λ S k. sym (some-next (l .i) (λ k. eqb S (single (a .n) k)))),
+          ∙ marked-same (λ S. so-far S || eqb S (single (a .n) (l .i))) (λ S. some (l .i + 1) (λ k. eqb S (single (a .n) k))) (a .found)
+          (λ S k. sym (some-next (l .i) (λ k. eqb S (single (a .n) k)))),
     )
 
 returns : tie.Need-returns Inv-loop μ-loop

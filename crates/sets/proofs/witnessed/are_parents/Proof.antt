@@ -18,13 +18,15 @@ returns c =
 returns-2 : tie.Need-returns-2
 returns-2 c =
     let j = c .before .before .before in let a = j .before .before .args in
-    let other = ⊎-elim (λ w. not-first (eqb (a .q .first) (a .i)) (ne-eqb _ _ (w .2 .left))) (λ w. ap (λ (b : Bool). b && eqb (a .q .second) (a .j)) (ne-eqb _ _ (w .left))) (j .if1 .came) in
+    let other = ⊎-elim (λ w. not-first (eqb (a .q .first) (a .i)) (ne-eqb _ _ (w .2 .left)))
+    (λ w. ap (λ (b : Bool). b && eqb (a .q .second) (a .j)) (ne-eqb _ _ (w .left))) (j .if1 .came) in
     sym (second-way other (eq-eqb _ _ (c .before .if3 .taken)))
 
 returns-3 : tie.Need-returns-3
 returns-3 c =
     let j = c .before .before in let a = j .before .before .args in
-    let other = ⊎-elim (λ w. not-first (eqb (a .q .first) (a .i)) (ne-eqb _ _ (w .2 .left))) (λ w. ap (λ (b : Bool). b && eqb (a .q .second) (a .j)) (ne-eqb _ _ (w .left))) (j .if1 .came) in
+    let other = ⊎-elim (λ w. not-first (eqb (a .q .first) (a .i)) (ne-eqb _ _ (w .2 .left)))
+    (λ w. ap (λ (b : Bool). b && eqb (a .q .second) (a .j)) (ne-eqb _ _ (w .left))) (j .if1 .came) in
     sym (no-way (eqb (a .q .second) (a .i)) other (ne-eqb _ _ (c .if3 .left)))
 
 pub are-parents-spec : {M : Type 1} → statement M

@@ -19,7 +19,8 @@ meet-requires c κs = search needs
 returns : tie.Need-returns
 returns c =
     let s = c .before .before in let a = s .args in
-    sym (ap (λ (b : Bool). b || (containsAt (take (a .n) (a .t1)) (a .i) (a .j) || containsAt (take (a .n) (a .t1)) (a .j) (a .i))) (sym (c .before .meet .ensures) ∙ c .if1 .taken))
+    sym (ap (λ (b : Bool). b || (containsAt (take (a .n) (a .t1)) (a .i) (a .j) || containsAt (take (a .n) (a .t1)) (a .j) (a .i)))
+    (sym (c .before .meet .ensures) ∙ c .if1 .taken))
 
 mul-a : tie.Need-mul-a
 mul-a c = omega arith
@@ -39,7 +40,8 @@ contains-requires c κs = search needs
 returns-2 : tie.Need-returns-2
 returns-2 c =
     let q = c .before in let m = q .before .before .before in let s = m .before .before in let a = s .args in
-    let first = ap₂ contains (getD-take (a .n) (a .t1) (a .i) noCircle (omega arith)) (getD-take (a .n) (a .t1) (a .j) noCircle (omega arith)) ∙ sym (q .contains .ensures) ∙ c .if2 .taken in
+    let first = ap₂ contains (getD-take (a .n) (a .t1) (a .i) noCircle (omega arith)) (getD-take (a .n) (a .t1) (a .j) noCircle (omega arith))
+    ∙ sym (q .contains .ensures) ∙ c .if2 .taken in
     sym (ap₂ (λ (x y : Bool). x || (y || containsAt (take (a .n) (a .t1)) (a .j) (a .i))) (sym (m .before .meet .ensures) ∙ m .if1 .left) first)
 
 contains-requires-2 : tie.Need-contains-requires-2

@@ -45,7 +45,8 @@ are-parents-requires c κs = search needs
 returns-2 : tie.Need-returns-2 Inv-loop μ-loop
 returns-2 c =
     let l = c .before .before .before .before .before .loop in let a = c .before .before .before .before .before .before .args in
-    sym (any-of (parents (a .i) (a .j)) (a .t1 .all) (l .k) (a .t1 .n) noPoint (omega arith) (omega arith) (sym (c .before .are-parents .ensures) ∙ c .if2 .taken))
+    sym (any-of (parents (a .i) (a .j)) (a .t1 .all) (l .k) (a .t1 .n) noPoint (omega arith) (omega arith)
+    (sym (c .before .are-parents .ensures) ∙ c .if2 .taken))
 
 add-k : tie.Need-add-k Inv-loop μ-loop
 add-k c = search needs
@@ -66,7 +67,8 @@ loop-again c =
 returns-3 : tie.Need-returns-3 Inv-loop μ-loop
 returns-3 c =
     let l = c .before .loop in let a = c .before .before .args in
-    let e : take (l .k) (a .t1 .all) ≡ take (a .t1 .n) (a .t1 .all) = take-all (l .k) (a .t1 .all) (omega arith) ∙ sym (take-all (a .t1 .n) (a .t1 .all) (omega arith)) in
+    let e : take (l .k) (a .t1 .all) ≡ take (a .t1 .n) (a .t1 .all) = take-all (l .k) (a .t1 .all) (omega arith)
+    ∙ sym (take-all (a .t1 .n) (a .t1 .all) (omega arith)) in
     sym (ap (any (parents (a .i) (a .j))) (sym e) ∙ l .inv .4)
 
 pub meet-spec : {M : Type 1} → statement M

@@ -52,7 +52,8 @@ unfolding meetsAny
 returns-3 c =
     let a = c .before .before .before .before .before .before .before .args in
     met-after (a .j) (a .k) (meetsOf (getD (a .t1) (a .k) noHead) (getD (a .t1) (a .j) noHead)) (meetsOf (a .head) (getD (a .t1) (a .j) noHead))
-    (c .before .before .before .before .before .before .if1 .left) (sym (c .before .before .before .meets .ensures) ∙ c .before .before .if2 .left) (c .meets2 .ensures)
+    (c .before .before .before .before .before .before .if1 .left)
+    (sym (c .before .before .before .meets .ensures) ∙ c .before .before .if2 .left) (c .meets2 .ensures)
 
 pub is-met-spec : {M : Type 1} → statement M
 is-met-spec =

@@ -28,7 +28,8 @@ returns : tie.Need-returns
 returns c =
     let cs = circles (c .before .before .before) in
     record {
-      boxed = refl;
+      clipped = refl;
+      n = refl;
       circles = cs;
       points = c .before .before .collect-intersections .ensures .0 ∙ ap collected cs;
       bounds = c .bounds .ensures ∙ ap bounds (c .before .box-of .ensures);

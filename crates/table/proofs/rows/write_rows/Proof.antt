@@ -9,20 +9,21 @@ use Rattle.lists.specs.Written.{written}
 use Rattle.lists.proofs.Writing.{written-none, length-written, written-past, write-next}
 use Rattle.masks.specs.Presence.{stands}
 use Rattle.regions.specs.Edit.{Row}
+use Rattle.regions.specs.Slices.{slicesOf, rowAt}
 use Rattle.table.specs.Ready.{areaOf}
-use Rattle.table.specs.Rows.{rowIn, rowsWritten}
+use Rattle.table.specs.Rows.{rowsWritten}
 use Rattle.table.proofs.Writing.{row-cong, byte-after}
 use Rattle.table.proofs.rows.write_rows.Statement.{statement}
 use Rattle.table.proofs.rows.write_rows.Tie as tie
 
 abbrev Inv-loop : tie.InvT-loop
-Inv-loop ready change earlier later count presence₀ rows₀ boxed mask₀ presence rows mask =
-    (mask ≤ count) × (boxed ≡ ready .boxed)
+Inv-loop ready change earlier later count presence₀ rows₀ clipped mask₀ presence rows mask =
+    (mask ≤ count) × (clipped ≡ ready .clipped)
     × (presence ≡ written (λ S. rowsWritten ready change earlier later presence₀ rows₀ S .byte) mask presence₀)
     × (rows ≡ written (λ S. rowsWritten ready change earlier later presence₀ rows₀ S .number) mask rows₀)
 
 abbrev μ-loop : tie.MeasureT-loop
-μ-loop ready change earlier later count presence₀ rows₀ boxed mask₀ presence rows mask = count - mask
+μ-loop ready change earlier later count presence₀ rows₀ clipped mask₀ presence rows mask = count - mask
 
 loop-holds : tie.Need-loop-holds Inv-loop μ-loop
 loop-holds c = (omega arith, refl, written-none _ _, written-none _ _)
@@ -83,15 +84,16 @@ loop-again c =
     let l = c .before .before .before .before .before .before .before .loop in
     let s = c .before .before .before .before .before .before .before .before .before .before in
     let a = s .args in
-    let was = rowIn (a .presence .now) (a .rows .now) in
+    let was = rowAt (slicesOf (a .presence .now) (a .rows .now)) in
     let kept : getD (l .rows) (l .mask) nan ≡ getD (a .rows .now) (l .mask) nan =
     ap (λ r. getD r (l .mask) nan) (l .inv .3) ∙ written-past (λ S. rowOf s S .number) (l .mask) (l .mask) (a .rows .now) nan (omega arith) in
     let v = c .before .before .row-number .ensures
     ∙ ap (λ r. r .number)
-    (row-cong (a .ready .boxed) (a .change .own) (a .change .met) (areaOf (a .ready)) (areaOf (a .ready)) _ (stands (a .earlier .now)) _
+    (row-cong (a .ready .clipped) (a .change .own) (a .change .met) (areaOf (a .ready)) (areaOf (a .ready)) _ (stands (a .earlier .now)) _
     (stands (a .later .now)) _ was (l .mask) refl refl refl kept) in
     let w = c .row-byte .ensures
-    ∙ byte-after (a .ready .boxed) (a .change .own) (a .change .met) (areaOf (a .ready)) (stands (a .earlier .now)) (stands (a .later .now)) was _ (l .mask) refl in (
+    ∙ byte-after (a .ready .clipped) (a .change .own) (a .change .met) (areaOf (a .ready)) (stands (a .earlier .now))
+    (stands (a .later .now)) was _ (l .mask) refl in (
       omega arith,
       l .inv .1,
       rw (l .inv .2) (write-next (λ S. rowOf s S .byte) (l .mask) (a .presence .now) _ 0 (omega arith) w),
