@@ -20,7 +20,8 @@ use Rattle.exclusive.proofs.Answers.{room}
 use Rattle.exclusive.proofs.TableRows.{byRow, place}
 use Rattle.exclusive.proofs.Unclamped.{exclusive-alike}
 use Rattle.diagram.proofs.Alike.{unless-alike}
-use Rattle.diagram.specs.Rows.{Rows, Slopes, isThere, areaAt, slopesAt, exclusiveAt, exclusiveSlope, presenceWritten, exclusivesWritten, areasWritten, slopesWritten}
+use Rattle.diagram.specs.Rows.{Rows, Slopes, isThere, areaAt, slopesAt}
+use Rattle.diagram.specs.Rows.{exclusiveAt, exclusiveSlope, presenceWritten, exclusivesWritten, areasWritten, slopesWritten}
 
 -- a byte that is written says what it stands for
 byte-of : (p : ℕ → Bool) (m S : ℕ) (l : List ℕ) → S < m → stands (written (λ T. byte (p T)) m l) S ≡ p S
@@ -58,20 +59,23 @@ module _ (n : ℕ) (g : Slopes) (bytes : List ℕ) (numbers gradients : List Flo
       written-before (byRow (g .width) nan (slopesAt g)) (2 ^ n * g .width) (S * g .width + k) gradients nan (digits-lt h hk)
       ∙ ap₂ (λ (q i : ℕ). getD (slopesAt g q) i nan) (digits-div S hk) (digits-mod S hk)
 
-  pub areas-are : written (exclusiveWithGradient n (stands (laidBytes n (g .rows) bytes numbers)) (λ S. getD (laidAreas n (g .rows) bytes numbers) S nan)) (2 ^ n)
+  pub areas-are : written (exclusiveWithGradient n (stands (laidBytes n (g .rows) bytes numbers)) (λ S. getD (laidAreas n
+      (g .rows) bytes numbers) S nan)) (2 ^ n)
       (laidAreas n (g .rows) bytes numbers) ≡ areasWritten n g numbers
   areas-are =
       written-cong _ _ (2 ^ n) (laidAreas n (g .rows) bytes numbers) numbers
       (unless-alike n _ _ (there n (g .rows) bytes numbers) _ _ (laid n (g .rows) bytes numbers) _ _ (laid n (g .rows) bytes numbers))
       (rest n (g .rows) bytes numbers)
 
-  pub slopes-are : written (gradientEntry n (g .width) (laidBytes n (g .rows) bytes numbers) (laidAreas n (g .rows) bytes numbers) laidSlopes) (2 ^ n * g .width) laidSlopes
+  pub slopes-are : written (gradientEntry n (g .width) (laidBytes n (g .rows) bytes numbers) (laidAreas n (g .rows) bytes numbers) laidSlopes)
+      (2 ^ n * g .width) laidSlopes
       ≡ slopesWritten n g gradients
   slopes-are =
       written-cong _ _ (2 ^ n * g .width) laidSlopes gradients
       (λ x h.
       let p = place x (2 ^ n) (g .width) h in
-      unless-alike n _ _ (there n (g .rows) bytes numbers) _ _ (laid n (g .rows) bytes numbers) (entry (g .width) laidSlopes (x % g .width)) (λ S. getD (slopesAt g S) (x % g .width) nan)
+      unless-alike n _ _ (there n (g .rows) bytes numbers) _ _ (laid n (g .rows) bytes numbers) (entry (g .width) laidSlopes (x % g .width))
+      (λ S. getD (slopesAt g S) (x % g .width) nan)
       (entry-of (x % g .width) (mod-lt x (p .0))) (x / g .width) (p .1))
       (drop-written (byRow (g .width) nan (slopesAt g)) (2 ^ n * g .width) (2 ^ n * g .width) gradients (le-refl (2 ^ n * g .width)))
 
@@ -100,19 +104,23 @@ fits n width rows count few h k =
 
 module _ (n : ℕ) (g : Slopes) (bytes : List ℕ) (numbers gradients : List Float)
     (few : n ≤ 10) (hb : 2 ^ n ≤ length bytes) (hn : 2 ^ n ≤ length numbers) (hg : 2 ^ n * g .width ≤ length gradients) where
-  taken : eqb (gradientAnswer n (g .width) (laidBytes n (g .rows) bytes numbers) (laidAreas n (g .rows) bytes numbers) (laidSlopes n g bytes numbers gradients)) 0 ≡ true
+  taken : eqb (gradientAnswer n (g .width) (laidBytes n (g .rows) bytes numbers) (laidAreas n (g .rows) bytes numbers)
+      (laidSlopes n g bytes numbers gradients)) 0 ≡ true
   taken =
       eq-eqb _ 0 (fits n (g .width) _ _ few (enough n (g .rows) bytes numbers few hb hn)
       (omega (arith, length-written (byRow (g .width) nan (slopesAt g)) (2 ^ n * g .width) gradients hg)))
 
-  pub in-place-with : (exclusiveAreas n (g .width) (laidBytes n (g .rows) bytes numbers) (laidAreas n (g .rows) bytes numbers) (laidSlopes n g bytes numbers gradients)
+  pub in-place-with : (exclusiveAreas n (g .width) (laidBytes n (g .rows) bytes numbers) (laidAreas n (g .rows) bytes numbers)
+      (laidSlopes n g bytes numbers gradients)
       ≡ areasWritten n g numbers)
       × (exclusiveGradients n (g .width) (laidBytes n (g .rows) bytes numbers) (laidAreas n (g .rows) bytes numbers) (laidSlopes n g bytes numbers gradients)
       ≡ slopesWritten n g gradients)
   in-place-with = (
-    ap (λ (b : Bool). cond b (written (exclusiveWithGradient n (stands (laidBytes n (g .rows) bytes numbers)) (λ S. getD (laidAreas n (g .rows) bytes numbers) S nan)) (2 ^ n)
+    ap (λ (b : Bool). cond b (written (exclusiveWithGradient n (stands (laidBytes n (g .rows) bytes numbers)) (λ S. getD (laidAreas n
+        (g .rows) bytes numbers) S nan)) (2 ^ n)
         (laidAreas n (g .rows) bytes numbers)) (laidAreas n (g .rows) bytes numbers)) taken ∙ areas-are n g bytes numbers gradients,
-    ap (λ (b : Bool). cond b (written (gradientEntry n (g .width) (laidBytes n (g .rows) bytes numbers) (laidAreas n (g .rows) bytes numbers) (laidSlopes n g bytes numbers gradients))
+    ap (λ (b : Bool). cond b (written (gradientEntry n (g .width) (laidBytes n (g .rows) bytes numbers) (laidAreas n (g .rows) bytes numbers)
+        (laidSlopes n g bytes numbers gradients))
         (2 ^ n * g .width) (laidSlopes n g bytes numbers gradients)) (laidSlopes n g bytes numbers gradients)) taken ∙ slopes-are n g bytes numbers gradients,
   )
 

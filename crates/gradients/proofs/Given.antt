@@ -45,7 +45,8 @@ use Rattle.areas.specs.Scatter.{scatter, scatterClipped}
 use Rattle.areas.specs.Gradients.{clippedGradients, openGradients}
 use Rattle.areas.proofs.ByHead.{plan-by-head}
 use Rattle.areas.proofs.Gradients.{clipped-gradients, open-gradients}
-use Rattle.gradients.specs.Step.{GradientSlices, gradientSlices, lentGradients, gradientsWritten, stepTo, gradientsStep, clippedPlan, openPlan, planSlopes, whichOf, Room}
+use Rattle.gradients.specs.Step.{GradientSlices, gradientSlices, lentGradients, gradientsWritten, stepTo}
+use Rattle.gradients.specs.Step.{gradientsStep, clippedPlan, openPlan, planSlopes, whichOf, Room}
 
 -- three slices, each equal
 pub three : {a a' : List ℕ} {b b' c c' : List Float} → a ≡ a' → b ≡ b' → c ≡ c' → gradientSlices a b c ≡ gradientSlices a' b' c'
@@ -108,10 +109,12 @@ module _ (p : Plan) (ten : length (p .heads) ≡ 10) (few : p .n ≤ 10) (sets :
       long : length (set (replicate (p .n * 3 + 4) zero64) (p .n * 3 + 2) (area box)) ≡ length (clippedGradients (λ q. sets) p 0)
       long = own ∙ sym (clipped-gradients (λ q. sets) p .many 0)
 
-      at : (i : ℕ) → i < p .n * 3 + 4 → getD (set (replicate (p .n * 3 + 4) zero64) (p .n * 3 + 2) (area box)) i nan ≡ getD (clippedGradients (λ q. sets) p 0) i nan
+      at : (i : ℕ) → i < p .n * 3 + 4 → getD (set (replicate (p .n * 3 + 4) zero64) (p .n * 3 + 2) (area box)) i nan ≡ getD (clippedGradients
+          (λ q. sets) p 0) i nan
       at i h = go (ℕ-discrete i (p .n * 3 + 2))
         where
-          go : Dec (i ≡ p .n * 3 + 2) → getD (set (replicate (p .n * 3 + 4) zero64) (p .n * 3 + 2) (area box)) i nan ≡ getD (clippedGradients (λ q. sets) p 0) i nan
+          go : Dec (i ≡ p .n * 3 + 2) → getD (set (replicate (p .n * 3 + 4) zero64) (p .n * 3 + 2) (area box)) i nan ≡ getD (clippedGradients
+              (λ q. sets) p 0) i nan
           go (yes e) =
               rw e (getD-set-same (replicate (p .n * 3 + 4) zero64) (p .n * 3 + 2) (area box) nan (omega (arith, length-replicate (p .n * 3 + 4) zero64))
               ∙ sym (clipped-gradients (λ q. sets) p .box))
@@ -139,17 +142,20 @@ module _ (p : Plan) (ten : length (p .heads) ≡ 10) (few : p .n ≤ 10) (sets :
   width-is true = ap (λ (m : ℕ). m * 3 + 4) many
   width-is false = ap (λ (m : ℕ). 3 * m) many
 
-  rows-are : (b : Bool) (t : GradientSlices) → gradientsWritten (p .n) (drawn b (planSlopes b (λ q. sets) p .width)) t ≡ gradientsWritten (p .n) (planSlopes b (λ q. sets) p) t
+  rows-are : (b : Bool) (t : GradientSlices) → gradientsWritten (p .n) (drawn b (planSlopes b (λ q. sets) p .width)) t ≡ gradientsWritten (p .n)
+      (planSlopes b (λ q. sets) p) t
   rows-are true t =
       let D = drawn true (p .n * 3 + 4) in let G = clippedPlan (λ q. sets) p in
       let areas : Alike (p .n) (areaAt (D .rows)) (areaAt (G .rows)) =
-      λ S h. row-alike true sets (area box) (area box) (D .rows .area) (G .rows .area) zero64 refl (λ T k e. ap (λ (z : WithGradient). z .sum) (clipped-set T)) S in
+      λ S h. row-alike true sets (area box) (area box) (D .rows .area) (G .rows .area) zero64 refl (λ T k e. ap (λ (z : WithGradient). z .sum)
+      (clipped-set T)) S in
       let rows : Alike (p .n) (slopesAt D) (slopesAt G) =
       λ S h. row-alike true sets (D .boxRow) (G .boxRow) (D .row) (G .row) (replicate (p .n * 3 + 4) zero64) box-row
       (λ T k e. ap (λ (z : WithGradient). z .grad) (clipped-set T) ∙ sym (clipped-gradients (λ q. sets) p .present T k e)) S in
       ap₂ (λ (x y : List Float). gradientSlices (presenceWritten (p .n) (G .rows) (t .presence)) x y)
       (areas-alike (p .n) (isThere (D .rows)) (isThere (G .rows)) (λ S h. refl) (areaAt (D .rows)) (areaAt (G .rows)) areas (t .exclusives))
-      (rows-alike (p .n) (isThere (D .rows)) (isThere (G .rows)) (λ S h. refl) (areaAt (D .rows)) (areaAt (G .rows)) areas (p .n * 3 + 4) (slopesAt D) (slopesAt G) rows (t .gradients))
+      (rows-alike (p .n) (isThere (D .rows)) (isThere (G .rows)) (λ S h. refl) (areaAt (D .rows)) (areaAt (G .rows)) areas (p .n * 3 + 4) (slopesAt D)
+      (slopesAt G) rows (t .gradients))
   rows-are false t =
       let D = drawn false (3 * p .n) in let G = openPlan (λ q. sets) p in
       let areas : Alike (p .n) (areaAt (D .rows)) (areaAt (G .rows)) =
@@ -159,7 +165,8 @@ module _ (p : Plan) (ten : length (p .heads) ≡ 10) (few : p .n ≤ 10) (sets :
       (λ T k e. open-set T ∙ sym (open-gradients (λ q. sets) p .present T k e)) S in
       ap₂ (λ (x y : List Float). gradientSlices (presenceWritten (p .n) (G .rows) (t .presence)) x y)
       (areas-alike (p .n) (isThere (D .rows)) (isThere (G .rows)) (λ S h. refl) (areaAt (D .rows)) (areaAt (G .rows)) areas (t .exclusives))
-      (rows-alike (p .n) (isThere (D .rows)) (isThere (G .rows)) (λ S h. refl) (areaAt (D .rows)) (areaAt (G .rows)) areas (3 * p .n) (slopesAt D) (slopesAt G) rows (t .gradients))
+      (rows-alike (p .n) (isThere (D .rows)) (isThere (G .rows)) (λ S h. refl) (areaAt (D .rows)) (areaAt (G .rows)) areas (3 * p .n) (slopesAt D)
+      (slopesAt G) rows (t .gradients))
 
   pub plan-rows : (b : Bool) (t : GradientSlices) → gradientsWritten (p .n) (drawn b (widthBy b cs)) t ≡ gradientsWritten (p .n) (planSlopes b (λ q. sets) p) t
   plan-rows b t = ap (λ (w : ℕ). gradientsWritten (p .n) (drawn b w) t) (width-is b) ∙ rows-are b t
@@ -191,26 +198,32 @@ module _ (p : Plan) (sets sets' : Plan → ℕ → Bool) (same : Alike (p .n) (s
   clipped-same : (S : ℕ) → (0 < S → sets p S ≡ sets' p S) → clippedGradients sets p S ≡ clippedGradients sets' p S
   unfolding clippedGradients
   clipped-same zero e = refl
-  clipped-same (suc S) e = ap (λ (t : Bool). cond t (scatterClipped (headsOf (p .n) (suc S)) (p .n) (clippedGradientRow p (suc S) .grad)) (replicate (p .n * 3 + 4) zero64)) (e (omega arith))
+  clipped-same (suc S) e = ap (λ (t : Bool). cond t (scatterClipped (headsOf (p .n) (suc S)) (p .n) (clippedGradientRow p (suc S) .grad)) (replicate
+      (p .n * 3 + 4) zero64)) (e (omega arith))
 
   open-same : (S : ℕ) → (0 < S → sets p S ≡ sets' p S) → openGradients sets p S ≡ openGradients sets' p S
   unfolding openGradients
   open-same zero e = refl
-  open-same (suc S) e = ap (λ (t : Bool). cond t (scatter (headsOf (p .n) (suc S)) (p .n) (openGradientRow p (suc S))) (replicate (3 * p .n) zero64)) (e (omega arith))
+  open-same (suc S) e = ap (λ (t : Bool). cond t (scatter (headsOf (p .n) (suc S)) (p .n) (openGradientRow p (suc S))) (replicate (3 * p .n) zero64))
+      (e (omega arith))
 
   pub sets-alike : (b : Bool) (t : GradientSlices) → gradientsWritten (p .n) (planSlopes b sets p) t ≡ gradientsWritten (p .n) (planSlopes b sets' p) t
   sets-alike true t =
       let D = clippedPlan sets p in let G = clippedPlan sets' p in
-      let areas : Alike (p .n) (areaAt (D .rows)) (areaAt (G .rows)) = either true (D .rows .boxArea) (G .rows .boxArea) (D .rows .area) (G .rows .area) zero64 refl (λ S h. refl) in
+      let areas : Alike (p .n) (areaAt (D .rows)) (areaAt (G .rows)) = either true (D .rows .boxArea) (G .rows .boxArea) (D .rows .area)
+      (G .rows .area) zero64 refl (λ S h. refl) in
       let rows : Alike (p .n) (slopesAt D) (slopesAt G) =
-      either true (D .boxRow) (G .boxRow) (D .row) (G .row) (replicate (p .n * 3 + 4) zero64) (clipped-same 0 (λ h. absurd (omega arith))) (λ S h. clipped-same S (λ k. same S h)) in
+      either true (D .boxRow) (G .boxRow) (D .row) (G .row) (replicate (p .n * 3 + 4) zero64) (clipped-same 0 (λ h. absurd (omega arith)))
+      (λ S h. clipped-same S (λ k. same S h)) in
       three (bytes-alike (p .n) _ _ (there true) _ _ areas (t .presence)) (areas-alike (p .n) _ _ (there true) _ _ areas (t .exclusives))
       (rows-alike (p .n) _ _ (there true) _ _ areas (p .n * 3 + 4) _ _ rows (t .gradients))
   sets-alike false t =
       let D = openPlan sets p in let G = openPlan sets' p in
-      let areas : Alike (p .n) (areaAt (D .rows)) (areaAt (G .rows)) = either false (D .rows .boxArea) (G .rows .boxArea) (D .rows .area) (G .rows .area) zero64 refl (λ S h. refl) in
+      let areas : Alike (p .n) (areaAt (D .rows)) (areaAt (G .rows)) = either false (D .rows .boxArea) (G .rows .boxArea) (D .rows .area)
+      (G .rows .area) zero64 refl (λ S h. refl) in
       let rows : Alike (p .n) (slopesAt D) (slopesAt G) =
-      either false (D .boxRow) (G .boxRow) (D .row) (G .row) (replicate (3 * p .n) zero64) (open-same 0 (λ h. absurd (omega arith))) (λ S h. open-same S (λ k. same S h)) in
+      either false (D .boxRow) (G .boxRow) (D .row) (G .row) (replicate (3 * p .n) zero64) (open-same 0 (λ h. absurd (omega arith)))
+      (λ S h. open-same S (λ k. same S h)) in
       three (bytes-alike (p .n) _ _ (there false) _ _ areas (t .presence)) (areas-alike (p .n) _ _ (there false) _ _ areas (t .exclusives))
       (rows-alike (p .n) _ _ (there false) _ _ areas (3 * p .n) _ _ rows (t .gradients))
 

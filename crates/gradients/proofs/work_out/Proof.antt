@@ -27,7 +27,8 @@ abbrev given : tie.Start → GradientSlices
 given c = let a = c .args in gradientSlices (a .presence .now) (a .exclusives .now) (a .gradients .now)
 
 -- the answer is that of the checks
-answered : (c : tie.After-check-call) → let a = entry c .args in c .check-call .result ≡ callAnswer (a .plan) (whichOf (a .clipped)) (lentGradients (given (entry c)))
+answered : (c : tie.After-check-call) → let a = entry c .args in c .check-call .result ≡ callAnswer (a .plan) (whichOf (a .clipped)) (lentGradients
+    (given (entry c)))
 answered c = c .check-call .ensures ∙ ap₂ (callAnswer (entry c .args .plan)) (c .before .which .ensures) (c .before .before .lent-by .ensures)
 
 -- a taken call has room for its rows
@@ -66,7 +67,8 @@ same-length-3 c = search needs
 
 returns : tie.Need-returns
 returns c =
-    let w = c .before .before .before .before .before .before in let f = w .before .before .before .before .before in let t = f .before in let s = entry (checked t) in let a = s .args in let p = a .plan in
+    let w = c .before .before .before .before .before .before in let f = w .before .before .before .before .before in let t = f .before in
+    let s = entry (checked t) in let a = s .args in let p = a .plan in
     let say = sets-say p (ten s) (room t .few) in
     ap (λ (l : GradientSlices). stepTo l Taken)
     (w .write-gradients .ensures

@@ -51,7 +51,8 @@ same-length-3 c = search needs
 
 returns : tie.Need-returns
 returns c =
-    let w = c .before .before .before .before .before .before in let b = w .before .before .before .before in let m = b .before in let k = m .before in let s = k .before .before .before .before .before in
+    let w = c .before .before .before .before .before .before in let b = w .before .before .before .before in let m = b .before in
+    let k = m .before in let s = k .before .before .before .before .before in
     let a = s .args in let p = a .plan in let room = s .pre in let sets = stands (a .sets .now) in let cs = circles k in let q = a .clipped in
     let t = gradientSlices (a .presence .now) (a .exclusives .now) (a .gradients .now) in
     let slopes = ap (λ (x : List Circle). drawnBy q x (pointList (m .collect-intersections .result)) (b .box-of .result) (widthBy q x) sets) cs
@@ -59,9 +60,11 @@ returns c =
     (m .collect-intersections .ensures .0 ∙ ap collected cs) (b .box-of .ensures) in
     let e = w .exclusive-areas-and-gradients-of .ensures in
     three (e .1 .0) (e .1 .1 .0) (e .1 .1 .1)
-    ∙ ap (λ (g : Slopes). gradientSlices (presenceLeftWith (p .n) g (t .presence) (t .exclusives) (t .gradients)) (areasLeft (p .n) g (t .presence) (t .exclusives) (t .gradients))
+    ∙ ap (λ (g : Slopes). gradientSlices (presenceLeftWith (p .n) g (t .presence) (t .exclusives) (t .gradients)) (areasLeft (p .n) g (t .presence)
+    (t .exclusives) (t .gradients))
     (gradientsLeft (p .n) g (t .presence) (t .exclusives) (t .gradients))) slopes
-    ∙ left-is (p .n) (drawnBy q (planCircles p) (collected (planCircles p)) (boxOf (p .ground)) (widthBy q (planCircles p)) sets) t (room .few) (room .bytes) (room .numbers)
+    ∙ left-is (p .n) (drawnBy q (planCircles p) (collected (planCircles p)) (boxOf (p .ground)) (widthBy q (planCircles p)) sets) t (room .few)
+    (room .bytes) (room .numbers)
     (subst (λ (m : ℕ). 2 ^ p .n * m ≤ length (t .gradients)) (sym (width-is p (ten s) (room .few) (λ S. false) q)) (room .slopes))
     ∙ plan-rows p (ten s) (room .few) sets q t
 

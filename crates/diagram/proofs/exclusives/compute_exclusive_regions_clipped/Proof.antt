@@ -34,7 +34,8 @@ returns : tie.Need-returns
 returns c =
     let w = c .before .before .before .before in let f = w .before .before .before .before in let p = f .before in let a = p .before .before .before .args in
     let n = a .n-sets in let cs = take n (a .circles) in let met = p .collect-intersections .ensures .0 in
-    let rows = ap₂ (λ (ps : List IntersectionPoint) (bs : List ℕ). clippedRows cs ps (stands bs) (a .container)) met (f .discover-regions .ensures ∙ ap (setBytes cs) met) in
+    let rows = ap₂ (λ (ps : List IntersectionPoint) (bs : List ℕ). clippedRows cs ps (stands bs) (a .container)) met (f .discover-regions .ensures
+    ∙ ap (setBytes cs) met) in
     let e = w .exclusive-areas-of .ensures in (
       e .0,
       (

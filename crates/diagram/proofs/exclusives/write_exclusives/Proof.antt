@@ -40,8 +40,11 @@ returns c =
     let R = rowsOf d (stands (a .sets .now)) in
     let p = s .pre in let e = shifted-is 64 n (omega (arith, p .0)) in
     let bytes = w .write-rows .ensures .0 ∙ ap (λ (m : ℕ). written (λ S. byte (isThere R S)) m (a .presence .now)) e in
-    let areas = w .write-rows .ensures .1 ∙ ap (λ (m : ℕ). written (areaAt R) m (a .exclusives .now)) e in
-    (bytes, x .to-exclusive-areas-in-place .ensures .1 ∙ ap₂ (exclusivesInPlace n) bytes areas ∙ in-place n R (a .presence .now) (a .exclusives .now) (p .0) (p .1) (p .2))
+    let areas = w .write-rows .ensures .1 ∙ ap (λ (m : ℕ). written (areaAt R) m (a .exclusives .now)) e in (
+      bytes,
+      x .to-exclusive-areas-in-place .ensures .1 ∙ ap₂ (exclusivesInPlace n) bytes areas
+          ∙ in-place n R (a .presence .now) (a .exclusives .now) (p .0) (p .1) (p .2),
+    )
 
 pub write-exclusives-spec : {M : Type 1} → statement M
 write-exclusives-spec =

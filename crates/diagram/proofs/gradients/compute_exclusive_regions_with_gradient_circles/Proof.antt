@@ -38,7 +38,8 @@ same-length-3 c = search needs
 
 returns : tie.Need-returns
 returns c =
-    let w = c .before .before .before .before .before .before in let f = w .before .before .before .before .before .before in let p = f .before in let a = p .before .before .before .before .args in
+    let w = c .before .before .before .before .before .before in let f = w .before .before .before .before .before .before in let p = f .before in
+    let a = p .before .before .before .before .args in
     let n = a .n-sets in let cs = take n (a .circles) in let met = p .collect-intersections .ensures .0 in
     let slopes = ap₂ (λ (ps : List IntersectionPoint) (bs : List ℕ). openSlopes cs ps (stands bs)) met (f .discover-regions .ensures ∙ ap (setBytes cs) met) in
     let e = w .exclusive-areas-and-gradients-of .ensures in (

@@ -20,11 +20,13 @@ use Rattle.diagram.proofs.gradients.exclusive_areas_and_gradients_of.Ti
 -- what was answered
 answered : (c : tie.After-width-answer)
     → let a = c .before .before .before .before .before .before .args in
-    c .width-answer .result ≡ widthAnswer (a .drawing .n) (widthOf (a .drawing)) (min (length (a .presence .now)) (length (a .exclusives .now))) (length (a .gradients .now))
+    c .width-answer .result ≡ widthAnswer (a .drawing .n) (widthOf (a .drawing)) (min (length (a .presence .now)) (length (a .exclusives .now)))
+    (length (a .gradients .now))
 answered c =
     let a = c .before .before .before .before .before .before .args in
     c .width-answer .ensures
-    ∙ ap₂ (λ (rows width : ℕ). widthAnswer (a .drawing .n) width rows (length (a .gradients .now))) (c .before .before .shorter .ensures) (c .before .width-of .ensures)
+    ∙ ap₂ (λ (rows width : ℕ). widthAnswer (a .drawing .n) width rows (length (a .gradients .now))) (c .before .before .shorter .ensures)
+    (c .before .width-of .ensures)
 
 shorter-requires : tie.Need-shorter-requires
 shorter-requires c κs = search needs
@@ -54,10 +56,12 @@ same-length-3 c = search needs
 
 returns : tie.Need-returns
 returns c =
-    let w = c .before .before .before .before .before .before in let t = w .before .before .before .before in let r = t .before in let a = r .before .before .before .before .before .before .args in
+    let w = c .before .before .before .before .before .before in let t = w .before .before .before .before in let r = t .before in
+    let a = r .before .before .before .before .before .before .args in
     let d = a .drawing in let n = d .n in let sets = stands (a .sets .now) in let G = slopesOf d sets in let e = w .write-exclusives-with-gradients .ensures in
     let wide = r .before .width-of .ensures in
-    let yes = eq-eqb (widthAnswer n (widthOf d) (min (length (a .presence .now)) (length (a .exclusives .now))) (length (a .gradients .now))) 0 (sym (answered r) ∙ t .if1 .taken) in (
+    let yes = eq-eqb (widthAnswer n (widthOf d) (min (length (a .presence .now)) (length (a .exclusives .now))) (length (a .gradients .now))) 0 (sym
+    (answered r) ∙ t .if1 .taken) in (
       answered r,
       (
         e .0 ∙ sym (ap (λ (b : Bool). cond b (presenceWritten n (G .rows) (a .presence .now)) (a .presence .now)) yes),
@@ -72,8 +76,10 @@ returns c =
 
 returns-2 : tie.Need-returns-2
 returns-2 c =
-    let r = c .before in let a = r .before .before .before .before .before .before .args in let d = a .drawing in let n = d .n in let G = slopesOf d (stands (a .sets .now)) in
-    let no = ne-eqb (widthAnswer n (widthOf d) (min (length (a .presence .now)) (length (a .exclusives .now))) (length (a .gradients .now))) 0 (λ z. c .if1 .left (answered r ∙ z)) in (
+    let r = c .before in let a = r .before .before .before .before .before .before .args in let d = a .drawing in let n = d .n in
+    let G = slopesOf d (stands (a .sets .now)) in
+    let no = ne-eqb (widthAnswer n (widthOf d) (min (length (a .presence .now)) (length (a .exclusives .now))) (length (a .gradients .now))) 0
+    (λ z. c .if1 .left (answered r ∙ z)) in (
       answered r,
       (
         sym (ap (λ (b : Bool). cond b (presenceWritten n (G .rows) (a .presence .now)) (a .presence .now)) no),

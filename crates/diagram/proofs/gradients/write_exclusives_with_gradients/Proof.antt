@@ -40,7 +40,8 @@ same-length-3 c = search needs
 
 returns : tie.Need-returns
 returns c =
-    let x = c .before .before .before .before in let w = x .before .before .before .before .before .before .before .before .before .before in let s = w .before .before .before .before .before .before .before in
+    let x = c .before .before .before .before in let w = x .before .before .before .before .before .before .before .before .before .before in
+    let s = w .before .before .before .before .before .before .before in
     let a = s .args in let d = a .drawing in let n = d .n in let G = slopesBy (a .width) d (stands (a .sets .now)) in
     let p = s .pre in let e = shifted-is 64 n (omega (arith, p .0)) in let f = w .write-rows-with-gradients .ensures in
     let bytes = f .0 ∙ ap (λ (m : ℕ). written (λ S. byte (isThere (G .rows) S)) m (a .presence .now)) e in

@@ -31,7 +31,8 @@ set-area-requires c κs = search needs
 returns-3 : tie.Need-returns-3
 returns-3 c =
     let t = c .before in let a = t .before .before .args in let d = a .drawing in
-    row-set (d .boxed) (λ T. eqb (a .is) 1) (boxAreaOf d) (setArea d) zero64 _ (a .mask) (t .before .if1 .left) (eq-eqb _ 1 (t .if3 .taken)) (c .set-area .ensures)
+    row-set (d .boxed) (λ T. eqb (a .is) 1) (boxAreaOf d) (setArea d) zero64 _ (a .mask) (t .before .if1 .left) (eq-eqb _ 1 (t .if3 .taken))
+    (c .set-area .ensures)
 
 returns-4 : tie.Need-returns-4
 returns-4 c =

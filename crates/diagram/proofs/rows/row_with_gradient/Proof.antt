@@ -49,9 +49,11 @@ returns c =
     let s = k .before .before .before in let a = s .args in let d = a .drawing in let n = length (a .grad .now) in let A = area (d .container) in
     let at : m .at-most-ten .result ≡ length (circlesOf d) = m .at-most-ten .ensures ∙ sym (length-take (d .n) (d .circles) ∙ ap (min (d .n)) (ten s)) in (
       ap₂ with-gradient
-          (row-box (d .boxed) (λ T. eqb (a .is) 1) (boxAreaOf d) (λ S. setOnto d S (replicate n zero64) .sum) zero64 _ (a .mask) (t .before .if1 .taken) (t .if2 .taken)
+          (row-box (d .boxed) (λ T. eqb (a .is) 1) (boxAreaOf d) (λ S. setOnto d S (replicate n zero64) .sum) zero64 _ (a .mask)
+          (t .before .if1 .taken) (t .if2 .taken)
           (r .area .ensures ∙ sym (ap (λ (b : Bool). cond b A zero64) (t .if2 .taken))))
-          (row-box (d .boxed) (λ T. eqb (a .is) 1) _ (λ S. setOnto d S (replicate n zero64) .grad) (replicate n zero64) _ (a .mask) (t .before .if1 .taken) (t .if2 .taken)
+          (row-box (d .boxed) (λ T. eqb (a .is) 1) _ (λ S. setOnto d S (replicate n zero64) .grad) (replicate n zero64) _ (a .mask)
+          (t .before .if1 .taken) (t .if2 .taken)
           (w .put-at .ensures
           ∙ ap (λ (l : List Float). set l (m .at-most-ten .result * 3 + 2) (r .area .result)) (k .clear .ensures)
           ∙ ap₂ (λ (i : ℕ) (x : Float). set (replicate n zero64) (i * 3 + 2) x) at (r .area .ensures)
@@ -66,8 +68,10 @@ returns-2 : tie.Need-returns-2
 returns-2 c =
     let k = c .before .before .before .before in let a = k .before .before .before .args in let d = a .drawing in let n = length (a .grad .now) in (
       ap₂ with-gradient
-          (row-open (d .boxed) (λ T. eqb (a .is) 1) (boxAreaOf d) (λ S. setOnto d S (replicate n zero64) .sum) zero64 (a .mask) (c .before .if1 .taken) (c .if2 .left))
-          (k .clear .ensures ∙ row-open (d .boxed) (λ T. eqb (a .is) 1) _ (λ S. setOnto d S (replicate n zero64) .grad) (replicate n zero64) (a .mask) (c .before .if1 .taken) (c .if2 .left)),
+          (row-open (d .boxed) (λ T. eqb (a .is) 1) (boxAreaOf d) (λ S. setOnto d S (replicate n zero64) .sum) zero64 (a .mask)
+          (c .before .if1 .taken) (c .if2 .left))
+          (k .clear .ensures ∙ row-open (d .boxed) (λ T. eqb (a .is) 1) _ (λ S. setOnto d S (replicate n zero64) .grad) (replicate n zero64) (a .mask)
+          (c .before .if1 .taken) (c .if2 .left)),
       same-length-2 c,
     )
 
@@ -84,8 +88,10 @@ returns-3 c =
     let e = w .set-with-gradient .ensures ∙ ap (setOnto d (a .mask)) (k .clear .ensures) in
     let yes = eq-eqb (a .is) 1 (t .if3 .taken) in (
       ap₂ with-gradient
-          (row-set (d .boxed) (λ T. eqb (a .is) 1) (boxAreaOf d) (λ S. setOnto d S (replicate n zero64) .sum) zero64 _ (a .mask) (t .before .if1 .left) yes (ap (λ (z : WithGradient). z .sum) e))
-          (row-set (d .boxed) (λ T. eqb (a .is) 1) _ (λ S. setOnto d S (replicate n zero64) .grad) (replicate n zero64) _ (a .mask) (t .before .if1 .left) yes (ap (λ (z : WithGradient). z .grad) e)),
+          (row-set (d .boxed) (λ T. eqb (a .is) 1) (boxAreaOf d) (λ S. setOnto d S (replicate n zero64) .sum) zero64 _ (a .mask)
+          (t .before .if1 .left) yes (ap (λ (z : WithGradient). z .sum) e))
+          (row-set (d .boxed) (λ T. eqb (a .is) 1) _ (λ S. setOnto d S (replicate n zero64) .grad) (replicate n zero64) _ (a .mask)
+          (t .before .if1 .left) yes (ap (λ (z : WithGradient). z .grad) e)),
       same-length-3 c,
     )
 
@@ -98,7 +104,8 @@ returns-4 c =
     let no = ne-eqb (a .is) 1 (c .if3 .left) in (
       ap₂ with-gradient
           (row-gone (d .boxed) (λ T. eqb (a .is) 1) (boxAreaOf d) (λ S. setOnto d S (replicate n zero64) .sum) zero64 (a .mask) (c .before .if1 .left) no)
-          (k .clear .ensures ∙ row-gone (d .boxed) (λ T. eqb (a .is) 1) _ (λ S. setOnto d S (replicate n zero64) .grad) (replicate n zero64) (a .mask) (c .before .if1 .left) no),
+          (k .clear .ensures ∙ row-gone (d .boxed) (λ T. eqb (a .is) 1) _ (λ S. setOnto d S (replicate n zero64) .grad) (replicate n zero64) (a .mask)
+          (c .before .if1 .left) no),
       same-length-4 c,
     )
 

@@ -49,7 +49,8 @@ mul-areas : tie.Need-mul-areas Inv-loop μ-loop
 mul-areas c = search needs
 
 slice-write-areas : tie.Need-slice-write-areas Inv-loop μ-loop
-slice-write-areas c = let i = c .before .before .before .before .before .loop .inv in omega (arith, i .6, i .3, c .before .before .before .before .loop-test .taken)
+slice-write-areas c = let i = c .before .before .before .before .before .loop .inv in omega
+    (arith, i .6, i .3, c .before .before .before .before .loop-test .taken)
 
 add-mask : tie.Need-add-mask Inv-loop μ-loop
 add-mask c = search needs

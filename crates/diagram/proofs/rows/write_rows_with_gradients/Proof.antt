@@ -52,7 +52,8 @@ loop-holds c =
     )
 
 -- the row has its place
-room : (c : tie.In-loop Inv-loop μ-loop) → let a = c .before .before .before .before .before .args in suc (c .before .loop .mask) * a .width ≤ length (a .gradients .now)
+room : (c : tie.In-loop Inv-loop μ-loop) → let a = c .before .before .before .before .before .args in suc (c .before .loop .mask) * a .width ≤ length
+    (a .gradients .now)
 room c =
     let i = c .before .loop .inv in let a = c .before .before .before .before .before .args in
     omega (arith, mul-le-mul-right {m = suc (c .before .loop .mask)} {n = a .count} (a .width) (c .loop-test .taken), i .4)
@@ -111,10 +112,12 @@ loop-again c =
     let t = m .loop-test .taken in let S = l .mask in
     let G = slopesBy w d sets in
     let wide : (S * w + w) - S * w ≡ w = omega arith in
-    let many : length (midOf (S * w) ((S * w + w) - S * w) (l .gradients)) ≡ w = mid-len (S * w) (S * w + w) (l .gradients) (omega (arith, room m, i .8)) ∙ wide in
+    let many : length (midOf (S * w) ((S * w + w) - S * w) (l .gradients)) ≡ w = mid-len (S * w) (S * w + w) (l .gradients) (omega
+    (arith, room m, i .8)) ∙ wide in
     let both = r .row-with-gradient .ensures .0 ∙ ap (λ (k : ℕ). rowWith k d (getD (a .sets .now) S 0) S) many in
     let area = ap (λ (z : WithGradient). z .sum) both ∙ row-own (d .boxed) sets (boxAreaOf d) (λ T. setOnto d T (replicate w zero64) .sum) zero64 S in
-    let row = ap (λ (z : WithGradient). z .grad) both ∙ row-own (d .boxed) sets (G .boxRow) (λ T. setOnto d T (replicate w zero64) .grad) (replicate w zero64) S in
+    let row = ap (λ (z : WithGradient). z .grad) both ∙ row-own (d .boxed) sets (G .boxRow) (λ T. setOnto d T (replicate w zero64) .grad)
+    (replicate w zero64) S in
     let b = c .row-byte .ensures ∙ byte-own (d .boxed) sets S in
     let laid = ap₂ (λ (k : ℕ) (ys : List Float). putMid (S * w) k (l .gradients) ys) wide row
     ∙ row-written w S nan (slopesAt G) (a .gradients .now) (l .gradients) (room m) (sym (ap length row) ∙ r .row-with-gradient .ensures .1 ∙ many) (i .11) in (

@@ -41,8 +41,11 @@ same-length c = search needs
 
 returns : tie.Need-returns
 returns c =
-    let w = c .before .before in let r = w .before .before .before in let a = r .before .before .before .before .args in
-    (answered r, w .exclude .ensures ∙ sym (ap (tableBy (a .n) (a .present .now) (a .areas .now)) (eq-eqb _ 0 (sym (answered r) ∙ w .before .before .if1 .taken))))
+    let w = c .before .before in let r = w .before .before .before in let a = r .before .before .before .before .args in (
+      answered r,
+      w .exclude .ensures ∙ sym (ap (tableBy (a .n) (a .present .now) (a .areas .now)) (eq-eqb _ 0 (sym (answered r)
+          ∙ w .before .before .if1 .taken))),
+    )
 
 returns-2 : tie.Need-returns-2
 returns-2 c =
