@@ -49,7 +49,8 @@ def remark_of(mask, before, after):
         return 'anew', 'newly present'
     if rules.reworked(mask, after.moved, after.met, before.rows):
         return 'anew', 'worked out anew'
-    return '', 'kept' if before.rows[mask] == after.rows[mask] else 'kept; rows within it changed'
+    shown = [table.square_metres(scene.rows[mask]) for scene in (before, after)]
+    return '', 'kept' if shown[0] == shown[1] else 'kept; rows within it changed'
 
 
 def listed(scenes):
@@ -67,8 +68,8 @@ def listed(scenes):
 
 
 def chosen_lines(lines):
-    """The lines to show, in row order, and those that are left out: where there are too many, those of no area go first."""
-    empty = lambda line: all(area in ('', 'no row', table.square_metres(0)) for area in line[2:4])
+    """The lines to show, in row order, and those that are left out: where there are too many, those of next to no area go first."""
+    empty = lambda line: all(area in ('', 'no row', table.square_metres(0), table.square_metres(0.1)) for area in line[2:4])
     kept = sorted(range(len(lines)), key=lambda i: (empty(lines[i]), i))[:MOST_LINES]
     return [lines[i] for i in sorted(kept)], [line for i, line in enumerate(lines) if i not in kept]
 

@@ -82,12 +82,12 @@ def mark(step, mask):
 
 
 def lines_of(step):
-    """The lines for a step: rows that are stale or have an area. The last says how many others there are."""
+    """The lines for a step: rows that are stale or have an area of a square centimetre; and how many others there are."""
     lines, others = [('row', 'heads', 'window', 'edited', 'afresh', '')], 0
     tables = step.stale_exclusives, step.move.after.exclusives, step.afresh.exclusives
     for mask in step.masks():
         said = mark(step, mask)
-        if said or any(table.get(mask, 0.0) > 0 for table in tables):
+        if said or any(table.get(mask, 0.0) >= 0.5 for table in tables):
             areas = [square_metres(table[mask]) if mask in table else 'no row' for table in tables]
             lines.append(('%03X' % mask, heads_of(mask), *areas, said))
         else:
@@ -121,5 +121,5 @@ def told(number, step, colour):
         cells = [line[i].ljust(widths[i]) if i < 2 else line[i].rjust(widths[i]) for i in range(5)]
         said = ('  ' + '  '.join(cells) + '  ' + line[5]).rstrip()
         parts.append('\033[1;31m%s\033[0m' % said if colour and line[5] else said)
-    parts += ['  and %s of no area, the same in all three' % counted(others, 'rows')] if others else []
+    parts += ['  and %s of next to no area, the same in all three' % counted(others, 'rows')] if others else []
     return '\n'.join(parts + ['  ' + words for words in because(step)]) + '\n'

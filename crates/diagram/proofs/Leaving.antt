@@ -8,18 +8,18 @@ use native.Mathlib.Omega.{arith}
 use lib.Arith.{digits-div, digits-mod, digits-lt}
 use borrow.Author.Tests.{eq-eqb, le-ltb}
 use lib.Dec.{eqb, ltb}
-use lib.Ieee.{Float, nan, lt}
+use lib.Ieee.{Float, nan}
 use lib.ListN.{length, getD, drop}
 use Rattle.lists.specs.Written.{written}
 use Rattle.lists.proofs.Writing.{length-written, written-before, written-cong, drop-written}
 use Rattle.masks.specs.Presence.{byte, stands, byte-stands}
-use Rattle.binary64.specs.Constants.{zero64}
 use Rattle.exclusive.specs.Exclusive.{exclusiveRow, exclusivesInPlace}
 use Rattle.exclusive.specs.Entries.{entry}
-use Rattle.exclusive.specs.Gradient.{unlessReplaced, exclusiveWithGradient, gradientEntry, widthAnswer, gradientAnswer, exclusiveAreas, exclusiveGradients}
+use Rattle.exclusive.specs.Gradient.{exclusiveWithGradient, gradientEntry, widthAnswer, gradientAnswer, exclusiveAreas, exclusiveGradients}
 use Rattle.exclusive.proofs.Answers.{room}
 use Rattle.exclusive.proofs.TableRows.{byRow, place}
-use Rattle.exclusive.proofs.Unclamped.{unclamped-alike, exclusive-alike}
+use Rattle.exclusive.proofs.Unclamped.{exclusive-alike}
+use Rattle.diagram.proofs.Alike.{unless-alike}
 use Rattle.diagram.specs.Rows.{Rows, Slopes, isThere, areaAt, slopesAt, exclusiveAt, exclusiveSlope, presenceWritten, exclusivesWritten, areasWritten, slopesWritten}
 
 -- a byte that is written says what it stands for
@@ -58,21 +58,11 @@ module _ (n : ℕ) (g : Slopes) (bytes : List ℕ) (numbers gradients : List Flo
       written-before (byRow (g .width) nan (slopesAt g)) (2 ^ n * g .width) (S * g .width + k) gradients nan (digits-lt h hk)
       ∙ ap₂ (λ (q i : ℕ). getD (slopesAt g q) i nan) (digits-div S hk) (digits-mod S hk)
 
-  -- a row that is kept or +0, of numbers laid in a slice
-  unless-alike : (f h : ℕ → Float) → ((S : ℕ) → S < 2 ^ n → f S ≡ h S) → (S : ℕ) → S < 2 ^ n
-      → unlessReplaced n (stands (laidBytes n (g .rows) bytes numbers)) (λ T. getD (laidAreas n (g .rows) bytes numbers) T nan) f S
-      ≡ unlessReplaced n (isThere (g .rows)) (areaAt (g .rows)) h S
-  unless-alike f h same S k =
-      ap₂ (λ (b : Bool) (x : Float). cond b x zero64) (there n (g .rows) bytes numbers S k)
-      (ap₂ (λ (a x : Float). cond (lt a zero64) zero64 x)
-      (unclamped-alike n _ _ (there n (g .rows) bytes numbers) _ _ (laid n (g .rows) bytes numbers) S k)
-      (unclamped-alike n _ _ (there n (g .rows) bytes numbers) f h same S k))
-
   pub areas-are : written (exclusiveWithGradient n (stands (laidBytes n (g .rows) bytes numbers)) (λ S. getD (laidAreas n (g .rows) bytes numbers) S nan)) (2 ^ n)
       (laidAreas n (g .rows) bytes numbers) ≡ areasWritten n g numbers
   areas-are =
       written-cong _ _ (2 ^ n) (laidAreas n (g .rows) bytes numbers) numbers
-      (unless-alike (λ S. getD (laidAreas n (g .rows) bytes numbers) S nan) (areaAt (g .rows)) (laid n (g .rows) bytes numbers))
+      (unless-alike n _ _ (there n (g .rows) bytes numbers) _ _ (laid n (g .rows) bytes numbers) _ _ (laid n (g .rows) bytes numbers))
       (rest n (g .rows) bytes numbers)
 
   pub slopes-are : written (gradientEntry n (g .width) (laidBytes n (g .rows) bytes numbers) (laidAreas n (g .rows) bytes numbers) laidSlopes) (2 ^ n * g .width) laidSlopes
@@ -81,7 +71,7 @@ module _ (n : ℕ) (g : Slopes) (bytes : List ℕ) (numbers gradients : List Flo
       written-cong _ _ (2 ^ n * g .width) laidSlopes gradients
       (λ x h.
       let p = place x (2 ^ n) (g .width) h in
-      unless-alike (entry (g .width) laidSlopes (x % g .width)) (λ S. getD (slopesAt g S) (x % g .width) nan)
+      unless-alike n _ _ (there n (g .rows) bytes numbers) _ _ (laid n (g .rows) bytes numbers) (entry (g .width) laidSlopes (x % g .width)) (λ S. getD (slopesAt g S) (x % g .width) nan)
       (entry-of (x % g .width) (mod-lt x (p .0))) (x / g .width) (p .1))
       (drop-written (byRow (g .width) nan (slopesAt g)) (2 ^ n * g .width) (2 ^ n * g .width) gradients (le-refl (2 ^ n * g .width)))
 
@@ -103,7 +93,7 @@ module _ (n : ℕ) (r : Rows) (bytes : List ℕ) (numbers : List Float) (few : n
       ∙ exclusives-are n r bytes numbers
 
 -- there is room for the gradients too
-fits : (n width rows count : ℕ) → n ≤ 10 → 2 ^ n ≤ rows → 2 ^ n * width ≤ count → widthAnswer n width rows count ≡ 0
+pub fits : (n width rows count : ℕ) → n ≤ 10 → 2 ^ n ≤ rows → 2 ^ n * width ≤ count → widthAnswer n width rows count ≡ 0
 fits n width rows count few h k =
     ap (λ (a : ℕ). cond (eqb a 0) (cond (ltb count (2 ^ n * width)) 7 0) a) (sym (room n rows few h))
     ∙ ap (λ (b : Bool). cond b 7 0) (le-ltb count (2 ^ n * width) k)

@@ -1,7 +1,7 @@
 -- The state after the bytes of a file is what the whole file says, as specs/Reading.antt states it; and one byte more, as the code takes it.
 use Prim.Native.Nat.{ℕ, suc, _+_, _≤_, _<_}
 use mathlib.Core.Path.{_≡_, refl, sym, ap, ap₂, _∙_, subst}
-use mathlib.Core.List.{List, [], _∷_, _++_}
+use mathlib.Core.List.{List, [], _∷_, _++_, append-nil, append-assoc, foldl}
 use native.Mathlib.Numerals.{add-one}
 use native.Mathlib.Omega.{arith}
 use lib.Ieee.{Float}
@@ -26,7 +26,7 @@ use Rattle.printing.specs.Text.{Printed}
 use Rattle.printing.proofs.Lines.{lines-few, refusal-few}
 use Rattle.reading.specs.Whole.{over, noPlan, fileLeft, fileAnswer, planLines, printedFor, filePrinted}
 use Rattle.reading.specs.Reading.{State, stateOf, begun, handedTo, readByte, readBytes, answerAt}
-use Rattle.reading.specs.Reading.{printedAt, AfterBytes, BegunReads, PieceReads, FileAnswers, FilePrints}
+use Rattle.reading.specs.Reading.{printedAt, AfterBytes, BegunReads, PieceReads, FileAnswers, FilePrints, joined, PiecesRead, PiecesPrint}
 use Rattle.reading.proofs.Fresh.{leftOver}
 use Rattle.reading.proofs.Whole.{file-left, file-answers, file-lines, printed-same}
 
@@ -80,6 +80,18 @@ module _ (m : Method) where
       let lines = tableLines (left .plan .n) (left .tables .exclusives .bytes) (left .tables .exclusives .numbers) in
       ap printedAt e ∙ ap (λ a. printedFor a lines) (file-answers m t s)
       ∙ printed-same (fileAnswer t (readFile s)) lines (planLines m t (readFile s)) (file-lines m t s)
+
+  pieces-after : (t : LentTables) (pieces : List (List ℕ)) (s : List ℕ) (now : State) → AfterBytes m t s now
+      → AfterBytes m t (s ++ joined pieces) (foldl (readBytes m) now pieces)
+  pieces-after t [] s now e = rw (append-nil s) e
+  pieces-after t (piece ∷ pieces) s now e =
+      rw (← append-assoc s piece (joined pieces)) (pieces-after t pieces (s ++ piece) (readBytes m now piece) (piece-reads t s piece now e))
+
+  pub pieces-read : PiecesRead m
+  pieces-read t pieces = pieces-after t pieces [] (begun t) (begun-reads t)
+
+  pub pieces-print : PiecesPrint m
+  pieces-print t pieces = prints-file t (joined pieces) (foldl (readBytes m) (begun t) pieces) (pieces-read t pieces)
 
   -- ---- from the front, as the code goes
 

@@ -2,7 +2,7 @@
 -- what the whole file says, however it is cut.
 use Prim.Native.Nat.{ℕ}
 use mathlib.Core.Path.{_≡_}
-use mathlib.Core.List.{List, [], _∷_, _++_}
+use mathlib.Core.List.{List, [], _∷_, _++_, foldl}
 use Rattle.plan.specs.declared.Answer.{Answer}
 use Rattle.plan.specs.declared.Plan.{Plan}
 use Rattle.plan.specs.Checks.{firstOf}
@@ -56,6 +56,11 @@ printedAt s = printedFor (answerAt s) (tableLines (s .left .plan .n) (s .left .t
 
 -- ---- the whole file
 
+-- the bytes of some pieces, one after the other
+abbrev pub joined : List (List ℕ) → List ℕ
+joined [] = []
+joined (piece ∷ pieces) = piece ++ joined pieces
+
 -- the state after the bytes s, by what they say as a file
 abbrev pub AfterBytes : Method → LentTables → List ℕ → State → Type 0
 AfterBytes m t s now = now ≡ stateOf (feed start s) (fileLeft m t (readFile s))
@@ -74,3 +79,10 @@ FileAnswers m = (t : LentTables) (s : List ℕ) (now : State) → AfterBytes m t
 
 abbrev pub FilePrints : Method → Type 0
 FilePrints m = (t : LentTables) (s : List ℕ) (now : State) → AfterBytes m t s now → printedAt now ≡ filePrinted m t (readFile s)
+
+-- Both at once, of a file in any pieces: what is left, and what is printed.
+abbrev pub PiecesRead : Method → Type 0
+PiecesRead m = (t : LentTables) (pieces : List (List ℕ)) → AfterBytes m t (joined pieces) (foldl (readBytes m) (begun t) pieces)
+
+abbrev pub PiecesPrint : Method → Type 0
+PiecesPrint m = (t : LentTables) (pieces : List (List ℕ)) → printedAt (foldl (readBytes m) (begun t) pieces) ≡ filePrinted m t (readFile (joined pieces))
