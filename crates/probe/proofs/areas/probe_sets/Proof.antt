@@ -1,7 +1,7 @@
--- `diagram::probe_sets` meets its contract: what its calls give, put in place from the last to the first.
+-- `areas::probe_sets` meets its contract: what its calls give, put in place from the last to the first.
 use borrow.Author.Needs.{needs}
-use Rattle.probe.proofs.diagram.probe_sets.Statement.{statement}
-use Rattle.probe.proofs.diagram.probe_sets.Tie as tie
+use Rattle.probe.proofs.areas.probe_sets.Statement.{statement}
+use Rattle.probe.proofs.areas.probe_sets.Tie as tie
 
 circles-of-requires : tie.Need-circles-of-requires
 circles-of-requires c κs = search needs

@@ -1,7 +1,7 @@
--- `diagram::probe_compute_overlaps_of` meets its contract: what its calls give, put in place from the last to the first.
+-- `areas::probe_compute_overlaps_of` meets its contract: what its calls give, put in place from the last to the first.
 use borrow.Author.Needs.{needs}
-use Rattle.probe.proofs.diagram.probe_compute_overlaps_of.Statement.{statement}
-use Rattle.probe.proofs.diagram.probe_compute_overlaps_of.Tie as tie
+use Rattle.probe.proofs.areas.probe_compute_overlaps_of.Statement.{statement}
+use Rattle.probe.proofs.areas.probe_compute_overlaps_of.Tie as tie
 
 circles-of-requires : tie.Need-circles-of-requires
 circles-of-requires c κs = search needs
