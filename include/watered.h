@@ -63,11 +63,32 @@ uint32_t watered_afresh(size_t n, const int32_t box[4], const int32_t heads[30],
                         uint8_t *exclusive_presence, size_t exclusive_presence_count,
                         double *exclusives, size_t exclusives_count);
 
-/* The same without the box, whose fields are checked all the same: row 0 is absent. These tables are not edited. */
+/* The same without the box, whose fields are checked all the same: row 0 is absent. These tables are not edited. Refusals 2, 4, 5, 7. */
 uint32_t watered_open_afresh(size_t n, const int32_t box[4], const int32_t heads[30],
                              uint8_t *presence, size_t presence_count, double *rows, size_t rows_count,
                              uint8_t *exclusive_presence, size_t exclusive_presence_count,
                              double *exclusives, size_t exclusives_count);
+
+/* ---- gradients and overlap
+ *
+ * The exclusives of a plan with their gradients: presence, exclusives, and gradients, of which row S begins at S*(3n+4):
+ *
+ *   gradients[S*(3n+4) + 3*i + 0, 1, 2]   by x, y, radius of head i, for i from 0 to n-1;
+ *   gradients[S*(3n+4) + 3*n + 0 .. 3]    by the box's centre x, centre y, ln(width*height), ln(width/height);
+ *
+ * and without the box at S*3n, with no entries of the box. gradients_count is a number of numbers, at least WATERED_GRADIENTS(n) or
+ * WATERED_OPEN_GRADIENTS(n) (which is 0 for n 0; the pointer is not NULL even then). Absent rows have +0 throughout. Here an exclusive below
+ * zero becomes +0 and its gradient row all +0, and no other number is replaced. The box is checked in all three calls. Refusals 2, 4, 5, 7. */
+uint32_t watered_gradients(size_t n, const int32_t box[4], const int32_t heads[30],
+                           uint8_t *presence, size_t presence_count, double *exclusives, size_t exclusives_count,
+                           double *gradients, size_t gradients_count);
+
+uint32_t watered_open_gradients(size_t n, const int32_t box[4], const int32_t heads[30],
+                                uint8_t *presence, size_t presence_count, double *exclusives, size_t exclusives_count,
+                                double *gradients, size_t gradients_count);
+
+/* What all n heads water together, without the box, into *overlap (0 for no heads). Refusals 2, 4, 5. */
+uint32_t watered_overlap(size_t n, const int32_t box[4], const int32_t heads[30], double *overlap);
 
 /* ---- edits
  *

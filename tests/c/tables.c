@@ -325,6 +325,106 @@ static plan changed(int at, int64_t value)
     return p;
 }
 
+/* ---- gradients and overlap */
+
+typedef uint32_t gradient_call(size_t, const int32_t[4], const int32_t[30], uint8_t *, size_t, double *, size_t, double *, size_t);
+
+typedef struct {
+    slice presence, exclusives, gradients;
+} slopes;
+
+static slopes lend_slopes(size_t presence, size_t exclusives, size_t gradients)
+{
+    slopes s = {lend(1, presence), lend(sizeof(double), exclusives), lend(sizeof(double), gradients)};
+    return s;
+}
+
+static void give_back_slopes(slopes *s)
+{
+    give_back(&s->presence);
+    give_back(&s->exclusives);
+    give_back(&s->gradients);
+}
+
+static int slopes_stay(const slopes *s) { return stays(&s->presence) && stays(&s->exclusives) && stays(&s->gradients); }
+
+static uint32_t slope(gradient_call *call, const plan *p, slopes *s)
+{
+    plan handed = *p;
+    uint32_t answer =
+        call(handed.n, handed.box, handed.heads, start(&s->presence), s->presence.count, (double *)(void *)start(&s->exclusives),
+             s->exclusives.count, (double *)(void *)start(&s->gradients), s->gradients.count);
+    expect(!memcmp(&handed, p, sizeof handed), "the plan handed over was written", p->n, 0);
+    return answer;
+}
+
+static void gradients(gradient_call *call, afresh_call *same, size_t n, size_t width, size_t numbers)
+{
+    plan p = plan_of(n, 12345), other = plan_of(n, -1);
+    size_t rows = WATERED_ROWS(n);
+    expect(numbers == rows * width, "the size of the gradients", n, (long)numbers);
+    slopes exact = lend_slopes(rows, rows, numbers), longer = lend_slopes(rows + 4, rows + 1, numbers + 9);
+    tables t = lend_same(rows);
+    expect(slope(call, &p, &exact) == WATERED_TAKEN && slope(call, &other, &longer) == WATERED_TAKEN, "gradients were refused", n, 0);
+    expect(work_out(same, &p, &t) == WATERED_TAKEN, "a plan was refused", n, 0);
+    expect(beyond_stays(&exact.presence, rows) && beyond_stays(&exact.exclusives, rows) && beyond_stays(&exact.gradients, numbers),
+           "written beyond the rows", n, 1);
+    expect(beyond_stays(&longer.presence, rows) && beyond_stays(&longer.exclusives, rows) && beyond_stays(&longer.gradients, numbers),
+           "written beyond the rows of longer tables", n, 2);
+    expect(!memcmp(start(&exact.presence), start(&longer.presence), rows) &&
+               !memcmp(start(&exact.exclusives), start(&longer.exclusives), rows * sizeof(double)) &&
+               !memcmp(start(&exact.gradients), start(&longer.gradients), numbers * sizeof(double)),
+           "what stands past the heads, or in the tables, changed an answer", n, 3);
+    expect(!memcmp(start(&exact.presence), start(&t.of[0]), rows), "the presence bytes of gradients", n, 4);
+    const double *entry = (const double *)(const void *)start(&exact.gradients), zero = 0.0;
+    for (size_t i = 0; i < numbers; i++) {
+        expect(entry[i] - entry[i] == 0.0, "a gradient that is not finite", n, (long)i);
+        if (!start(&exact.presence)[i / width])
+            expect(!memcmp(&entry[i], &zero, sizeof zero), "a gradient of an absent row is not +0", n, (long)i);
+    }
+    for (int i = 0; i < 6; i++) {
+        size_t count[3] = {rows, rows, numbers};
+        if (i % 3 == 2 && numbers == 0)
+            continue; /* no gradient numbers are needed: none can be too few */
+        count[i % 3] = i < 3 ? count[i % 3] - 1 : 0;
+        slopes shorter = lend_slopes(count[0], count[1], count[2]);
+        expect(slope(call, &p, &shorter) == WATERED_TABLES_TOO_SHORT, "a short table of gradients was taken", n, i);
+        expect(slopes_stay(&shorter), "a refused call wrote", n, i);
+        give_back_slopes(&shorter);
+    }
+    for (size_t i = 0; i < sizeof wrong / sizeof *wrong; i++) {
+        plan bad = changed(wrong[i].at, wrong[i].value);
+        expect(slope(call, &bad, &exact) == wrong[i].answer, "the answer of gradients", n, (long)i);
+    }
+    give_back_slopes(&exact);
+    give_back_slopes(&longer);
+    give_back_tables(&t);
+}
+
+static void overlaps(void)
+{
+    for (size_t n = 0; n <= WATERED_HEADS; n++) {
+        plan p = plan_of(n, 9), handed = p;
+        slice lent = lend(sizeof(double), 1), other = lend(sizeof(double), 1);
+        expect(watered_overlap(p.n, p.box, p.heads, (double *)(void *)start(&lent)) == WATERED_TAKEN, "an overlap was refused", n, 0);
+        p = plan_of(n, INT32_MAX);
+        expect(watered_overlap(p.n, p.box, p.heads, (double *)(void *)start(&other)) == WATERED_TAKEN, "an overlap was refused", n, 1);
+        expect(beyond_stays(&lent, 1) && !memcmp(start(&lent), start(&other), sizeof(double)), "an overlap", n, 2);
+        expect(!memcmp(handed.heads, plan_of(n, 9).heads, sizeof p.heads), "the plan handed over was written", n, 3);
+        give_back(&lent);
+        give_back(&other);
+    }
+    for (size_t i = 0; i < sizeof wrong / sizeof *wrong; i++) {
+        plan bad = changed(wrong[i].at, wrong[i].value);
+        slice lent = lend(sizeof(double), 1);
+        expect(watered_overlap(bad.n, bad.box, bad.heads, (double *)(void *)start(&lent)) == wrong[i].answer, "the answer of overlap", bad.n, (long)i);
+        expect(stays(&lent), "a refused overlap wrote", bad.n, (long)i);
+        give_back(&lent);
+    }
+}
+
+
+
 static void refusals(void)
 {
     for (size_t i = 0; i < sizeof wrong / sizeof *wrong; i++) {
@@ -391,9 +491,12 @@ int main(void)
     for (size_t n = 0; n <= WATERED_HEADS; n++) {
         afresh(watered_afresh, n, 1);
         afresh(watered_open_afresh, n, 0);
+        gradients(watered_gradients, watered_afresh, n, 3 * n + 4, WATERED_GRADIENTS(n));
+        gradients(watered_open_gradients, watered_open_afresh, n, 3 * n, WATERED_OPEN_GRADIENTS(n));
         edits(n);
         runs(n);
     }
+    overlaps();
     refusals();
     edit_refusals();
     printf("%lu checks of the calls over plans, %lu faults\n", checks, faults);

@@ -1,9 +1,15 @@
 // One plan for both sides: the Rust's circles, box and meeting points, what they give, and the numbers that our exports take.
 
-use crate::geometry::diagram::{collect_intersections, discover_regions, IntersectionPoint};
+use crate::geometry::diagram::{
+    collect_intersections, compute_exclusive_regions, compute_exclusive_regions_with_gradient_circles, discover_regions, to_exclusive_areas,
+    to_exclusive_areas_and_gradients, IntersectionPoint,
+};
 use crate::geometry::primitives::{Bounds, Point};
 use crate::geometry::operations::overlaps::compute_overlaps_circles;
-use crate::geometry::shapes::circle::{area_from_boundary_arcs, area_from_clipped_arcs, region_boundary_arcs, BoundaryArc};
+use crate::geometry::shapes::circle::{
+    accumulate_region_overlap_gradient, area_and_gradient_from_clipped_arcs, area_from_boundary_arcs, area_from_clipped_arcs,
+    compute_exclusive_regions_clipped, compute_exclusive_regions_clipped_with_gradient, region_boundary_arcs, BoundaryArc,
+};
 use crate::geometry::shapes::{Circle, Rectangle};
 use crate::geometry::traits::{Area, BoundingBox};
 use crate::inputs::{Head, Random};
@@ -62,8 +68,9 @@ pub fn overlap(heads: &[Head], circles: &[Circle]) -> f64 {
     area_from_boundary_arcs(&arcs, circles)
 }
 
-// A table of areas by mask, as the Rust has it.
+// A table of areas by mask, and one of gradients, as the Rust has them.
 pub type Rows = HashMap<usize, f64>;
+pub type Slopes = HashMap<usize, Vec<f64>>;
 
 impl Case {
     pub fn of(plan: Plan) -> Self {
@@ -119,6 +126,58 @@ impl Case {
     pub fn open_rows(&self) -> Rows {
         let area = |mask| area_from_boundary_arcs(&self.arcs(mask), &self.circles);
         self.found().into_iter().map(|mask| (mask, area(mask))).collect()
+    }
+
+    fn has_twins(&self) -> bool {
+        !twins_of(&self.heads).is_empty()
+    }
+
+    // What the Rust's functions of whole diagrams give, by their names; with identical heads what they would give of the meeting points that
+    // document 01 leaves.
+    pub fn exclusives_in_the_box(&self) -> Rows {
+        match self.has_twins() {
+            true => to_exclusive_areas(&self.rows_in_the_box()),
+            false => compute_exclusive_regions_clipped(&self.circles, &self.container),
+        }
+    }
+
+    pub fn open_exclusives(&self) -> Rows {
+        match self.has_twins() {
+            true => to_exclusive_areas(&self.open_rows()),
+            false => compute_exclusive_regions(&self.circles),
+        }
+    }
+
+    pub fn slopes_in_the_box(&self) -> (Rows, Slopes) {
+        if !self.has_twins() {
+            return compute_exclusive_regions_clipped_with_gradient(&self.circles, &self.container);
+        }
+        let width = 3 * self.n + 4;
+        let (mut areas, mut slopes) = (Rows::new(), Slopes::new());
+        for mask in self.found() {
+            let mut grad = vec![0.0; width];
+            let arcs = self.arcs(mask);
+            areas.insert(mask, area_and_gradient_from_clipped_arcs(&arcs, &self.circles, &self.container, mask, self.n, &mut grad));
+            slopes.insert(mask, grad);
+        }
+        areas.insert(0, self.container.area());
+        let mut of_the_box = vec![0.0; width];
+        of_the_box[3 * self.n + 2] = self.container.area();
+        slopes.insert(0, of_the_box);
+        to_exclusive_areas_and_gradients(&areas, &slopes, width)
+    }
+
+    pub fn open_slopes(&self) -> (Rows, Slopes) {
+        if !self.has_twins() {
+            return compute_exclusive_regions_with_gradient_circles(&self.circles);
+        }
+        let mut slopes = Slopes::new();
+        for mask in self.found() {
+            let mut grad = vec![0.0; 3 * self.n];
+            accumulate_region_overlap_gradient(&self.arcs(mask), &self.circles, &mut grad);
+            slopes.insert(mask, grad);
+        }
+        to_exclusive_areas_and_gradients(&self.open_rows(), &slopes, 3 * self.n)
     }
 
     // All sets of at most four heads; of more, at most 40: none, singles, all, some that the Rust finds (pairs first), some others.

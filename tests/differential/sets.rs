@@ -4,6 +4,7 @@ use crate::case::{overlap, Case, OurCircles, Rows};
 use crate::geometry::diagram::{mask_to_indices, to_exclusive_areas};
 use crate::geometry::shapes::Circle;
 use crate::inputs::{Head, Random};
+use crate::regions;
 use crate::tally::Tally;
 
 #[repr(C)]
@@ -146,6 +147,8 @@ pub fn compare(tally: &mut Tally, case: &Case, random: &mut Random) {
     exclusives(tally, "to_exclusive_areas of the open areas", case, &open, random);
     exclusives(tally, "to_exclusive_areas of any sets with any numbers", case, &any, random);
     refused(tally, case, &any, random);
+    regions::any_tables(tally, case.n, &any, random);
+    regions::compare(tally, case, random);
     let mut masks = case.masks(random);
     masks.truncate(16);
     overlaps(tally, case, &masks);

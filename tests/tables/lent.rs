@@ -23,6 +23,15 @@ extern "C" {
         presence_count: usize, rows: *mut f64, rows_count: usize, exclusive_presence: *mut u8, exclusive_presence_count: usize,
         exclusives: *mut f64, exclusives_count: usize,
     ) -> usize;
+    fn watered_gradients(
+        n: usize, sides: *const i32, heads: *const i32, presence: *mut u8, presence_count: usize, exclusives: *mut f64,
+        exclusives_count: usize, gradients: *mut f64, gradients_count: usize,
+    ) -> u32;
+    fn watered_open_gradients(
+        n: usize, sides: *const i32, heads: *const i32, presence: *mut u8, presence_count: usize, exclusives: *mut f64,
+        exclusives_count: usize, gradients: *mut f64, gradients_count: usize,
+    ) -> u32;
+    fn watered_overlap(n: usize, sides: *const i32, heads: *const i32, overlap: *mut f64) -> u32;
 }
 
 // A plan: the box, n, and each head's x, y and radius. What stands past n heads is never read.
@@ -76,6 +85,13 @@ impl Book {
 
     pub fn rows(&self) -> usize {
         1 << self.n
+    }
+
+    // The answer, and what all heads water together.
+    pub fn overlap(&self) -> (u32, f64) {
+        let mut area = f64::NAN;
+        let answer = unsafe { watered_overlap(self.n, self.sides.as_ptr(), self.heads.as_ptr(), &mut area) };
+        (answer, area)
     }
 }
 
@@ -162,5 +178,40 @@ impl Tables {
             && self.exclusive_presence == other.exclusive_presence
             && bits(&self.rows) == bits(&other.rows)
             && bits(&self.exclusives) == bits(&other.exclusives)
+    }
+}
+
+// The slices of a call for gradients.
+#[derive(Clone)]
+pub struct Gradients {
+    pub presence: Vec<u8>,
+    pub exclusives: Vec<f64>,
+    pub gradients: Vec<f64>,
+}
+
+impl Gradients {
+    // At least so many rows and so many numbers.
+    pub fn of(rows: usize, numbers: usize, random: &mut Random) -> Self {
+        let more = random.whole(0, 5) as usize;
+        let tables = Tables::of(rows, random);
+        Gradients { presence: tables.presence, exclusives: tables.exclusives, gradients: vec![-0.625; numbers + more] }
+    }
+
+    pub fn boxed(&mut self, book: &Book) -> u32 {
+        let (p, e, g) = (&mut self.presence, &mut self.exclusives, &mut self.gradients);
+        unsafe {
+            watered_gradients(
+                book.n, book.sides.as_ptr(), book.heads.as_ptr(), p.as_mut_ptr(), p.len(), e.as_mut_ptr(), e.len(), g.as_mut_ptr(), g.len(),
+            )
+        }
+    }
+
+    pub fn open(&mut self, book: &Book) -> u32 {
+        let (p, e, g) = (&mut self.presence, &mut self.exclusives, &mut self.gradients);
+        unsafe {
+            watered_open_gradients(
+                book.n, book.sides.as_ptr(), book.heads.as_ptr(), p.as_mut_ptr(), p.len(), e.as_mut_ptr(), e.len(), g.as_mut_ptr(), g.len(),
+            )
+        }
     }
 }

@@ -6,6 +6,7 @@ include!("modules.rs");
 #[allow(dead_code)]
 mod case;
 mod edits;
+mod hold;
 #[allow(dead_code)]
 mod inputs;
 mod lent;

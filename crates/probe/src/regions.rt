@@ -70,7 +70,13 @@ pub extern "C" fn probe_compute_exclusive_regions_clipped(
     ensures { λ r. ⌜ now (presence .exit) ≡ left.presenceLeft «n_sets» (left.clippedDiagram (around (at x y) width height) (spec.circles (circles .numbers) «n_sets»)) (now (presence .entry)) (now (exclusives .entry)) ⌝ }
     ensures { λ r. ⌜ now (exclusives .exit) ≡ left.exclusivesLeft «n_sets» (left.clippedDiagram (around (at x y) width height) (spec.circles (circles .numbers) «n_sets»)) (now (presence .entry)) (now (exclusives .entry)) ⌝ }
 {
-    compute_exclusive_regions_clipped(circles_of(circles), n_sets, container(x, y, width, height), presence, exclusives)
+    compute_exclusive_regions_clipped(
+        circles_of(circles),
+        n_sets,
+        container(x, y, width, height),
+        presence,
+        exclusives,
+    )
 }
 
 // The exclusive areas with their gradients.
@@ -87,7 +93,13 @@ pub extern "C" fn probe_compute_exclusive_regions_with_gradient_circles(
     ensures { λ r. ⌜ now (exclusives .exit) ≡ left.areasLeft «n_sets» (left.openWithGradients (spec.circles (circles .numbers) «n_sets»)) (now (presence .entry)) (now (exclusives .entry)) (now (gradients .entry)) ⌝ }
     ensures { λ r. ⌜ now (gradients .exit) ≡ left.gradientsLeft «n_sets» (left.openWithGradients (spec.circles (circles .numbers) «n_sets»)) (now (presence .entry)) (now (exclusives .entry)) (now (gradients .entry)) ⌝ }
 {
-    compute_exclusive_regions_with_gradient_circles(circles_of(circles), n_sets, presence, exclusives, gradients)
+    compute_exclusive_regions_with_gradient_circles(
+        circles_of(circles),
+        n_sets,
+        presence,
+        exclusives,
+        gradients,
+    )
 }
 
 // Those in the box.
@@ -108,5 +120,12 @@ pub extern "C" fn probe_compute_exclusive_regions_clipped_with_gradient(
     ensures { λ r. ⌜ now (exclusives .exit) ≡ left.areasLeft «n_sets» (left.clippedWithGradients (around (at x y) width height) (spec.circles (circles .numbers) «n_sets»)) (now (presence .entry)) (now (exclusives .entry)) (now (gradients .entry)) ⌝ }
     ensures { λ r. ⌜ now (gradients .exit) ≡ left.gradientsLeft «n_sets» (left.clippedWithGradients (around (at x y) width height) (spec.circles (circles .numbers) «n_sets»)) (now (presence .entry)) (now (exclusives .entry)) (now (gradients .entry)) ⌝ }
 {
-    compute_exclusive_regions_clipped_with_gradient(circles_of(circles), n_sets, container(x, y, width, height), presence, exclusives, gradients)
+    compute_exclusive_regions_clipped_with_gradient(
+        circles_of(circles),
+        n_sets,
+        container(x, y, width, height),
+        presence,
+        exclusives,
+        gradients,
+    )
 }

@@ -1,24 +1,30 @@
 -- What a call answers and leaves, told of a plan that equals the one handed over.
 use Prim.Native.Nat.{ℕ}
 use mathlib.Core.List.{List}
-use mathlib.Core.Path.{_≡_, ap, subst, _∙_}
+use mathlib.Core.Path.{_≡_, ap, subst, sym, _∙_}
+use borrow.Author.Tests.{eq-eqb, ne-eqb}
+use lib.Ieee.{Float}
 use lib.IntN.{ℤ}
 use Rattle.lists.specs.Run.{Step}
 use Rattle.plan.specs.declared.Answer.{Answer}
 use Rattle.plan.specs.declared.Edit.{Edit}
 use Rattle.plan.specs.declared.Plan.{Plan}
+use Rattle.plan.specs.Checks.{planAnswer}
 use Rattle.plan.specs.Table.{answerNumber}
+use Rattle.drawn.specs.Drawn.{planCircles}
+use Rattle.overlaps.specs.Overlap.{overlap}
 use Rattle.regions.specs.Run as list
 use Rattle.regions.specs.Run.{editsOf, answersAfter, SlicesEnd}
 use Rattle.regions.specs.Slices.{PlanSlices, stepOf}
 use Rattle.regions.specs.Table.{Method}
 use Rattle.watered.specs.Handed.{numbersOf}
+use Rattle.watered.specs.Overlap.{overlapLeft}
 use Rattle.watered.specs.Run.{Ran}
 
-pub told : (f : Plan → Step PlanSlices Answer) (p q : Plan) (left : PlanSlices) (a : Answer) → p ≡ q → stepOf left a ≡ f p
+pub told : {S : Type 0} (f : Plan → Step S Answer) (p q : Plan) (left : S) (a : Answer) → p ≡ q → record { left = left; answer = a } ≡ f p
     → (answerNumber a ≡ answerNumber (f q .answer)) × (left ≡ f q .left)
 told f p q left a e s =
-    let t : stepOf left a ≡ f q = s ∙ ap f e in
+    let t : record { left = left; answer = a } ≡ f q = s ∙ ap f e in
     (ap (λ z. answerNumber (z .answer)) t, ap (λ z. z .left) t)
 
 -- the same of an edit
@@ -42,3 +48,12 @@ module _ (m : Method) (given : Plan → PlanSlices) (heads : List ℕ) (xs ys ra
         numbered = s .numbered;
         ends = λ h. subst (λ (z : PlanSlices). SlicesEnd m (given q) es z (answersAfter m (given q) es)) (s .folded) (s .ends h);
       }
+
+-- the overlap of a plan, written where it is taken
+pub overlap-taken : (p q : Plan) (number : ℕ) (r v : Float)
+    → p ≡ q → number ≡ answerNumber (planAnswer q) → number ≡ 0 → r ≡ overlap (planCircles p) → r ≡ overlapLeft q v
+overlap-taken p q number r v e k z h =
+    rw (eq-eqb (answerNumber (planAnswer q)) 0 (sym k ∙ z)) (h ∙ ap (λ (plan : Plan). overlap (planCircles plan)) e)
+
+pub overlap-refused : (q : Plan) (number : ℕ) (v : Float) → number ≡ answerNumber (planAnswer q) → (number ≡ 0 → ⊥) → v ≡ overlapLeft q v
+overlap-refused q number v k ne = rw (ne-eqb (answerNumber (planAnswer q)) 0 (λ z. ne (k ∙ z)))

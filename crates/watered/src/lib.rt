@@ -5,6 +5,7 @@ ghost use Rattle.elementary.specs.Sine.{sine, cosine};
 ghost use Rattle.elementary.specs.Arctangent.{atan2, acos, asin};
 
 mod handed;
+pub mod slopes;
 pub mod tables;
 
 // The correctly rounded square root; +0 outside its domain.
