@@ -1,51 +1,21 @@
 // The differential run: the Rust's files as modules of this program, and our functions beside them.
 // `differential COUNT SEED PLANS` compares on about COUNT ordered pairs of circles and about PLANS plans; `differential list ..`
-// prints the Rust's answers for so many. What is compared stands in files of its own (pairs.rs, outlines.rs), with the exports of
-// crate `probe` that it calls.
+// prints the Rust's answers for so many. What is compared stands in files of its own (pairs.rs, outlines.rs, sets.rs, regions.rs, twins.rs),
+// with the exports of crate `probe` that it calls.
 
-#[allow(dead_code)]
-mod constants;
-#[allow(dead_code)]
-mod error;
-#[allow(dead_code)]
-mod geometry {
-    pub mod diagram;
-    pub mod traits;
-    pub mod operations {
-        pub mod overlaps;
-    }
-    pub mod primitives {
-        pub mod bounds;
-        pub mod point;
-        pub use bounds::Bounds;
-        pub use point::Point;
-    }
-    pub mod projective {
-        pub use crate::stubs::HomogeneousPoint;
-    }
-    pub mod shapes {
-        pub mod circle;
-        pub mod rectangle;
-        pub use crate::stubs::{Ellipse, Polygon};
-        pub use circle::Circle;
-        pub use rectangle::Rectangle;
-    }
-}
-#[allow(dead_code)]
-mod spec {
-    pub mod combination;
-    pub use combination::Combination;
-}
-#[path = "stubs/shapes.rs"]
-#[allow(dead_code)]
-mod stubs;
+include!("modules.rs");
 
+mod case;
+mod hold;
 mod inputs;
 mod ours;
 mod outlines;
 mod pairs;
 mod plans;
+mod regions;
+mod sets;
 mod tally;
+mod twins;
 mod whole;
 
 fn main() {
@@ -59,7 +29,17 @@ fn main() {
         return;
     }
     whole::answers();
-    let mut tally = tally::Tally::new(&[pairs::FUNCTIONS.as_slice(), outlines::FUNCTIONS.as_slice()].concat());
+    let mut tally = tally::Tally::new(
+        &[
+            pairs::FUNCTIONS.as_slice(),
+            outlines::FUNCTIONS.as_slice(),
+            sets::FUNCTIONS.as_slice(),
+            regions::FUNCTIONS.as_slice(),
+            hold::FUNCTIONS.as_slice(),
+            twins::FUNCTIONS.as_slice(),
+        ]
+        .concat(),
+    );
     println!("seed {seed}");
     pairs::compare(count, seed, &mut tally);
     outlines::compare(plans, seed, &mut tally);

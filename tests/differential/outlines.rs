@@ -1,26 +1,19 @@
-// The functions on whole plans: meeting points, the outline of a set as arcs, areas and gradients, open and in the box. Ours get
-// the box by the Rust's bounds of it. Our exports of lists give one value at a time.
+// The functions on whole plans: meeting points, the outline of a set as arcs, areas and gradients, open and in the box; then sets.rs.
+// Ours get the box by the Rust's bounds of it. Our exports of lists give one value at a time.
 
-use crate::geometry::diagram::{adopters_to_mask, collect_intersections, discover_regions, mask_to_indices, IntersectionPoint};
-use crate::geometry::primitives::{Bounds, Point};
+use crate::case::{words, Case, OurBounds, OurCircles};
+use crate::geometry::diagram::{adopters_to_mask, mask_to_indices};
+use crate::geometry::primitives::Bounds;
 use crate::geometry::shapes::circle::{
     accumulate_region_overlap_gradient, area_and_gradient_from_clipped_arcs, area_from_boundary_arcs, area_from_clipped_arcs,
-    horizontal_edge_inside_interval, region_boundary_arcs, vertical_edge_inside_interval, wrap_angle, BoundaryArc,
+    clipped_arc_integral_with_gradient, horizontal_edge_inside_interval, vertical_edge_inside_interval, wrap_angle, BoundaryArc,
 };
-use crate::geometry::shapes::{Circle, Rectangle};
-use crate::geometry::traits::BoundingBox;
-use crate::inputs::{Head, Random};
-use crate::pairs::{circle, words, OurBounds};
-use crate::plans::{Category, Plan, Sides, CATEGORIES};
+use crate::inputs::Random;
+use crate::plans::{Category, Plan, CATEGORIES, TWINS};
+use crate::sets;
 use crate::tally::Tally;
+use crate::twins;
 use std::f64::consts::PI;
-
-// x, y and radius of ten heads in turn.
-#[repr(C)]
-#[derive(Clone, Copy)]
-struct OurCircles {
-    numbers: [f64; 30],
-}
 
 #[repr(C)]
 struct OurPoint {
@@ -32,11 +25,11 @@ struct OurPoint {
 }
 
 #[repr(C)]
-struct OurArc {
-    head: usize,
-    start: f64,
-    end: f64,
-    delta: f64,
+pub struct OurArc {
+    pub head: usize,
+    pub start: f64,
+    pub end: f64,
+    pub delta: f64,
 }
 
 #[repr(C)]
@@ -65,9 +58,12 @@ extern "C" {
     fn probe_clipped_region_area_and_gradient(
         circles: OurCircles, n: usize, mask: usize, bounds: OurBounds, grad: *mut f64, entries: usize,
     ) -> f64;
+    fn probe_clipped_arc_integral_with_gradient(
+        circles: OurCircles, n: usize, arc: OurArc, bounds: OurBounds, grad: *mut f64, entries: usize,
+    ) -> f64;
 }
 
-pub const FUNCTIONS: [&str; 19] = [
+pub const FUNCTIONS: [&str; 21] = [
     "collect_intersections, how many",
     "collect_intersections, coordinates",
     "collect_intersections, parents",
@@ -86,48 +82,17 @@ pub const FUNCTIONS: [&str; 19] = [
     "area_and_gradient_from_clipped_arcs, area",
     "area_and_gradient_from_clipped_arcs, gradient",
     "area_and_gradient_from_clipped_arcs, ours from the members",
+    "clipped_arc_integral_with_gradient, integral",
+    "clipped_arc_integral_with_gradient, gradient",
     "wrap_angle",
 ];
 
-// A plan as both sides take it, with the Rust's meeting points.
-struct Case {
-    n: usize,
-    heads: Vec<Head>,
-    sides: Sides,
-    circles: Vec<Circle>,
-    container: Rectangle,
-    bounds: Bounds,
-    points: Vec<IntersectionPoint>,
-    ours: OurCircles,
-}
+const NUMBERS: [&str; 11] = [
+    "plans of no heads", "plans of 1 head", "plans of 2", "plans of 3", "plans of 4", "plans of 5", "plans of 6", "plans of 7",
+    "plans of 8", "plans of 9", "plans of ten heads",
+];
 
 impl Case {
-    fn of(plan: Plan) -> Self {
-        let circles: Vec<Circle> = plan.heads.iter().map(|h| circle(*h)).collect();
-        let s = plan.sides;
-        let container = Rectangle::new(Point::new(s.x, s.y), s.width, s.height);
-        let n = circles.len();
-        // what stands past the n circles is looked at by neither: a circle that covers all others
-        let mut numbers = [40000.0; 30];
-        for (i, h) in plan.heads.iter().enumerate() {
-            numbers[3 * i..3 * i + 3].copy_from_slice(&[h.x, h.y, h.r]);
-        }
-        let points = collect_intersections(&circles, n);
-        let bounds = container.bounds();
-        Case { n, heads: plan.heads, sides: s, circles, container, bounds, points, ours: OurCircles { numbers } }
-    }
-
-    fn input(&self) -> String {
-        let heads: Vec<String> = self.heads.iter().map(|h| words(&[h.x, h.y, h.r])).collect();
-        let s = self.sides;
-        format!("heads{}, box{}", heads.join(","), words(&[s.x, s.y, s.width, s.height]))
-    }
-
-    fn our_bounds(&self) -> OurBounds {
-        let Bounds { x_min, x_max, y_min, y_max } = self.bounds;
-        OurBounds { x_min, x_max, y_min, y_max }
-    }
-
     // The spans of the four edges: bottom, right, top, left.
     fn spans(&self, mask: usize) -> [Option<(f64, f64)>; 4] {
         let Bounds { x_min, x_max, y_min, y_max } = self.bounds;
@@ -157,30 +122,6 @@ impl Case {
         let area = area_and_gradient_from_clipped_arcs(arcs, &self.circles, &self.container, mask, self.n, &mut grad);
         (area, grad)
     }
-
-    // All sets of at most four heads; of more, at most 40: none, singles, all, some that the Rust finds (pairs first), some others.
-    fn masks(&self, random: &mut Random) -> Vec<usize> {
-        let full = (1 << self.n) - 1;
-        if self.n <= 4 {
-            return (0..=full).collect();
-        }
-        let mut masks = vec![0, full];
-        masks.extend((0..self.n).map(|i| 1 << i));
-        masks.extend((0..4).map(|_| random.next() as usize & full));
-        let mut found = discover_regions(&self.circles, &self.points, self.n);
-        found.sort_unstable();
-        for i in 0..found.len() {
-            let other = i + (random.next() % (found.len() - i) as u64) as usize;
-            found.swap(i, other);
-        }
-        let (pairs, others): (Vec<usize>, Vec<usize>) = found.into_iter().partition(|m| m.count_ones() == 2);
-        masks.extend(pairs.into_iter().take(12));
-        masks.extend(others.into_iter().filter(|m| m.count_ones() > 2));
-        let mut seen = std::collections::HashSet::new();
-        masks.retain(|m| seen.insert(*m));
-        masks.truncate(40);
-        masks
-    }
 }
 
 fn points(tally: &mut Tally, case: &Case) {
@@ -199,6 +140,11 @@ fn points(tally: &mut Tally, case: &Case) {
         // the Rust's adopters ascend, so that their mask says all of them
         assert!(theirs.adopters().windows(2).all(|w| w[0] < w[1]), "adopters {:?} of {}", theirs.adopters(), input());
     }
+}
+
+pub fn our_arcs(case: &Case, mask: usize) -> Vec<OurArc> {
+    let number = unsafe { probe_number_of_arcs(case.ours, case.n, mask) };
+    (0..number).map(|k| unsafe { probe_arc(case.ours, case.n, mask, k) }).collect()
 }
 
 fn arcs(tally: &mut Tally, case: &Case, mask: usize, theirs: &[BoundaryArc]) {
@@ -280,15 +226,38 @@ fn clipped(tally: &mut Tally, case: &Case, mask: usize, theirs: &[BoundaryArc]) 
     tally.things("gradient entries", 3 * case.n + 4);
 }
 
-fn sets(tally: &mut Tally, case: &Case, random: &mut Random) {
+// Of each arc its integral along the parts in the box, and its gradient onto other numbers.
+fn arc_integrals(tally: &mut Tally, case: &Case, mask: usize, theirs: &[BoundaryArc], random: &mut Random) {
+    let input = || format!("{}, set {mask:X}", case.input());
+    let Bounds { x_min, x_max, y_min, y_max } = case.bounds;
+    for arc in theirs {
+        let mut grad: Vec<f64> = (0..3 * case.n + 4).map(|_| random.whole(-1000, 1000) as f64 / 7.0).collect();
+        let mut ours = grad.clone();
+        let integral = clipped_arc_integral_with_gradient(arc, &case.circles, x_min, x_max, y_min, y_max, &mut grad);
+        let given = OurArc { head: arc.circle, start: arc.phi_start, end: arc.phi_end, delta: arc.delta_phi };
+        let summed = unsafe {
+            probe_clipped_arc_integral_with_gradient(case.ours, case.n, given, case.our_bounds(), ours.as_mut_ptr(), ours.len())
+        };
+        tally.float("clipped_arc_integral_with_gradient, integral", summed, integral, input);
+        tally.floats("clipped_arc_integral_with_gradient, gradient", &ours, &grad, input);
+    }
+}
+
+// What is compared of one plan; what it needs of chance beyond the plan itself comes from `random`.
+fn plan(tally: &mut Tally, case: &Case, random: &mut Random) {
+    tally.input();
+    tally.things(NUMBERS[case.n], 1);
+    points(tally, case);
     for mask in case.masks(random) {
-        let theirs = region_boundary_arcs(mask, &case.circles, &case.points, case.n);
+        let theirs = case.arcs(mask);
         tally.things("sets", 1);
         arcs(tally, case, mask, &theirs);
         open(tally, case, mask, &theirs, random);
         spans(tally, case, mask);
         clipped(tally, case, mask, &theirs);
+        arc_integrals(tally, case, mask, &theirs, random);
     }
+    sets::compare(tally, case, random);
 }
 
 // Angles for wrap_angle: multiples of a half turn with their neighbours, angles of arcs, and any floats.
@@ -320,14 +289,23 @@ fn compare_angles(count: u64, random: &mut Random, tally: &mut Tally) {
 }
 
 pub fn compare(count: u64, seed: u64, tally: &mut Tally) {
+    let number = |category: &Category| (count * category.share / 100).max(1);
     for (i, category) in CATEGORIES.iter().enumerate() {
-        let mut random = Random::of(seed, 100 + i);
+        let (mut random, mut other) = (Random::of(seed, 100 + i), Random::of(seed, 300 + i));
         tally.begin(category.name, "plans");
-        for _ in 0..(count * category.share / 100).max(1) {
-            let case = Case::of((category.plan)(&mut random));
-            tally.input();
-            points(tally, &case);
-            sets(tally, &case, &mut random);
+        for _ in 0..number(category) {
+            plan(tally, &Case::of((category.plan)(&mut random)), &mut other);
+        }
+        tally.close();
+    }
+    // With identical heads: the Rust's functions, given the meeting points that document 01 leaves; and the claims about them.
+    for (i, category) in TWINS.iter().enumerate() {
+        let (mut random, mut other) = (Random::of(seed, 200 + i), Random::of(seed, 400 + i));
+        tally.begin(category.name, "plans with identical heads");
+        for _ in 0..number(category) {
+            let case = Case::of_any((category.plan)(&mut random));
+            plan(tally, &case, &mut other);
+            twins::compare(tally, &case);
         }
         tally.close();
     }
@@ -343,7 +321,7 @@ fn line(letter: char, whole: &[usize], floats: &[f64]) {
 }
 
 fn list_set(case: &Case, mask: usize) {
-    let arcs = region_boundary_arcs(mask, &case.circles, &case.points, case.n);
+    let arcs = case.arcs(mask);
     line('N', &[mask, arcs.len()], &[]);
     for (k, arc) in arcs.iter().enumerate() {
         line('T', &[mask, k, arc.circle], &[arc.phi_start, arc.phi_end, arc.delta_phi]);
@@ -396,7 +374,7 @@ fn listed(category: &Category, turn: u64, random: &mut Random) -> Plan {
 fn listed_sets(case: &Case, random: &mut Random) -> Vec<usize> {
     let mut masks = case.masks(random);
     masks.retain(|m| m.count_ones() != 1);
-    masks.sort_by_key(|m| region_boundary_arcs(*m, &case.circles, &case.points, case.n).is_empty());
+    masks.sort_by_key(|m| case.arcs(*m).is_empty());
     masks.truncate(if case.n > 4 { 4 } else { 5 });
     masks.push(1 << (random.next() % case.n as u64));
     masks

@@ -2,18 +2,11 @@
 // intersection_area, intersection_points.
 
 use crate::geometry::primitives::{Bounds, Point};
-use crate::geometry::shapes::{Circle, Rectangle};
+use crate::geometry::shapes::Rectangle;
 use crate::geometry::traits::{Area, BoundingBox, Closed};
+use crate::case::{circle, words, OurBounds};
 use crate::inputs::{Head, Random, CATEGORIES};
 use crate::tally::Tally;
-
-#[repr(C)]
-pub struct OurBounds {
-    pub x_min: f64,
-    pub x_max: f64,
-    pub y_min: f64,
-    pub y_max: f64,
-}
 
 // How many points, and their coordinates; an absent coordinate is +0.
 #[repr(C)]
@@ -52,14 +45,6 @@ pub const FUNCTIONS: [&str; 13] = [
     "how many points, against whole numbers",
     "contains, against whole numbers",
 ];
-
-pub fn circle(h: Head) -> Circle {
-    Circle::new(Point::new(h.x, h.y), h.r)
-}
-
-pub fn words(numbers: &[f64]) -> String {
-    numbers.iter().map(|n| format!(" {:016X}", n.to_bits())).collect()
-}
 
 fn rectangle(tally: &mut Tally, x: f64, y: f64, width: f64, height: f64) {
     let input = || words(&[x, y, width, height]);

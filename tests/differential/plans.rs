@@ -1,6 +1,6 @@
 // Plans of up to 10 heads and a box, by category and seed. The tolerances of arcs and of the box show only where heads, and an
-// edge or a corner of the box, go through one point exactly: more than a third of the plans are of that kind. In a plan no two
-// heads are identical (docs/DIFFERENCES.md).
+// edge or a corner of the box, go through one point exactly: more than a third of the plans are of that kind. In a plan of
+// CATEGORIES no two heads are identical (docs/DIFFERENCES.md); in one of TWINS some are.
 
 use crate::inputs::{triple, Head, Random, FURTHEST, LARGEST};
 use crate::ours::Ours;
@@ -17,6 +17,18 @@ pub struct Sides {
 pub struct Plan {
     pub heads: Vec<Head>,
     pub sides: Sides,
+}
+
+// The pairs of identical heads, the lower number first.
+pub fn twins_of(heads: &[Head]) -> Vec<(usize, usize)> {
+    let pairs = (0..heads.len()).flat_map(|j| (0..j).map(move |i| (i, j)));
+    pairs.filter(|&(i, j)| heads[i] == heads[j]).collect()
+}
+
+impl Plan {
+    pub fn twins(&self) -> Vec<(usize, usize)> {
+        twins_of(&self.heads)
+    }
 }
 
 const WIDEST: i64 = 40000;
@@ -517,6 +529,54 @@ fn at_a_tolerance(random: &mut Random) -> Plan {
     }
 }
 
+// ---- with identical heads
+
+// A plan with up to three more heads, each a copy of one that is there, at any place among them.
+fn doubled(random: &mut Random, mut plan: Plan) -> Plan {
+    plan.heads.truncate(9);
+    for _ in 0..random.whole(1, 3) {
+        let n = plan.heads.len();
+        if n < 10 {
+            let copied = plan.heads[(random.next() % n as u64) as usize];
+            plan.heads.insert((random.next() % (n as u64 + 1)) as usize, copied);
+        }
+    }
+    plan
+}
+
+fn twins_alone(random: &mut Random) -> Plan {
+    let plan = single(random);
+    doubled(random, plan)
+}
+
+fn twins_anywhere(random: &mut Random) -> Plan {
+    let plan = if random.sign() > 0 { any(random) } else { small(random) };
+    doubled(random, plan)
+}
+
+fn twins_through_a_point(random: &mut Random) -> Plan {
+    let plan = match random.whole(0, 5) {
+        0 => point_on_an_edge(random),
+        1 => point_at_a_corner(random),
+        2 => large_point_on_an_edge(random),
+        3 => mixed_point_at_a_corner(random),
+        4 => through_two_points(random),
+        _ => all_overlapping(random),
+    };
+    doubled(random, plan)
+}
+
+fn twins_touching(random: &mut Random) -> Plan {
+    let plan = match random.whole(0, 4) {
+        0 => touching(random),
+        1 => touching_at_a_point(random),
+        2 => concentric(random),
+        3 => chain(random),
+        _ => one_beside_20000(random),
+    };
+    doubled(random, plan)
+}
+
 pub struct Category {
     pub name: &'static str,
     // how many of every hundred plans
@@ -550,4 +610,12 @@ pub const CATEGORIES: [Category; 25] = [
     Category { name: "at a tolerance exactly, or a few floats from it", share: 6, plan: at_a_tolerance },
     Category { name: "no heads", share: 1, plan: no_heads },
     Category { name: "box of no area", share: 1, plan: empty_box },
+];
+
+// Plans with identical heads, beside the hundred.
+pub const TWINS: [Category; 4] = [
+    Category { name: "identical heads alone", share: 1, plan: twins_alone },
+    Category { name: "identical heads among random ones", share: 5, plan: twins_anywhere },
+    Category { name: "identical heads through a point", share: 5, plan: twins_through_a_point },
+    Category { name: "identical heads, touching, concentric, chains", share: 5, plan: twins_touching },
 ];

@@ -35,7 +35,11 @@ CHANGED = {
 
 # file: private functions that the run calls
 OPENED = {
-    "geometry/shapes/circle.rs": ["horizontal_edge_inside_interval", "vertical_edge_inside_interval"],
+    "geometry/shapes/circle.rs": [
+        "clipped_arc_integral_with_gradient",
+        "horizontal_edge_inside_interval",
+        "vertical_edge_inside_interval",
+    ],
 }
 
 

@@ -5,7 +5,7 @@ Prints what it found, and fails on anything else."""
 import re
 import sys
 
-OURS = re.compile(r"probe_\w+")
+OURS = re.compile(r"(probe|watered)_\w+")
 EXACT = {"fmod"}
 RUNTIME = re.compile(r"mem(cpy|move|set|cmp)|bcmp|_Unwind_Resume|rust_eh_personality|_GLOBAL_OFFSET_TABLE_|__tls_get_addr|_R\w+|_ZN.*")
 

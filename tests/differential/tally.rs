@@ -68,6 +68,22 @@ impl Tally {
         });
     }
 
+    // A clamped area: here alone +0 and -0 of the Rust are the same, and ours is +0 (docs/DIFFERENCES.md).
+    pub fn clamped(&mut self, function: &'static str, ours: &[f64], rust: &[f64], input: impl Fn() -> String) {
+        let rust: Vec<f64> = rust.iter().map(|x| if *x == 0.0 { 0.0 } else { *x }).collect();
+        self.floats(function, ours, &rust, input);
+    }
+
+    // Whether each of some whole numbers is the Rust's.
+    pub fn wholes(&mut self, function: &'static str, ours: &[u64], rust: &[u64], input: impl Fn() -> String) {
+        assert_eq!(ours.len(), rust.len());
+        let other = (0..ours.len()).find(|&i| ours[i] != rust[i]);
+        self.count(function, ours.len() as u64, other.is_none(), || {
+            let i = other.unwrap_or(0);
+            format!("{}: number {i}: ours {:X}, the Rust's {:X}", input(), ours[i], rust[i])
+        });
+    }
+
     pub fn whole(&mut self, function: &'static str, ours: u64, rust: u64, input: impl Fn() -> String) {
         self.count(function, 1, ours == rust, || format!("{}: ours {ours:X}, the Rust's {rust:X}", input()));
     }

@@ -21,6 +21,9 @@ LIMITS = {'coordinate': (-20000, 20000, COORDINATE), 'side': (1, 40000, SIDE), '
 BOX = ['coordinate', 'coordinate', 'side', 'side']
 HEAD = ['coordinate', 'coordinate', 'radius']
 
+# The gradients that a call writes: none, those of rows in the box, those of rows without it.
+NONE, CLIPPED, OPEN = 0, 1, 2
+
 
 class Refused(Exception):
     """A refusal: its number and its byte offset."""
@@ -112,8 +115,18 @@ def check_edit(call):
     first_outside(HEAD, call['edit'])
 
 
-def check_tables(call):
-    if call['rows'] < call['needed'] or call['gradients'] < call['needed'] * call['width']:
+def width(call):
+    """The numbers of a gradient row: none, 3n+4 in the box, 3n without it."""
+    return {NONE: 0, CLIPPED: 3 * call['n'] + 4, OPEN: 3 * call['n']}[call['kind']]
+
+
+def check_rows(call):
+    if call['rows'] < 2 ** call['n']:
+        raise Refused(TABLES, 0)
+
+
+def check_gradients(call):
+    if call['gradients'] < 2 ** call['n'] * width(call):
         raise Refused(TABLES, 0)
 
 
@@ -128,11 +141,11 @@ def answer_of(call, checks):
 
 def call_lines(call):
     """What the program prints for a call in memory."""
-    edit = answer_of(call, [check_plan, check_edit, check_tables])
+    edit = answer_of(call, [check_plan, check_edit, check_rows])
     heads = [list(h) for h in call['heads']]
     if edit == 'taken':
         heads[call['head']] = list(call['edit'])
-    return [answer_of(call, [check_plan]), answer_of(call, [check_plan, check_tables]), edit, edit, plan_line(call['n'], call['box'], heads)]
+    return [answer_of(call, [check_plan]), answer_of(call, [check_plan, check_rows, check_gradients]), edit, edit, plan_line(call['n'], call['box'], heads)]
 
 
 def of_file(data):
@@ -142,7 +155,7 @@ def of_file(data):
 def of_call(call):
     numbers = call['box'] + sum(call['heads'], []) + call['edit']
     data = b'\1' + bytes([call['n'], call['head']]) + struct.pack('<37i', *numbers)
-    return data + struct.pack('<4H', call['needed'], call['width'], call['rows'], call['gradients']), call_lines(call)
+    return data + struct.pack('<B2H', call['kind'], call['rows'], call['gradients']), call_lines(call)
 
 
 def record(values):
@@ -215,7 +228,7 @@ def fixed_files():
 
 def call(**changes):
     heads = [list(h) for h in SAMPLE_HEADS] + [[99, 99, 99]] * 7
-    made = dict(n=3, head=1, box=list(SAMPLE_BOX), heads=heads, edit=[6, 7, 8], needed=8, width=13, rows=8, gradients=104)
+    made = dict(n=3, head=1, box=list(SAMPLE_BOX), heads=heads, edit=[6, 7, 8], kind=CLIPPED, rows=8, gradients=104)
     made.update(changes)
     return made
 
@@ -240,9 +253,17 @@ def fixed_calls():
         yield call(head=head)
     for rows, gradients in ((7, 104), (8, 103), (7, 103), (9, 105), (0, 0)):
         yield call(rows=rows, gradients=gradients)
-    for width, gradients in ((0, 0), (1, 7), (1, 8), (65535, 65535)):
-        yield call(width=width, gradients=gradients)
-    yield call(needed=0, width=65535, rows=0, gradients=0)
+    for kind, gradients in ((NONE, 0), (OPEN, 71), (OPEN, 72), (OPEN, 73), (CLIPPED, 65535)):
+        yield call(kind=kind, gradients=gradients)
+    # each number of heads, its rows and one fewer, its gradients and one fewer
+    for n in range(11):
+        for kind in (NONE, CLIPPED, OPEN):
+            made = call(n=n, head=0, kind=kind, rows=2 ** n)
+            enough = 2 ** n * width(made)
+            yield dict(made, gradients=enough)
+            yield dict(made, gradients=enough, rows=2 ** n - 1)
+            if enough:
+                yield dict(made, gradients=enough - 1)
     # of several failed checks the first in reading order
     yield call(n=11, box=[30000, 0, 0, 0], head=200, edit=[30000, 0, 0], rows=0)
     yield call(box=[30000, 0, 0, 0], head=200, edit=[30000, 0, 0], rows=0)
@@ -299,7 +320,10 @@ def random_call(chance):
         head=chance.choice([0, 0, 1, 2, 9, 10, chance.randrange(256)]),
         box=[near(chance, kind) for kind in BOX] if chance.random() < 0.5 else list(SAMPLE_BOX),
         edit=[near(chance, kind) for kind in HEAD],
-        needed=rows(), width=chance.choice([0, 1, 3, 34, chance.randrange(65536)]), rows=rows(), gradients=rows())
+        kind=chance.choice([NONE, CLIPPED, OPEN]), rows=rows(), gradients=chance.choice([0, rows(), chance.randrange(65536)]))
+    if chance.random() < 0.5 and made['n'] <= 10:
+        made['gradients'] = max(0, 2 ** made['n'] * width(made) - chance.randrange(2))
+        made['rows'] = max(0, 2 ** made['n'] - chance.choice([0, 0, 1]))
     made['heads'] = [[near(chance, kind) for kind in HEAD] if chance.random() < 0.3 else [1, 2, 3] for _ in range(10)]
     return made
 

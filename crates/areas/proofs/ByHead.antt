@@ -8,40 +8,29 @@ use lib.ListN.{length, replicate, length-map, length-append, length-replicate}
 use lib.Seq.{take-all}
 use lib.Ieee.{Float}
 use Rattle.binary64.specs.Constants.{zero64, half64}
-use Rattle.geometry.specs.Floats.{_*ᶠ_}
+use Rattle.binary64.specs.Floats.{_*ᶠ_}
 use Rattle.geometry.specs.declared.bounds.Bounds.{Bounds}
 use Rattle.geometry.specs.declared.circle.Circle.{Circle}
-use Rattle.boundary.specs.declared.points.IntersectionPoint.{IntersectionPoint}
-use Rattle.boundary.specs.Every.{Every, every-append, every-map}
-use Rattle.boundary.specs.Outline.{Member, circlesOf, outline}
+use Rattle.intersections.specs.declared.points.IntersectionPoint.{IntersectionPoint}
+use Rattle.lists.specs.Every.{Every, every-map}
+use Rattle.intersections.specs.Members.{Member, circlesOf, headsOf, circleAt, membersOf}
+use Rattle.boundary.specs.Outline.{outline}
 use Rattle.outline.specs.Area.{areaOf, addGradient, openArea, openGradient}
-use Rattle.boundary.specs.Set.{headsOf, circleAt, membersOf, numbered, arcsHeld, regionArcs}
-use Rattle.outline.specs.Counts.{heads-below, outline-few}
+use Rattle.boundary.specs.Set.{numbered, arcsHeld, regionArcs}
+use Rattle.intersections.specs.Counts.{heads-below}
+use Rattle.outline.specs.Counts.{outline-few}
 use Rattle.outline.proofs.Walking.{circles-of-members, members-many}
 use Rattle.clip.specs.Area.{emptyBox, addEdges, clippedAreaOf, clippedArea}
 use Rattle.clip.specs.Gradient.{with-gradient, clippedWithGradient, clippedOnto, clippedGradient}
-use Rattle.outline.specs.Points.{collected}
-use Rattle.areas.specs.Open.{circlesOfHeads}
-use Rattle.areas.proofs.Open.{circles-length}
-use Rattle.areas.specs.Scatter.{PlanByHead, entriesOf, boxEntries, put, scatter, scatterInBox, Fits, circlesIn, ByHead}
+use Rattle.intersections.specs.Points.{collected}
+use Rattle.drawn.specs.Drawn.{planCircles}
+use Rattle.drawn.proofs.Circles.{circles-few}
+use Rattle.areas.specs.Scatter.{PlanByHead, entriesOf, boxEntries, put, scatter, scatterClipped, Fits, circlesIn, ByHead}
 use Rattle.areas.proofs.Naming.{Below, outline-named}
-use Rattle.areas.proofs.Scattering.{Increasing, increasing-append, heads-increasing, entries-below, entries-increasing, entries-many, put-equal, entries-stand, box-stands, stand-append}
+use Rattle.areas.proofs.Scattering.{heads-increasing, entries-below, entries-increasing, entries-many, places-increasing, places-below}
+use Rattle.areas.proofs.Scattering.{put-equal, entries-stand, box-stands, stand-append}
 use Rattle.areas.proofs.Summing.{arcs-sum, clipped-sum}
 use Rattle.areas.proofs.Slopes.{gradient-kept, clipped-kept}
-
-places-increasing : (circles : List Circle) (S : ℕ) → Increasing (entriesOf (headsOf (length circles) S) ++ boxEntries (length circles))
-places-increasing circles S =
-    increasing-append (length circles * 3) (entriesOf (headsOf (length circles) S)) (boxEntries (length circles))
-    (entries-increasing (headsOf (length circles) S) (heads-increasing (length circles) S))
-    ((omega arith, (omega arith, (omega arith, tt))), ((omega arith, (omega arith, tt)), ((omega arith, tt), (tt, tt))))
-    (entries-below (length circles) (headsOf (length circles) S) (heads-below (length circles) S))
-    (omega arith, (omega arith, (omega arith, (omega arith, tt))))
-
-places-inside : (circles : List Circle) (S m : ℕ) → length circles * 3 + 4 ≤ m → Every (λ p. p < m) (entriesOf (headsOf (length circles) S) ++ boxEntries (length circles))
-places-inside circles S m h =
-    every-append (λ p. p < m) (entriesOf (headsOf (length circles) S)) (boxEntries (length circles))
-    (every-map (entriesOf (headsOf (length circles) S)) (λ p k. omega (arith, k)) (entries-below (length circles) (headsOf (length circles) S) (heads-below (length circles) S)))
-    (omega arith, (omega arith, (omega arith, (omega arith, tt))))
 
 module _ (circles : List Circle) (points : List IntersectionPoint) (S : ℕ) (fits : Fits circles points S) where
   abbrev heads : List ℕ
@@ -70,7 +59,8 @@ module _ (circles : List Circle) (points : List IntersectionPoint) (S : ℕ) (fi
   unfolding clippedAreaOf clippedArea
   clipped-area-by-head box =
       rw (arcs-are, circles-of-members circles points S)
-      (ap (λ v. cond (emptyBox box) zero64 (half64 *ᶠ addEdges box (circlesIn circles S) v)) (sym (clipped-sum circles heads below box (outline ms) named zero64)))
+      (ap (λ v. cond (emptyBox box) zero64 (half64 *ᶠ addEdges box (circlesIn circles S) v))
+      (sym (clipped-sum circles heads below box (outline ms) named zero64)))
 
   gradient-onto-by-head : (g out : List Float) → length g ≡ 3 * length ms → 3 * length circles ≤ length out
       → addGradient circles (put (entriesOf heads) g out) (regionArcs circles points S)
@@ -102,10 +92,14 @@ module _ (circles : List Circle) (points : List IntersectionPoint) (S : ℕ) (fi
       ≡ with-gradient (clippedOnto box ms g .sum) (put places (clippedOnto box ms g .grad) out)
   clipped-onto-by-head box g out lg lo =
       rw (clipped-onto-is box g, arcs-are, circles-of-members circles points S)
-      (let r = clipped-kept places out (places-increasing circles S) (places-inside circles S (length out) lo)
+      (let r = clipped-kept places out (places-increasing (length circles) heads below (heads-increasing (length circles) S))
+      (every-map places (λ p h. omega (arith, h, lo)) (places-below (length circles) heads below))
       circles heads below (λ k h i l. stand-append (entriesOf heads) (boxEntries (length circles)) _ _ (entries-stand heads k h i l))
       box (outline ms) named (λ i l. rw (length-map heads (circleAt circles)) (box-stands heads (length circles) i l)) g (put places g out)
-      (record { many = omega (arith, lg, members-many circles points S, entries-many heads, length-append (entriesOf heads) (boxEntries (length circles))); same = refl }) in
+      (record {
+        many = omega (arith, lg, members-many circles points S, entries-many heads, length-append (entriesOf heads) (boxEntries (length circles)));
+        same = refl;
+      }) in
       ap₂ with-gradient (sym (r .sums)) (r .grads .same))
 
   clipped-gradient-is : (box : Bounds) → clippedGradient box ms ≡ clippedOnto box ms (replicate (length ms * 3 + 4) zero64)
@@ -114,11 +108,12 @@ module _ (circles : List Circle) (points : List IntersectionPoint) (S : ℕ) (fi
 
   clipped-by-head : (box : Bounds)
       → clippedWithGradient box circles (circlesIn circles S) (regionArcs circles points S) (replicate (length circles * 3 + 4) zero64)
-      ≡ with-gradient (clippedGradient box ms .sum) (scatterInBox heads (length circles) (clippedGradient box ms .grad))
-  unfolding scatterInBox
+      ≡ with-gradient (clippedGradient box ms .sum) (scatterClipped heads (length circles) (clippedGradient box ms .grad))
+  unfolding scatterClipped
   clipped-by-head box =
       rw (clipped-gradient-is box)
-      (ap (clippedWithGradient box circles (circlesIn circles S) (regionArcs circles points S)) (sym (put-equal places (length ms * 3 + 4) (length circles * 3 + 4) zero64))
+      (ap (clippedWithGradient box circles (circlesIn circles S) (regionArcs circles points S))
+      (sym (put-equal places (length ms * 3 + 4) (length circles * 3 + 4) zero64))
       ∙ clipped-onto-by-head box (replicate (length ms * 3 + 4) zero64) (replicate (length circles * 3 + 4) zero64)
       (length-replicate (length ms * 3 + 4) zero64) (rw (length-replicate (length circles * 3 + 4) zero64) (omega arith)))
 
@@ -135,6 +130,4 @@ by-head circles points S fits =
 
 -- Of the heads of a plan, with nothing asked: the outline fits.
 pub plan-by-head : PlanByHead
-plan-by-head h n S few =
-    let cs = circlesOfHeads h n in
-    by-head cs (collected cs) S (outline-few cs S (rw (circles-length h n) few))
+plan-by-head p S few = let cs = planCircles p in by-head cs (collected cs) S (outline-few cs S (circles-few p few))

@@ -1,7 +1,6 @@
-pub mod Open
-pub mod Boxed
 pub mod Naming
 pub mod Summing
 pub mod Scattering
 pub mod Slopes
 pub mod ByHead
+pub mod Gradients

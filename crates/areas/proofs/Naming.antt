@@ -1,8 +1,8 @@
 -- An arc of a set's outline names a position of the set; under head numbers it names the head there, which has the same circle. So a
 -- fold over the arcs that looks at their circles and angles is the same by position and by head.
 use mathlib.Core.Path.{_≡_, refl}
-use mathlib.Core.Bool.{Bool, true, false, not, _&&_, cond}
-use mathlib.Core.List.{List, [], _∷_, map, foldl}
+use mathlib.Core.Bool.{true, not, _&&_}
+use mathlib.Core.List.{List, [], _∷_, map}
 use Prim.Native.Nat.{ℕ, suc, _+_, _%_, _≤_, _<_}
 use native.Mathlib.Omega.{arith}
 use borrow.Author.Tests.{lt-ltb}
@@ -10,19 +10,16 @@ use lib.Dec.{ltb}
 use lib.ListN.{length, getD, length-map}
 use lib.Ieee.{Float, nan}
 use Rattle.binary64.specs.Constants.{half64}
-use Rattle.geometry.specs.Floats.{_+ᶠ_, _*ᶠ_}
+use Rattle.binary64.specs.Floats.{_+ᶠ_, _*ᶠ_}
 use Rattle.geometry.specs.declared.circle.Circle.{Circle}
 use Rattle.boundary.specs.declared.arcs.BoundaryArc.{BoundaryArc}
-use Rattle.boundary.specs.Every.{Every, every-append, every-map, every-upTo, every-at}
-use Rattle.boundary.specs.Outline.{Member, circlesOf, owned, pointAt, probe, gap, collapsed, fullCircle, between, arcFrom, arcsAt, anglesOf, outlineFrom, outline, noCircle}
-use Rattle.boundary.specs.Set.{circleAt, numbered}
-use Rattle.inside.proofs.Spanning.{getD-map}
+use Rattle.lists.specs.Every.{Every, every-append, every-map, every-upTo, every-at, every-one}
+use Rattle.lists.proofs.Lists.{getD-mapped}
+use Rattle.intersections.specs.Members.{Member, circlesOf, noCircle, circleAt}
+use Rattle.boundary.specs.Outline.{owned, pointAt, probe, gap, collapsed, fullCircle, between, arcFrom, arcsAt, anglesOf, outlineFrom, outline}
+use Rattle.boundary.specs.Set.{numbered}
 
 -- ---- positions
-
-every-one : {A : Type 0} (P : A → Type 0) (b : Bool) (x : A) → P x → Every P (cond b (x ∷ []) [])
-every-one P true x h = (h, tt)
-every-one P false x h = tt
 
 -- an arc of position k
 abbrev Of : ℕ → BoundaryArc → Type 0
@@ -80,13 +77,4 @@ module _ (circles : List Circle) (heads : List ℕ) (below : Every (λ j. j < le
   -- is the same
   pub same-circle : getD (own circles heads) (arc .circle) noCircle ≡ getD circles (numbered heads arc .circle) noCircle
   unfolding numbered
-  same-circle = getD-map (circleAt circles) heads (arc .circle) 0 noCircle at
-
--- ---- folds
-
--- Two folds, one over a mapped list, stay related if each step keeps them so.
-pub fold-related : {A B X Y : Type 0} (R : A → B → Type 0) (P : X → Type 0) (num : X → Y) (f : A → X → A) (f' : B → Y → B)
-    → ((a : A) (b : B) (x : X) → P x → R a b → R (f a x) (f' b (num x)))
-    → (l : List X) → Every P l → (a : A) (b : B) → R a b → R (foldl f a l) (foldl f' b (map num l))
-fold-related R P num f f' step [] h a b r = r
-fold-related R P num f f' step (x ∷ l) h a b r = fold-related R P num f f' step l (h .1) (f a x) (f' b (num x)) (step a b x (h .0) r)
+  same-circle = getD-mapped (circleAt circles) heads (arc .circle) 0 noCircle at

@@ -11,10 +11,11 @@ use lib.Seq.{getD-set-same, getD-set-other, set-set, set-comm, getD-append-add}
 use lib.Ieee.{Float, nan}
 use Rattle.binary64.specs.Constants.{zero64}
 use Rattle.masks.specs.Mask.{inSet}
-use Rattle.regions.specs.Row.{upTo}
-use Rattle.boundary.specs.Every.{Every, every-append, every-map, every-upTo}
-use Rattle.boundary.specs.Set.{headsOf}
-use Rattle.outline.specs.Counts.{heads-below}
+use Rattle.lists.specs.Lists.{upTo}
+use Rattle.lists.proofs.Lists.{set-replicate}
+use Rattle.lists.specs.Every.{Every, every-append, every-map, every-upTo}
+use Rattle.intersections.specs.Members.{headsOf}
+use Rattle.intersections.specs.Counts.{heads-below}
 use Rattle.areas.specs.Scatter.{entriesOf, boxEntries, put, scatter, Scatters}
 
 -- ---- increasing lists
@@ -44,7 +45,7 @@ heads-increasing (suc n) S = by (inSet S n) (heads-increasing n S)
 -- ---- where entries stand
 
 -- what holds of the three entries of each head holds of all
-entries-every : (P Q : ℕ → Type 0) → ((j : ℕ) → P j → Q (j * 3) × (Q (j * 3 + 1) × Q (j * 3 + 2))) → (js : List ℕ) → Every P js → Every Q (entriesOf js)
+pub entries-every : (P Q : ℕ → Type 0) → ((j : ℕ) → P j → Q (j * 3) × (Q (j * 3 + 1) × Q (j * 3 + 2))) → (js : List ℕ) → Every P js → Every Q (entriesOf js)
 unfolding entriesOf
 entries-every P Q f [] h = tt
 entries-every P Q f (j ∷ js) h =
@@ -68,6 +69,22 @@ pub entries-many : (js : List ℕ) → length (entriesOf js) ≡ length js * 3
 unfolding entriesOf
 entries-many [] = refl
 entries-many (j ∷ js) = omega (arith, entries-many js)
+
+-- the places of a set's heads and of the box's four, among n heads
+module _ (n : ℕ) (js : List ℕ) (below : Every (λ j. j < n) js) where
+  pub places-increasing : Increasing js → Increasing (entriesOf js ++ boxEntries n)
+  places-increasing up =
+      increasing-append (n * 3) (entriesOf js) (boxEntries n)
+      (entries-increasing js up)
+      ((omega arith, (omega arith, (omega arith, tt))), ((omega arith, (omega arith, tt)), ((omega arith, tt), (tt, tt))))
+      (entries-below n js below)
+      (omega arith, (omega arith, (omega arith, (omega arith, tt))))
+
+  pub places-below : Every (λ p. p < n * 3 + 4) (entriesOf js ++ boxEntries n)
+  places-below =
+      every-append (λ p. p < n * 3 + 4) (entriesOf js) (boxEntries n)
+      (every-map (entriesOf js) (λ p h. omega (arith, h)) (entries-below n js below))
+      (omega arith, (omega arith, (omega arith, (omega arith, tt))))
 
 -- the entry i of position k stands at the entry i of its head
 pub entry-at : (js : List ℕ) (k i : ℕ) → k < length js → i < 3 → getD (entriesOf js) (k * 3 + i) 0 ≡ getD js k 0 * 3 + i
@@ -121,17 +138,12 @@ put-set (p ∷ ps) (x ∷ g) out zero v i e h =
     put-past ps g (set out p x) p v (apart p ps (i .0)) ∙ ap (put ps g) (set-set out p x v)
 put-set (p ∷ ps) (x ∷ g) out (suc q) v i e h = put-set ps g (set out p x) q v (i .1) (omega arith) (omega arith)
 
-set-equal : {A : Type 0} (n p : ℕ) (x : A) → set (replicate n x) p x ≡ replicate n x
-set-equal zero p x = refl
-set-equal (suc n) zero x = refl
-set-equal (suc n) (suc p) x = ap (λ l. x ∷ l) (set-equal n p x)
-
 -- equal numbers put among equal numbers
 pub put-equal : (ps : List ℕ) (m n : ℕ) (x : Float) → put ps (replicate m x) (replicate n x) ≡ replicate n x
 unfolding put
 put-equal [] m n x = refl
 put-equal (p ∷ ps) zero n x = refl
-put-equal (p ∷ ps) (suc m) n x = ap (put ps (replicate m x)) (set-equal n p x) ∙ put-equal ps m n x
+put-equal (p ∷ ps) (suc m) n x = ap (put ps (replicate m x)) (set-replicate n p x) ∙ put-equal ps m n x
 
 -- ---- a gradient by position and one by head
 
@@ -183,13 +195,13 @@ entry-changed ps out g G q p f i b at s = record {
 
 -- ---- what scattering does
 
-put-length : (ps : List ℕ) (g out : List Float) → length (put ps g out) ≡ length out
+pub put-length : (ps : List ℕ) (g out : List Float) → length (put ps g out) ≡ length out
 unfolding put
 put-length [] g out = refl
 put-length (p ∷ ps) [] out = refl
 put-length (p ∷ ps) (x ∷ g) out = put-length ps g (set out p x) ∙ length-set out p x
 
-heads-in : (n S : ℕ) → Every (λ j. inSet S j ≡ true) (headsOf n S)
+pub heads-in : (n S : ℕ) → Every (λ j. inSet S j ≡ true) (headsOf n S)
 unfolding headsOf
 heads-in n S = every-upTo (λ j. inSet S j ≡ true) (λ j. cond (inSet S j) (j ∷ []) []) n (λ j h. by j (inSet S j) refl)
   where

@@ -9,27 +9,26 @@ use lib.ListN.{length, getD}
 use lib.Ieee.{Float}
 use Rattle.binary64.specs.Constants.{zero64, half64}
 use Rattle.elementary.specs.Sine.{sine as sin, cosine as cos}
-use Rattle.geometry.specs.Floats.{_+ᶠ_, _-ᶠ_, _*ᶠ_}
+use Rattle.binary64.specs.Floats.{_+ᶠ_, _-ᶠ_, _*ᶠ_}
 use Rattle.geometry.specs.declared.bounds.Bounds.{Bounds}
 use Rattle.geometry.specs.declared.circle.Circle.{Circle}
 use Rattle.boundary.specs.declared.arcs.BoundaryArc.{BoundaryArc}
-use Rattle.boundary.specs.Every.{Every}
-use Rattle.boundary.specs.Outline.{noCircle}
+use Rattle.lists.specs.Every.{Every}
+use Rattle.intersections.specs.Members.{noCircle}
 use Rattle.outline.specs.Area.{addAt, subAt, arcSlopes, addSlopes, addGradient}
 use Rattle.boundary.specs.Set.{numbered}
 use Rattle.clip.specs.declared.edges.Edge.{Edge}
 use Rattle.inside.specs.Span.{Interval, horizontalSpan, verticalSpan}
 use Rattle.inside.specs.Breaks.{breaks}
-use Rattle.inside.specs.Parts.{overPairs, summed}
+use Rattle.lists.specs.Lists.{overPairs}
+use Rattle.inside.specs.Parts.{summed}
 use Rattle.clip.specs.Area.{emptyBox}
-use Rattle.clip.specs.Gradient.{WithGradient, with-gradient, subArcByDifferences, partSlopes, subArcWithGradient, addPartWithGradient, clippedArcIntegralWithGradient, addClippedArcWithGradient, addClippedArcsWithGradient, moved, edgeSlopes, addSpanWithGradient, bottomEdge, rightEdge, topEdge, leftEdge, addEdgesWithGradient, clippedWithGradient}
-use Rattle.areas.proofs.Naming.{own, Below, has-own, has-head, same-circle, fold-related}
+use Rattle.clip.specs.Gradient.{WithGradient, with-gradient, subArcByDifferences, partSlopes, subArcWithGradient, addPartWithGradient}
+use Rattle.clip.specs.Gradient.{clippedArcIntegralWithGradient, addClippedArcWithGradient, addClippedArcsWithGradient, moved, edgeSlopes}
+use Rattle.clip.specs.Gradient.{addSpanWithGradient, bottomEdge, rightEdge, topEdge, leftEdge, addEdgesWithGradient, clippedWithGradient}
+use Rattle.areas.proofs.Naming.{own, Below, has-own, has-head, same-circle}
+use Rattle.lists.proofs.Folds.{pairs-related, fold-related}
 use Rattle.areas.proofs.Scattering.{Increasing, Scattered, Stands, StandFrom, stands-first, entry-changed}
-
-addGradient-fold : (cs : List Circle) (g : List Float) (arcs : List BoundaryArc) → addGradient cs g arcs ≡ foldl (addSlopes cs) g arcs
-unfolding addGradient
-addGradient-fold cs g [] = refl
-addGradient-fold cs g (arc ∷ arcs) = addGradient-fold cs (addSlopes cs g arc) arcs
 
 -- sums with gradients, by position and by head
 pub record Both (ps : List ℕ) (out : List Float) (s t : WithGradient) : Type 0 where
@@ -49,7 +48,8 @@ module _ (ps : List ℕ) (out : List Float) (increasing : Increasing ps) (inside
       → Scattered ps out (addAt (subAt (addAt g off a) (off + 1) b) (off + 2) c) (addAt (subAt (addAt G off' a) (off' + 1) b) (off' + 2) c)
   three-kept off off' a b c g G at s =
       add-kept (off + 2) (off' + 2) c (subAt (addAt g off a) (off + 1) b) (subAt (addAt G off' a) (off' + 1) b) (at 2 (omega arith))
-      (sub-kept (off + 1) (off' + 1) b (addAt g off a) (addAt G off' a) (at 1 (omega arith)) (add-kept off off' a g G (stands-first ps 3 off off' (omega arith) at) s))
+      (sub-kept (off + 1) (off' + 1) b (addAt g off a) (addAt G off' a) (at 1 (omega arith))
+      (add-kept off off' a g G (stands-first ps 3 off off' (omega arith) at) s))
 
   -- ---- the parts of an arc
 
@@ -76,11 +76,8 @@ module _ (ps : List ℕ) (out : List Float) (increasing : Increasing ps) (inside
 
   pairs-kept : (box : Bounds) (c : Circle) (off off' : ℕ) → StandFrom ps 3 off off' → (l : List Float) (s t : WithGradient) → Both ps out s t
       → Both ps out (overPairs (addPartWithGradient box c off) s l) (overPairs (addPartWithGradient box c off') t l)
-  unfolding overPairs
-  pairs-kept box c off off' at [] s t r = r
-  pairs-kept box c off off' at (a ∷ []) s t r = r
-  pairs-kept box c off off' at (a ∷ (b ∷ l)) s t r =
-      pairs-kept box c off off' at (b ∷ l) (addPartWithGradient box c off s a b) (addPartWithGradient box c off' t a b) (part-kept box c off off' at a b s t r)
+  pairs-kept box c off off' at l s t r =
+      pairs-related (Both ps out) (addPartWithGradient box c off) (addPartWithGradient box c off') (λ s t a b. part-kept box c off off' at a b s t) l s t r
 
   -- ---- edges
 
@@ -98,9 +95,11 @@ module _ (ps : List ℕ) (out : List Float) (increasing : Increasing ps) (inside
     edge-kept e l g G s =
         moved-kept (e .upright) (at + 3) (at' + 3) _ _ _ (four 3 (omega arith))
         (add-kept (at + 2) (at' + 2) _ _ _ (four 2 (omega arith))
-        (moved-kept (e .outward) _ _ l g G (stands-if (e .upright) at (at + 1) at' (at' + 1) (stands-first ps 4 at at' (omega arith) four) (four 1 (omega arith))) s))
+        (moved-kept (e .outward) _ _ l g G (stands-if (e .upright) at (at + 1) at' (at' + 1) (stands-first ps 4 at at' (omega arith) four)
+        (four 1 (omega arith))) s))
 
-    span-kept : (e : Edge) (l : List Interval) (s t : WithGradient) → Both ps out s t → Both ps out (addSpanWithGradient e at s l) (addSpanWithGradient e at' t l)
+    span-kept : (e : Edge) (l : List Interval) (s t : WithGradient) → Both ps out s t
+        → Both ps out (addSpanWithGradient e at s l) (addSpanWithGradient e at' t l)
     unfolding addSpanWithGradient
     span-kept e [] s t r = r
     span-kept e (i ∷ l) s t r =
@@ -136,9 +135,8 @@ module _ (ps : List ℕ) (out : List Float) (increasing : Increasing ps) (inside
     pub gradient-kept : (arcs : List BoundaryArc) → Every (Below (length heads)) arcs → (g G : List Float) → Scattered ps out g G
         → Scattered ps out (addGradient (own circles heads) g arcs) (addGradient circles G (map (numbered heads) arcs))
     gradient-kept arcs h g G s =
-        rw (addGradient-fold (own circles heads) g arcs, addGradient-fold circles G (map (numbered heads) arcs))
-        (fold-related (Scattered ps out) (Below (length heads)) (numbered heads) (addSlopes (own circles heads)) (addSlopes circles)
-        (λ a b arc at r. slopes-kept a b arc at r) arcs h g G s)
+        fold-related (Scattered ps out) (Below (length heads)) (numbered heads) (addSlopes (own circles heads)) (addSlopes circles)
+        (λ a b arc at r. slopes-kept a b arc at r) arcs h g G s
 
     clipped-arc-kept : (box : Bounds) (s t : WithGradient) (arc : BoundaryArc) → Below (length heads) arc → Both ps out s t
         → Both ps out (addClippedArcWithGradient box (own circles heads) s arc) (addClippedArcWithGradient box circles t (numbered heads arc))

@@ -1,4 +1,6 @@
 pub mod Open
-pub mod Boxed
+pub mod Clipped
 pub mod Scatter
-pub mod Demand
+pub mod Sets
+pub mod Exclusives
+pub mod Gradients

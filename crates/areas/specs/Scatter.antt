@@ -11,13 +11,14 @@ use Rattle.binary64.specs.Constants.{zero64}
 use Rattle.masks.specs.Mask.{inSet}
 use Rattle.geometry.specs.declared.bounds.Bounds.{Bounds}
 use Rattle.geometry.specs.declared.circle.Circle.{Circle}
-use Rattle.boundary.specs.declared.points.IntersectionPoint.{IntersectionPoint}
-use Rattle.boundary.specs.Outline.{circlesOf, outline}
+use Rattle.intersections.specs.declared.points.IntersectionPoint.{IntersectionPoint}
+use Rattle.intersections.specs.Members.{circlesOf, headsOf, circleAt, membersOf}
+use Rattle.boundary.specs.Outline.{outline}
 use Rattle.outline.specs.Area.{areaOf, addGradient, openArea, openGradient}
-use Rattle.boundary.specs.Set.{headsOf, circleAt, membersOf, arcsHeld, regionArcs}
-use Rattle.heads.specs.declared.Head.{Head}
-use Rattle.outline.specs.Points.{collected}
-use Rattle.areas.specs.Open.{circlesOfHeads}
+use Rattle.boundary.specs.Set.{arcsHeld, regionArcs}
+use Rattle.plan.specs.declared.Plan.{Plan}
+use Rattle.intersections.specs.Points.{collected}
+use Rattle.drawn.specs.Drawn.{planCircles}
 use Rattle.clip.specs.Area.{clippedAreaOf, clippedArea}
 use Rattle.clip.specs.Gradient.{with-gradient, clippedWithGradient, clippedOnto, clippedGradient}
 
@@ -44,9 +45,9 @@ unfolding entriesOf put
 scatter heads n g = put (entriesOf heads) g (replicate (3 * n) zero64)
 
 -- The same in a box: the box's four entries, which by position come after the set's, come after those of all n heads.
-unfoldable pub scatterInBox : List ℕ → ℕ → List Float → List Float
+unfoldable pub scatterClipped : List ℕ → ℕ → List Float → List Float
 unfolding entriesOf put
-scatterInBox heads n g = put (entriesOf heads ++ boxEntries n) g (replicate (n * 3 + 4) zero64)
+scatterClipped heads n g = put (entriesOf heads ++ boxEntries n) g (replicate (n * 3 + 4) zero64)
 
 -- What `scatter` does to a gradient g of the heads of a set S among n. proofs/Scattering.antt proves it: `scatters`.
 pub record Scatters (n S : ℕ) (g : List Float) : Type 0 where
@@ -87,7 +88,7 @@ pub record ByHead (circles : List Circle) (points : List IntersectionPoint) (S :
       → clippedWithGradient box circles (circlesIn circles S) (regionArcs circles points S) (replicate (length circles * 3 + 4) zero64)
       ≡ with-gradient
       (clippedGradient box (membersOf circles points S) .sum)
-      (scatterInBox (headsOf (length circles) S) (length circles) (clippedGradient box (membersOf circles points S) .grad))
+      (scatterClipped (headsOf (length circles) S) (length circles) (clippedGradient box (membersOf circles points S) .grad))
   -- the same from any start
   pub clipped-gradient-onto : (box : Bounds) (g out : List Float)
       → length g ≡ length (membersOf circles points S) * 3 + 4 → length circles * 3 + 4 ≤ length out
@@ -99,4 +100,4 @@ pub record ByHead (circles : List Circle) (points : List IntersectionPoint) (S :
 
 -- It holds of every set of at most ten heads.
 abbrev pub PlanByHead : Type 0
-PlanByHead = (h : ℕ → Head) (n S : ℕ) → n ≤ 10 → ByHead (circlesOfHeads h n) (collected (circlesOfHeads h n)) S
+PlanByHead = (p : Plan) (S : ℕ) → p .n ≤ 10 → ByHead (planCircles p) (collected (planCircles p)) S

@@ -40,6 +40,14 @@ pub two64-is : two64 ≡ round binary64 false 2 1
 unfolding ofBits round
 two64-is = refl
 
+-- 4.0
+abbrev pub four64 : Float
+four64 = ofBits binary64 0x4010_0000_0000_0000
+
+pub four64-is : four64 ≡ round binary64 false 4 1
+unfolding ofBits round
+four64-is = refl
+
 -- ---- tolerances
 
 -- 1e-7

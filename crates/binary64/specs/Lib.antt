@@ -4,3 +4,4 @@ pub mod Rounding
 pub mod Magnitude
 pub mod Whole
 pub mod Functions
+pub mod Floats

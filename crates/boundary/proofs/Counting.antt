@@ -2,35 +2,20 @@
 use mathlib.Core.Path.{_≡_, refl, ap, _∙_}
 use mathlib.Core.Bool.{Bool, true, false, cond}
 use mathlib.Core.List.{List, [], _∷_, _++_, map, map-append, append-nil}
-use Prim.Native.Nat.{ℕ, zero, suc, _+_}
-use native.Mathlib.Omega.{arith}
-use borrow.Author.Tests.{lt-ltb, le-ltb, ltb-true, ltb-false}
+use Prim.Native.Nat.{ℕ, _+_}
 use lib.Dec.{ltb}
-use lib.ListN.{length, take, length-append}
+use lib.ListN.{length, length-append}
 use lib.Ieee.{Float}
-use Rattle.regions.specs.Row.{keep}
+use Rattle.lists.specs.Lists.{keep}
+use Rattle.lists.proofs.Lists.{keep-push}
+use Rattle.lists.proofs.Listing.{take-push}
 use Rattle.geometry.specs.declared.circle.Circle.{Circle}
-use Rattle.boundary.specs.declared.points.IntersectionPoint.{IntersectionPoint}
+use Rattle.intersections.specs.declared.points.IntersectionPoint.{IntersectionPoint}
 use Rattle.boundary.specs.declared.sort.Angles.{Angles}
 use Rattle.boundary.specs.Sort.{insert, sortOnto, sorted}
 use Rattle.boundary.specs.Outline.{angleAbout}
-use Rattle.boundary.specs.Set.{countedFor, pointsFor, pointsHeld}
-use Rattle.boundary.specs.Lists.{angleList}
-
--- one more at the end of a list of which so many are held
-pub take-push : {A : Type 0} (n : ℕ) (l : List A) (x : A) → take n (l ++ (x ∷ [])) ≡ cond (ltb (length (take n l)) n) (take n l ++ (x ∷ [])) (take n l)
-take-push zero l x = refl
-take-push (suc n) [] x = rw (lt-ltb 0 (suc n) (omega arith)) (ap (λ t. x ∷ t) (none n))
-  where
-    none : {A : Type 0} (n : ℕ) → take {A = A} n [] ≡ []
-    none zero = refl
-    none (suc n) = refl
-take-push (suc n) (y ∷ l) x = by (ltb (length (take n l)) n) refl (take-push n l x)
-  where
-    by : (b : Bool) → ltb (length (take n l)) n ≡ b → take n (l ++ (x ∷ [])) ≡ cond (ltb (length (take n l)) n) (take n l ++ (x ∷ [])) (take n l)
-        → y ∷ take n (l ++ (x ∷ [])) ≡ cond (ltb (suc (length (take n l))) (suc n)) (y ∷ (take n l ++ (x ∷ []))) (y ∷ take n l)
-    by true e h = rw (lt-ltb (suc (length (take n l))) (suc n) (omega (arith, ltb-true (length (take n l)) n e)), h, e)
-    by false e h = rw (le-ltb (suc (length (take n l))) (suc n) (omega (arith, ltb-false (length (take n l)) n e)), h, e)
+use Rattle.intersections.specs.Members.{countedFor, pointsFor, pointsHeld}
+use Rattle.boundary.specs.Counted.{angleList}
 
 -- sorting with one more at the end puts that one in last
 sortOnto-push : (done l : List Float) (x : Float) → sortOnto done (l ++ (x ∷ [])) ≡ insert x (sortOnto done l)
@@ -41,16 +26,6 @@ sortOnto-push done (y ∷ l) x = sortOnto-push (insert y done) l x
 pub sorted-push : (l : List Float) (x : Float) → sorted (l ++ (x ∷ [])) ≡ insert x (sorted l)
 unfolding sorted
 sorted-push l x = sortOnto-push [] l x
-
-keep-push : {A : Type 0} (p : A → Bool) (l : List A) (q : A) → keep p (l ++ (q ∷ [])) ≡ keep p l ++ cond (p q) (q ∷ []) []
-unfolding keep
-keep-push p [] q = refl
-keep-push p (y ∷ l) q = by (p y) (keep-push p l q)
-  where
-    by : (b : Bool) → keep p (l ++ (q ∷ [])) ≡ keep p l ++ cond (p q) (q ∷ []) []
-        → cond b (y ∷ keep p (l ++ (q ∷ []))) (keep p (l ++ (q ∷ []))) ≡ cond b (y ∷ keep p l) (keep p l) ++ cond (p q) (q ∷ []) []
-    by true h = ap (λ t. y ∷ t) h
-    by false h = h
 
 module _ (S j : ℕ) (l : List IntersectionPoint) (q : IntersectionPoint) where
   -- a counted point more, while there is room
@@ -87,7 +62,16 @@ module _ (c : Circle) (S j : ℕ) (l : List IntersectionPoint) (q : Intersection
             many = en ∙ rw (known, b, points-with S j l q e, b, length-append (pointsFor l S j) (q .point ∷ []), h .many);
             angles =
                 ea
-                ∙ rw (known, b, points-with S j l q e, b, map-append (angleAbout c) (pointsFor l S j) (q .point ∷ []), sorted-push (map (angleAbout c) (pointsFor l S j)) (angleAbout c (q .point)), ex, h .angles);
+                ∙ rw (
+                  known,
+                  b,
+                  points-with S j l q e,
+                  b,
+                  map-append (angleAbout c) (pointsFor l S j) (q .point ∷ []),
+                  sorted-push (map (angleAbout c) (pointsFor l S j)) (angleAbout c (q .point)),
+                  ex,
+                  h .angles,
+                );
           }
       by false b =
           record {

@@ -8,10 +8,10 @@ use native.Mathlib.Omega.{arith}
 use lib.ListN.{length, getD, take, length-take}
 use lib.Seq.{getD-take}
 use lib.Ieee.{Float, nan}
-use Rattle.regions.specs.Row.{upTo}
+use Rattle.lists.specs.Lists.{upTo}
 use Rattle.geometry.specs.declared.circle.Circle.{Circle}
 use Rattle.binary64.specs.Constants.{half64}
-use Rattle.geometry.specs.Floats.{_+ᶠ_, _*ᶠ_}
+use Rattle.binary64.specs.Floats.{_+ᶠ_, _*ᶠ_}
 use Rattle.boundary.specs.Outline.{owned, gap, collapsed, pointAt, between, arcFrom, arcsAt}
 
 -- the next index round a list of n is below n
@@ -40,8 +40,3 @@ pub arcs-of-gaps : (cs : List Circle) (k : ℕ) (c : Circle) (phis : List Float)
 unfolding arcsAt
 arcs-of-gaps cs k c [] h = absurd (omega arith)
 arcs-of-gaps cs k c (phi ∷ phis) h = refl
-
--- no angles
-pub none-of-length : {A : Type 0} (l : List A) → length l ≡ 0 → l ≡ []
-none-of-length [] h = refl
-none-of-length (x ∷ l) h = absurd (omega arith)

@@ -7,8 +7,9 @@ use native.Mathlib.Omega.{arith}
 use lib.Ieee.{Float, lt}
 use Rattle.binary64.specs.Units.{Finite}
 use Rattle.binary64.proofs.Units.{units-of-lt, units-of-not-lt, lt-of-units, not-lt-of-units}
-use Rattle.regions.specs.Row.{keep}
-use Rattle.boundary.specs.Every.{Every, every-both}
+use Rattle.lists.specs.Lists.{keep}
+use Rattle.lists.proofs.Lists.{keep-none}
+use Rattle.lists.specs.Every.{Every, every-both}
 use Rattle.boundary.specs.Sort.{insert, sortOnto, sorted, Ordered, level}
 
 -- a property of x and of every element of l
@@ -20,6 +21,16 @@ insert-every P x (y ∷ l) h g = by (lt x y) (insert-every P x l h (g .1))
     by : (b : Bool) → Every P (insert x l) → Every P (cond b (x ∷ y ∷ l) (y ∷ insert x l))
     by true r = (h, g)
     by false r = (g .0, r)
+
+sortOnto-every : (P : Float → Type 0) (done l : List Float) → Every P done → Every P l → Every P (sortOnto done l)
+unfolding sortOnto
+sortOnto-every P done [] h g = h
+sortOnto-every P done (x ∷ l) h g = sortOnto-every P (insert x done) l (insert-every P x done (g .0) h) (g .1)
+
+-- a property of every element of l
+pub sorted-every : (P : Float → Type 0) (l : List Float) → Every P l → Every P (sorted l)
+unfolding sorted
+sorted-every P l g = sortOnto-every P [] l tt g
 
 -- x below y, and no z below y: no z below x
 below-rest : {x y z : Float} → Finite x → Finite y → Finite z → lt x y ≡ true → lt z y ≡ false → lt z x ≡ false
@@ -49,11 +60,6 @@ pub sorted-ordered : (l : List Float) → Every Finite l → Ordered (sorted l)
 unfolding sorted
 sorted-ordered l h = sortOnto-ordered [] l tt h tt
 
-keep-none-of : {A : Type 0} (p : A → Bool) (l : List A) → Every (λ z. p z ≡ false) l → keep p l ≡ []
-unfolding keep
-keep-none-of p [] h = refl
-keep-none-of p (z ∷ l) h = rw (h .0) (keep-none-of p l (h .1))
-
 -- a z above x is not level with what is level with x
 above-level : {a x z : Float} → Finite a → Finite x → Finite z → level a x ≡ true → lt x z ≡ true → level a z ≡ false
 unfolding level
@@ -79,7 +85,7 @@ module _ (a : Float) (fa : Finite a) where
 
       first : (b : Bool) → level a x ≡ b → lt x y ≡ true
           → cond b (x ∷ keep (level a) (y ∷ l)) (keep (level a) (y ∷ l)) ≡ keep (level a) (y ∷ l) ++ cond b (x ∷ []) []
-      first true h e = rw (keep-none-of (level a) (y ∷ l) (every-both (y ∷ l) (λ z fz g. above-level fa fx fz h g) fl (above e)))
+      first true h e = rw (keep-none (level a) (y ∷ l) (every-both (y ∷ l) (λ z fz g. above-level fa fx fz h g) fl (above e)))
       first false h e = sym (append-nil (keep (level a) (y ∷ l)))
 
       rest : (b : Bool) → keep (level a) (insert x l) ≡ keep (level a) l ++ keep (level a) (x ∷ [])
@@ -98,7 +104,8 @@ module _ (a : Float) (fa : Finite a) where
   sortOnto-level done [] fd fl o = sym (append-nil (keep (level a) done))
   sortOnto-level done (x ∷ l) fd fl o =
       sortOnto-level (insert x done) l (insert-every Finite x done (fl .0) fd) (fl .1) (insert-ordered x done (fl .0) fd o)
-      ∙ rw (insert-level x done (fl .0) fd o) (append-assoc (keep (level a) done) (keep (level a) (x ∷ [])) (keep (level a) l) ∙ ap (λ t. keep (level a) done ++ t) (joined (level a x)))
+      ∙ rw (insert-level x done (fl .0) fd o) (append-assoc (keep (level a) done) (keep (level a) (x ∷ [])) (keep (level a) l)
+      ∙ ap (λ t. keep (level a) done ++ t) (joined (level a x)))
     where
       joined : (b : Bool) → cond b (x ∷ []) [] ++ keep (level a) l ≡ cond b (x ∷ keep (level a) l) (keep (level a) l)
       joined true = refl

@@ -1,5 +1,6 @@
-pub mod Every
 pub mod Sort
 pub mod Outline
 pub mod Set
-pub mod Lists
+pub mod Counted
+pub mod NoArc
+pub mod Identical

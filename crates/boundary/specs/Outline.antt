@@ -10,23 +10,15 @@ use Rattle.elementary.specs.Sine.{sine as sin, cosine as cos}
 use Rattle.elementary.specs.Arctangent.{atan2}
 use Rattle.geometry.specs.declared.point.Point.{Point}
 use Rattle.geometry.specs.declared.circle.Circle.{Circle}
+use Rattle.intersections.specs.Members.{Member, circlesOf}
 use Rattle.boundary.specs.declared.arcs.BoundaryArc.{BoundaryArc}
 use Rattle.binary64.specs.Constants.{zero64, half64, one64, two64, pi, twoPi}
 use Rattle.binary64.specs.Functions.{absolute, largerOf, remEuclid}
 use Rattle.geometry.specs.Point.{at}
-use Rattle.geometry.specs.Floats.{_+ᶠ_, _-ᶠ_, _*ᶠ_, _/ᶠ_, _<ᶠ_, _≤ᶠ_}
+use Rattle.binary64.specs.Floats.{_+ᶠ_, _-ᶠ_, _*ᶠ_, _/ᶠ_, _<ᶠ_, _≤ᶠ_}
 use Rattle.geometry.specs.Tolerances.{arcEps, coincidence, coincidenceShare}
-use Rattle.regions.specs.Row.{upTo}
+use Rattle.lists.specs.Lists.{upTo}
 use Rattle.boundary.specs.Sort.{sorted}
-
--- A member of a set: its circle and the meeting points counted for the set there. It has no head number.
-pub record Member : Type 0 where
-  pub circle : Circle
-  pub points : List Point
-
--- what stands for a circle that a list does not have
-abbrev pub noCircle : Circle
-noCircle = record { center = record { x = nan; y = nan }; radius = nan }
 
 -- ---- which member has a point of its edge
 
@@ -123,9 +115,6 @@ unfoldable pub outlineFrom : List Circle → ℕ → List Member → List Bounda
 unfolding arcsAt anglesOf
 outlineFrom cs k [] = []
 outlineFrom cs k (m ∷ ms) = arcsAt cs k (m .circle) (anglesOf m) ++ outlineFrom cs (suc k) ms
-
-abbrev pub circlesOf : List Member → List Circle
-circlesOf ms = map (λ m. m .circle) ms
 
 -- "The outline of a single is its head's full circle, whatever meets it": no point is looked at. In a larger set the arcs
 -- of each member, in order.

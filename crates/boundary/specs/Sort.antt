@@ -4,8 +4,8 @@ use mathlib.Core.Path.{_≡_}
 use mathlib.Core.Bool.{Bool, false, not, _&&_, cond}
 use mathlib.Core.List.{List, [], _∷_}
 use lib.Ieee.{Float}
-use Rattle.boundary.specs.Every.{Every}
-use Rattle.geometry.specs.Floats.{_<ᶠ_}
+use Rattle.lists.specs.Every.{Every}
+use Rattle.binary64.specs.Floats.{_<ᶠ_}
 
 -- x before the first that is greater than x
 unfoldable pub insert : Float → List Float → List Float

@@ -6,18 +6,19 @@ use crate::angles::probe;
 use crate::arcs::Candidate;
 use crate::arcs::between;
 use crate::arcs::full_circle;
-use crate::members::Members;
 use crate::ownership::owned;
 use crate::sort::Angles;
 use crate::sort::count;
 use geometry::circle::Circle;
+use intersections::members::Members;
 ghost use mathlib.Core.Path.{_≡_};
 ghost use mathlib.Core.List.{[]};
 ghost use mathlib.Core.Bool.{cond};
 ghost use lib.Dec.{ltb};
 ghost use lib.ListN.{length};
 ghost use Rattle.boundary.specs.Outline.{arcFrom, arcsAt};
-ghost use Rattle.boundary.specs.Lists.{angleList, circleList, candidateList};
+ghost use Rattle.intersections.specs.Counted.{circleList};
+ghost use Rattle.boundary.specs.Counted.{angleList, candidateList};
 
 // A member with no angle: its whole circle, if the probe is its own.
 pub fn whole_circle(k: usize, circle: Circle, set: Members) -> Candidate

@@ -1,16 +1,16 @@
 // Which member of a set has a point of its edge: where edges coincide, the one at the lowest position.
 // Rests on `lets` and `owned` of specs/Outline.antt.
-use crate::members::Members;
 use binary64::abs;
 use binary64::larger;
 use geometry::circle::Circle;
 use geometry::point::Point;
+use intersections::members::Members;
 ghost use mathlib.Core.Path.{_≡_};
 ghost use Rattle.boundary.specs.Outline.{implicitValue, tolerance, lets, owned};
-ghost use Rattle.boundary.specs.Lists.{circleList};
+ghost use Rattle.intersections.specs.Counted.{circleList};
 
 // The implicit form of a circle at a point: below 1 inside, 1 on the edge, above 1 outside.
-pub fn circle_implicit_value(p: Point, c: Circle) -> f64
+fn circle_implicit_value(p: Point, c: Circle) -> f64
     ensures { λ r. ⌜ r ≡ implicitValue p c ⌝ }
 {
     let dx = p.x - c.center.x;
@@ -19,7 +19,7 @@ pub fn circle_implicit_value(p: Point, c: Circle) -> f64
 }
 
 // How far from 1 the implicit form counts as 1.
-pub fn tolerance(c: Circle) -> f64
+fn tolerance(c: Circle) -> f64
     ensures { λ r. ⌜ r ≡ tolerance c ⌝ }
 {
     larger(
@@ -29,7 +29,7 @@ pub fn tolerance(c: Circle) -> f64
 }
 
 // The member at l, whose circle is c, lets the one at k have the point p.
-pub fn lets(k: usize, p: Point, l: usize, c: Circle) -> bool
+fn lets(k: usize, p: Point, l: usize, c: Circle) -> bool
     ensures { λ r. ⌜ r ≡ lets k p l c ⌝ }
 {
     if l == k {
@@ -47,7 +47,7 @@ pub fn lets(k: usize, p: Point, l: usize, c: Circle) -> bool
 }
 
 // The point p of the edge of the member at k is that member's own: every member of the set lets it have p.
-pub fn owned(k: usize, p: Point, set: Members) -> bool
+pub(crate) fn owned(k: usize, p: Point, set: Members) -> bool
     ensures { λ r. ⌜ r ≡ owned k p (circleList set) ⌝ }
 {
     let n = set.n;

@@ -1,7 +1,7 @@
 // Runs the plan library over a list of trials from standard input, up to 65,536 bytes, and prints every answer. Each trial is
 // a plan file (0, its length in two bytes, its bytes) or a call in memory (1, n, an edit's head number, 37 numbers of four
-// bytes: the box, ten heads, the edit's x, y and radius; and four numbers of two bytes: rows and width needed, rows and gradients
-// lent). Numbers are little-endian. The stored input and what it must print are worked out by tests/plan/trials.py from document 01.
+// bytes: the box, ten heads, the edit's x, y and radius; a byte for the gradients that the call writes, 0 for none, 1 for rows in the
+// box, 2 for rows without it; and two numbers of two bytes: rows and gradients lent). Numbers are little-endian. The stored input and what it must print are worked out by tests/plan/trials.py from document 01.
 ghost use Prim.Native.Nat.{_<_, _≤_};
 ghost use lib.ListN.{length};
 use file::fields;
@@ -11,9 +11,9 @@ use file::reader::Reader;
 use heads::Head;
 use plan::Answer;
 use plan::Edit;
+use plan::Gradients;
 use plan::Ground;
 use plan::Lent;
-use plan::Needed;
 use plan::Plan;
 use plan::book;
 use plan::check;
@@ -96,11 +96,11 @@ fn print_answer(answer: Answer) {
         Answer::Taken => {
             io::write_all(1, b"taken\n");
         }
-        Answer::Refused(refusal, at) => {
+        Answer::Refused(_, _) => {
             io::write_all(1, b"refused ");
-            io::print_decimal(1, plan::number(refusal) as u64);
+            io::print_decimal(1, plan::answer_number(answer) as u64);
             io::write_all(1, b" at ");
-            io::print_decimal(1, at);
+            io::print_decimal(1, plan::answer_offset(answer));
             io::write_all(1, b"\n");
         }
     }
@@ -168,6 +168,17 @@ fn heads_at(s: &[u8]) -> [Head; 10] {
     heads
 }
 
+fn gradients_of(kind: u8) -> Gradients {
+    if kind == 0 {
+        return Gradients::None;
+    }
+    if kind == 1 {
+        Gradients::Clipped
+    } else {
+        Gradients::Open
+    }
+}
+
 // A call in memory: the answers to the plan, to the plan with lent tables and to the edit, and the book after the edit.
 fn run_call(s: &[u8]) {
     let ground = Ground {
@@ -188,22 +199,19 @@ fn run_call(s: &[u8]) {
         y: int_at(s, 142),
         radius: int_at(s, 146),
     };
-    let needed = Needed {
-        rows: short_at(s, 150),
-        width: short_at(s, 152),
-    };
+    let gradients = gradients_of(byte_at(s, 150));
     let lent = Lent {
-        rows: short_at(s, 154),
-        gradients: short_at(s, 156),
+        rows: short_at(s, 151),
+        gradients: short_at(s, 153),
     };
     print_answer(check::check(plan));
-    print_answer(check::check_call(plan, needed, lent));
-    print_entered(plan, edit, needed, lent);
+    print_answer(check::check_call(plan, gradients, lent));
+    print_entered(plan, edit, lent);
 }
 
-fn print_entered(plan: Plan, edit: Edit, needed: Needed, lent: Lent) {
-    print_answer(check::decide(plan, edit, needed, lent));
-    let booked = book::enter(plan, edit, needed, lent);
+fn print_entered(plan: Plan, edit: Edit, lent: Lent) {
+    print_answer(check::decide(plan, edit, lent));
+    let booked = book::enter(plan, edit, lent);
     let answer = booked.answer;
     let after = booked.plan;
     print_answer(answer);
@@ -223,11 +231,11 @@ fn trial(s: &[u8]) -> usize
         run_file(&s[3..end]);
         return end;
     }
-    if s.len() < 159 {
+    if s.len() < 156 {
         return s.len();
     }
-    run_call(&s[1..159]);
-    159
+    run_call(&s[1..156]);
+    156
 }
 
 fn run(s: &[u8]) {

@@ -6,10 +6,11 @@ use Prim.Native.Nat.{ℕ, _*_}
 use lib.ListN.{length, length-map}
 use lib.Ieee.{Float}
 use Rattle.binary64.specs.Constants.{zero64, half64}
-use Rattle.geometry.specs.Floats.{_*ᶠ_}
+use Rattle.binary64.specs.Floats.{_*ᶠ_}
 use Rattle.geometry.specs.declared.bounds.Bounds.{Bounds}
 use Rattle.geometry.specs.declared.circle.Circle.{Circle}
-use Rattle.boundary.specs.Outline.{Member, circlesOf, outline}
+use Rattle.intersections.specs.Members.{Member, circlesOf}
+use Rattle.boundary.specs.Outline.{outline}
 use Rattle.boundary.specs.declared.arcs.BoundaryArc.{BoundaryArc}
 use Rattle.clip.specs.Gradient.{WithGradient, with-gradient, addClippedArcsWithGradient, addEdgesWithGradient, clippedWithGradient, clippedOnto}
 use Rattle.clip.specs.Area.{emptyBox, addClippedArcs, addEdges, clippedAreaOf, clippedArea}

@@ -1,14 +1,15 @@
 -- The area of a set inside the box: along the parts of its outline in the box, and along the spans of the four edges.
 use mathlib.Core.Bool.{Bool, _||_, cond}
-use mathlib.Core.List.{List, [], _∷_, foldl}
+use mathlib.Core.List.{List, foldl}
 use lib.Dec.{ltb}
 use lib.ListN.{length, getD}
 use lib.Ieee.{Float, neg}
 use Rattle.geometry.specs.declared.bounds.Bounds.{Bounds}
 use Rattle.geometry.specs.declared.circle.Circle.{Circle}
 use Rattle.binary64.specs.Constants.{zero64, half64}
-use Rattle.geometry.specs.Floats.{_+ᶠ_, _-ᶠ_, _*ᶠ_, _≤ᶠ_}
-use Rattle.boundary.specs.Outline.{Member, circlesOf, outline, noCircle}
+use Rattle.binary64.specs.Floats.{_+ᶠ_, _-ᶠ_, _*ᶠ_, _≤ᶠ_}
+use Rattle.intersections.specs.Members.{Member, circlesOf, noCircle}
+use Rattle.boundary.specs.Outline.{outline}
 use Rattle.boundary.specs.declared.arcs.BoundaryArc.{BoundaryArc}
 use Rattle.inside.specs.Span.{Interval, horizontalSpan, verticalSpan}
 use Rattle.inside.specs.Parts.{clippedArcIntegral}
@@ -27,13 +28,12 @@ abbrev pub addClippedArcs : Bounds → List Circle → Float → List BoundaryAr
 addClippedArcs box cs = foldl (addClippedArc box cs)
 
 -- a factor times the length of the span, added; no span adds nothing
-unfoldable pub addSpan : Float → Float → List Interval → Float
-addSpan factor total [] = total
-addSpan factor total (i ∷ rest) = addSpan factor (total +ᶠ factor *ᶠ (i .high -ᶠ i .low)) rest
+abbrev pub addSpan : Float → Float → List Interval → Float
+addSpan factor = foldl (λ total i. total +ᶠ factor *ᶠ (i .high -ᶠ i .low))
 
 -- the spans of the four edges, counterclockwise from the bottom, for the circles of a set
 unfoldable pub addEdges : Bounds → List Circle → Float → Float
-unfolding addSpan horizontalSpan verticalSpan
+unfolding horizontalSpan verticalSpan
 addEdges box cs total =
     let bottom = addSpan (neg (box .«y_min»)) total (horizontalSpan (box .«y_min») (box .«x_min») (box .«x_max») cs) in
     let right = addSpan (box .«x_max») bottom (verticalSpan (box .«x_max») (box .«y_min») (box .«y_max») cs) in

@@ -5,19 +5,21 @@ use mathlib.Core.Bool.{Bool, true, false, cond}
 use mathlib.Core.List.{List, [], _∷_, foldl}
 use lib.Dec.{ltb}
 use lib.ListN.{length, getD, replicate}
-use lib.Ieee.{Float, neg, binary64, ofBits}
+use lib.Ieee.{Float, neg}
 use Rattle.elementary.specs.Sine.{sine as sin, cosine as cos}
 use Rattle.geometry.specs.declared.bounds.Bounds.{Bounds}
 use Rattle.geometry.specs.declared.circle.Circle.{Circle}
-use Rattle.binary64.specs.Constants.{zero64, half64}
-use Rattle.geometry.specs.Floats.{_+ᶠ_, _-ᶠ_, _*ᶠ_, _/ᶠ_}
-use Rattle.boundary.specs.Outline.{Member, circlesOf, outline, noCircle}
+use Rattle.binary64.specs.Constants.{zero64, half64, four64}
+use Rattle.binary64.specs.Floats.{_+ᶠ_, _-ᶠ_, _*ᶠ_, _/ᶠ_}
+use Rattle.intersections.specs.Members.{Member, circlesOf, noCircle}
+use Rattle.boundary.specs.Outline.{outline}
 use Rattle.outline.specs.Area.{addAt, subAt}
 use Rattle.boundary.specs.declared.arcs.BoundaryArc.{BoundaryArc}
 use Rattle.clip.specs.declared.edges.Edge.{Edge}
 use Rattle.inside.specs.Span.{Interval, horizontalSpan, verticalSpan}
 use Rattle.inside.specs.Breaks.{breaks}
-use Rattle.inside.specs.Parts.{overPairs, summed}
+use Rattle.lists.specs.Lists.{overPairs}
+use Rattle.inside.specs.Parts.{summed}
 use Rattle.clip.specs.Area.{emptyBox}
 
 -- a sum and the gradient so far
@@ -79,16 +81,12 @@ abbrev pub moved : Bool → List Float → ℕ → Float → List Float
 moved true g i x = addAt g i x
 moved false g i x = subAt g i x
 
--- 4.0
-abbrev pub fourᶠ : Float
-fourᶠ = ofBits binary64 0x4010000000000000
-
 -- The share of a span of length l in the box's four entries from `at` on: the edge moves with the centre, and by a
 -- quarter of the side across with each size parameter.
 unfoldable pub edgeSlopes : Edge → ℕ → Float → List Float → List Float
 edgeSlopes e at l g =
     let moving = moved (e .outward) g (cond (e .upright) at (at + 1)) l in
-    moved (e .upright) (addAt moving (at + 2) (e .across /ᶠ fourᶠ *ᶠ l)) (at + 3) (e .across /ᶠ fourᶠ *ᶠ l)
+    moved (e .upright) (addAt moving (at + 2) (e .across /ᶠ four64 *ᶠ l)) (at + 3) (e .across /ᶠ four64 *ᶠ l)
 
 -- the span of an edge, added
 unfoldable pub addSpanWithGradient : Edge → ℕ → WithGradient → List Interval → WithGradient

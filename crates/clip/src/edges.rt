@@ -1,14 +1,14 @@
 // The spans of the four edges of the box, summed together with their shares of the gradient. Rests on specs/Gradient.antt.
-use boundary::members::Members;
 use geometry::bounds::Bounds;
 use inside::span::Span;
 use inside::span::horizontal_edge_inside_interval;
 use inside::span::vertical_edge_inside_interval;
+use intersections::members::Members;
 use outline::gradient::add_at;
 use outline::gradient::sub_at;
 ghost use mathlib.Core.Path.{_≡_};
 ghost use Prim.Native.Nat.{_≤_};
-ghost use Rattle.boundary.specs.Lists.{circleList};
+ghost use Rattle.intersections.specs.Counted.{circleList};
 ghost use Rattle.inside.specs.Span.{spans};
 ghost use Rattle.clip.specs.Gradient.{with-gradient, moved, edgeSlopes, addSpanWithGradient, bottomEdge, rightEdge, topEdge, leftEdge, addEdgesWithGradient};
 

@@ -8,21 +8,22 @@ use boundary::arcs::Candidate;
 use boundary::arcs::full_circle;
 use boundary::candidates::arc_from;
 use boundary::candidates::whole_circle;
-use boundary::members::Members;
 use boundary::members::angles_for;
-use boundary::members::members_of;
-use boundary::points::Intersections;
 use boundary::sort::Angles;
 use boundary::sort::count;
 use geometry::bounds::Bounds;
 use geometry::circle::Circle;
+use intersections::members::Members;
+use intersections::members::members_of;
+use intersections::points::Intersections;
 ghost use mathlib.Core.Path.{_≡_};
 ghost use mathlib.Core.List.{map};
 ghost use lib.ListN.{take, length};
 ghost use Rattle.binary64.specs.Constants.{zero64};
 ghost use Rattle.boundary.specs.Outline.{arcsAt, outlineFrom};
-ghost use Rattle.boundary.specs.Set.{headsOf, circleAt, membersOf, membersWith};
-ghost use Rattle.boundary.specs.Lists.{angleList, pointList, headList, circleList, candidateList, arcList};
+ghost use Rattle.intersections.specs.Members.{headsOf, circleAt, membersOf, membersWith};
+ghost use Rattle.intersections.specs.Counted.{pointList, headList, circleList};
+ghost use Rattle.boundary.specs.Counted.{angleList, candidateList, arcList};
 ghost use Rattle.clip.specs.Gradient.{with-gradient, addClippedArcsWithGradient, clippedWithGradient, clippedOnto};
 
 // The arcs of a list, added up.

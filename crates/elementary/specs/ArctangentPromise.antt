@@ -75,6 +75,8 @@ withSign y t = cond (negative y) (neg t) t
 
 pub record Atan2Promise : Type 0 where
   pub angle : (y x : Float) → Domain y x → Angle y x (atan2 y x)
+  -- "Zero signs follow IEEE 754": the sign bit of every answer is y's, also where the angle is too small to be told from 0
+  pub sign : (y x : Float) → Domain y x → negative (atan2 y x) ≡ negative y
   pub outside : (y x : Float) → T (fits binary64 y) → T (fits binary64 x) → (Domain y x → ⊥) → atan2 y x ≡ zero64
   -- whatever a program hands it
   pub always : (y x : Float) → T (fits binary64 y) → T (fits binary64 x) → UpToPi (atan2 y x)

@@ -1,9 +1,10 @@
 -- The recipe of sine and cosine, step by step: the float v is cut to a whole number of units of 2^-59, the sine is worked out in whole numbers
 -- (crate series, Kernel), and made a float. So the bits of every answer are fixed.
-use Prim.Native.Nat.{ℕ, _+_}
+use Prim.Native.Nat.{ℕ, _+_, _^_}
+use mathlib.Core.Path.{_≡_, refl}
 use mathlib.Core.Bool.{Bool, false, cond}
 use lib.IntN.{pos}
-use lib.Ieee.{Float, binary64, ofBits, neg, mul, lt, le, ofInt, toUnsigned, unlike}
+use lib.Ieee.{Float, binary64, ofBits, neg, mul, lt, le, round, ofInt, toUnsigned, unlike}
 use Rattle.binary64.specs.Constants.{zero64}
 use Rattle.binary64.specs.Functions.{absolute}
 use Rattle.series.specs.Kernel.{quarter, quarterSine, reduced, halfTurned}
@@ -17,6 +18,12 @@ angleScale = ofBits binary64 0x43A0000000000000
 
 abbrev pub sineScale : Float
 sineScale = ofBits binary64 0x3C20000000000000
+
+-- These are their bits.
+pub constants-are :
+    (sixteen ≡ round binary64 false 16 1) × (angleScale ≡ round binary64 false (2 ^ 59) 1) × (sineScale ≡ round binary64 false 1 (2 ^ 61))
+unfolding ofBits round
+constants-are = (refl, refl, refl)
 
 -- |v| in units of 2^-59, cut
 abbrev pub angle : Float → ℕ

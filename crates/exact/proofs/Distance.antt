@@ -15,11 +15,11 @@ use Rattle.binary64.specs.Magnitude.{Most}
 use Rattle.binary64.proofs.Naturals.{lt-or-ge}
 use Rattle.binary64.proofs.Units.{pow2-split, plus-minus}
 use Rattle.binary64.proofs.Magnitude.{bound-digits}
-use Rattle.binary64.proofs.Whole.{ofInt-finite, ofInt-pos, add-ofInt, sub-ofInt, square-ofInt}
-use Rattle.elementary.specs.Root.{root, hypot}
+use Rattle.binary64.proofs.Whole.{ofInt-finite, ofInt-pos, sub-ofInt}
+use Rattle.elementary.specs.Root.{root}
 use Rattle.elementary.proofs.root.Values.{root-finite, root-minus}
 use Rattle.elementary.proofs.root.Squares.{at-most, at-least}
-use Rattle.elementary.proofs.root.Integers.{whole-le, whole-ge, excess, shortfall}
+use Rattle.elementary.proofs.root.Integers.{whole-le, whole-ge, excess, shortfall, hypot-whole}
 use Rattle.geometry.specs.Point.{distance}
 use Rattle.exact.specs.Circle.{circleOf}
 
@@ -63,18 +63,12 @@ part-below m D h L = go (lt-or-ge m (2 ^ 16))
 
 -- The distance of two heads' centres is the root of D.
 pub distance-is : {a b : Head} → InLimits a → InLimits b → squaredDistance a b < 2 ^ 32 → distance (circleOf a .center) (circleOf b .center) ≡ rootOf (squaredDistance a b)
-unfolding hypot
 distance-is {a} {b} la lb L =
-    let p = part-below (natAbs (a .x -ℤ b .x)) (squaredDistance a b) (omega arith) L in
-    let q = part-below (natAbs (a .y -ℤ b .y)) (squaredDistance a b) (omega arith) L in
     rw (
       sub-ofInt (a .x) (b .x) (omega (arith, la .x)) (omega (arith, lb .x)),
       sub-ofInt (a .y) (b .y) (omega (arith, la .y)) (omega (arith, lb .y)),
-      square-ofInt (a .x -ℤ b .x) (omega arith),
-      square-ofInt (a .y -ℤ b .y) (omega arith),
-      add-ofInt (pos (natAbs (a .x -ℤ b .x) * natAbs (a .x -ℤ b .x))) (pos (natAbs (a .y -ℤ b .y) * natAbs (a .y -ℤ b .y))) (omega arith) (omega arith),
     )
-    refl
+    (hypot-whole (a .x -ℤ b .x) (a .y -ℤ b .y) (omega arith))
 
 module _ (D : ℕ) (L : D < 2 ^ 32) where
   -- D is exact; its root is finite and not below zero

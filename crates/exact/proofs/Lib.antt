@@ -7,5 +7,6 @@ pub mod Coordinates
 pub mod Touching
 pub mod Crossing
 pub mod Across
+pub mod Centre
 pub mod Meeting
 pub mod Theorem

@@ -12,12 +12,12 @@ use lib.ListN.{length}
 use lib.IntN.{ℤ, pos}
 use lib.Ieee.{Float, binary64, ofInt}
 use mir.Facts.{and-yes}
-use borrow.Author.Tests.{lt-ltb, le-ltb, le-leb, eq-eqb, ne-eqb}
+use borrow.Author.Tests.{lt-ltb, le-ltb, le-leb, leb-false, eq-eqb, ne-eqb}
 use Rattle.heads.specs.declared.Head.{Head}
 use Rattle.heads.specs.declared.Relation.{Relation}
 use Rattle.heads.specs.declared.Relation.the-variants.{Apart, TouchingOutside, Crossing, TouchingInside, Holding, Identical}
 use Rattle.heads.specs.Relation.{gap, identical, relation, meets, meeting, touching, points}
-use Rattle.heads.specs.Cases.{Case, gap-le, gap-square-le, gap-zero, relation-is, case-of, meets-relation, meetsOnce-relation, meets-facts}
+use Rattle.heads.specs.Cases.{Case, gap-comm, gap-le, gap-square-le, gap-zero, relation-is, case-of, meets-relation, meetsOnce-relation, meets-facts}
 use Rattle.heads.specs.Pair.{squaredDistance, radiusOf, relationOf, meetsOf, meetsOnceOf}
 use Rattle.heads.specs.Distance.{InLimits, limits-of, distance-fits, meetsOf-comm}
 use Rattle.binary64.specs.Units.{one}
@@ -29,8 +29,10 @@ use Rattle.geometry.specs.Circle as circle
 use Rattle.geometry.specs.Meeting.{number-of-points}
 use Rattle.geometry.specs.Point.{at, distance}
 use Rattle.exact.specs.Circle.{circleOf}
-use Rattle.exact.specs.Decisions.{IsDrawn, DecidesExactly, StaysBounded, NoPointsUnlessMet, NoAreaBeyond, sum, difference}
+use Rattle.exact.specs.Decisions.{IsDrawn, DecidesExactly, StaysBounded, NoPointsUnlessMet, NoAreaBeyond, QuotientsWithin, sum, difference, quotient}
 use Rattle.exact.proofs.Chord.{gap-either}
+use Rattle.exact.proofs.Crossing.{quotient-within}
+use Rattle.exact.proofs.Steps.{float}
 use Rattle.exact.proofs.Distance.{rootOf, distance-is, root-is-finite, root-most, root-at-least}
 use Rattle.exact.proofs.Tests.{identical-is, apart-is, intersects-is, contains-heads, beyond-is, within-is}
 use Rattle.exact.proofs.Meeting.{Found, touching as found-touching, crossed as found-crossed}
@@ -44,15 +46,15 @@ touch-inside a b t (inr e) = inr (omega (arith, ap (λ (k : ℕ). k * k) e))
 
 -- ---- the tests before the points
 
--- c are the points, i and o the tests that turn the circles away: identical, and not met
-module _ (c : List Point) where
-  none-chosen : (i o : Bool) → (i ≡ true) ⊎ (o ≡ true) → Found (cond i [] (cond o [] c)) 0
-  none-chosen true o h = record { count = refl; placed = tt }
-  none-chosen false true h = record { count = refl; placed = tt }
+-- c are the points, i and o the tests that turn the circles away: identical, and not met; p and q are the centres
+module _ {p q : Point} (c : List Point) where
+  none-chosen : (i o : Bool) → (i ≡ true) ⊎ (o ≡ true) → Found p q (cond i [] (cond o [] c)) 0
+  none-chosen true o h = record { count = refl; placed = tt; off = (tt, tt) }
+  none-chosen false true h = record { count = refl; placed = tt; off = (tt, tt) }
   none-chosen false false (inl e) = absurd (false≢true e)
   none-chosen false false (inr e) = absurd (false≢true e)
 
-  chosen : {n : ℕ} (i o : Bool) → i ≡ false → o ≡ false → Found c n → Found (cond i [] (cond o [] c)) n
+  chosen : {n : ℕ} (i o : Bool) → i ≡ false → o ≡ false → Found p q c n → Found p q (cond i [] (cond o [] c)) n
   chosen false false e f h = h
   chosen true o e f h = absurd (true≢false e)
   chosen false true e f h = absurd (true≢false f)
@@ -101,21 +103,23 @@ module _ {a b : Head} (la : InLimits a) (lb : InLimits b) (L : squaredDistance a
       ∙ ap₂ (λ (u v : ℤ). cond (identical D r₁ r₂) [] (cond missing [] (crossingOf u v))) (la .whole) (lb .whole)
 
   -- one point where the circles touch
-  found-touch : (n : ℕ) → D ≡ n * n → 1 ≤ n → n ≤ 40000 → (r₁ * r₁ + n * n ≡ r₂ * r₂ + 2 * (r₁ * n)) ⊎ (r₂ * r₂ ≡ r₁ * r₁ + n * n + 2 * (r₁ * n)) → Found crossing 1
+  found-touch : (n : ℕ) → D ≡ n * n → 1 ≤ n → n ≤ 40000 → (r₁ * r₁ + n * n ≡ r₂ * r₂ + 2 * (r₁ * n)) ⊎ (r₂ * r₂ ≡ r₁ * r₁ + n * n + 2 * (r₁ * n))
+      → Found (circleOf a .center) (circleOf b .center) crossing 1
   found-touch n e p q h =
       found-touching (a .x) (a .y) (b .x) (b .y) (la .x) (la .y) (lb .x) (lb .y) r₁ r₂ (la .least) (la .most) (lb .least) (lb .most) L (omega (arith, mul-le-mul p p)) n e p q h
 
   -- two where they cross
-  found-cross : t * t < D → D < s * s → Found crossing 2
+  found-cross : t * t < D → D < s * s → Found (circleOf a .center) (circleOf b .center) crossing 2
   found-cross h k =
       found-crossed (a .x) (a .y) (b .x) (b .y) (la .x) (la .y) (lb .x) (lb .y) r₁ r₂ (la .least) (la .most) (lb .least) (lb .most) L (omega arith) h k
 
   -- either is met, since no test before turns it away
-  met : {n : ℕ} → 0 < D → t * t ≤ D → D ≤ s * s → Found crossing n → Found pointsBy n
+  met : {n : ℕ} → 0 < D → t * t ≤ D → D ≤ s * s → Found (circleOf a .center) (circleOf b .center) crossing n
+      → Found (circleOf a .center) (circleOf b .center) pointsBy n
   met z h k f = chosen crossing (identical D r₁ r₂) missing (not-identical D r₁ r₂ z) (ap₂ (λ (p q : Bool). p || q) (le-ltb (s * s) D k) (le-ltb D (t * t) h)) f
 
   -- in each case of the relation as many points as it has
-  found-in : (r : Relation) → Case r D r₁ r₂ → Found pointsBy (points r)
+  found-in : (r : Relation) → Case r D r₁ r₂ → Found (circleOf a .center) (circleOf b .center) pointsBy (points r)
   found-in Apart h = none-chosen crossing (identical D r₁ r₂) missing (inr (ap (λ (p : Bool). p || ltb D (t * t)) (lt-ltb (s * s) D h)))
   found-in TouchingOutside h =
       met (omega arith) (omega arith) (le-of-eq (h .1)) (found-touch s (h .1) (omega (arith, la .least)) (omega (arith, la .most, lb .most)) (inl (omega arith)))
@@ -127,8 +131,10 @@ module _ {a b : Head} (la : InLimits a) (lb : InLimits b) (L : squaredDistance a
   found-in Identical h = none-chosen crossing (identical D r₁ r₂) missing (inl (ap₂ (λ (p q : Bool). p && q) (eq-eqb D 0 (h .0)) (eq-eqb r₁ r₂ (h .1))))
 
   -- as many points as the relation has, each placed
-  found : Found (circle.intersectionPoints (circleOf a) (circleOf b)) (points (relationOf a b))
-  found = subst (λ (l : List Point). Found l (points (relationOf a b))) (sym points-are) (found-in (relationOf a b) (case-of D r₁ r₂))
+  found : Found (circleOf a .center) (circleOf b .center) (circle.intersectionPoints (circleOf a) (circleOf b)) (points (relationOf a b))
+  found =
+      subst (λ (l : List Point). Found (circleOf a .center) (circleOf b .center) l (points (relationOf a b))) (sym points-are)
+      (found-in (relationOf a b) (case-of D r₁ r₂))
 
 -- ---- how many points there are, and what the relation says
 
@@ -223,7 +229,7 @@ decides-exactly a b ha hb = record {
     L : squaredDistance a b < 2 ^ 32
     L = distance-fits a b ha hb
 
-    f : Found (circle.intersectionPoints (circleOf a) (circleOf b)) (points (relationOf a b))
+    f : Found (circleOf a .center) (circleOf b .center) (circle.intersectionPoints (circleOf a) (circleOf b)) (points (relationOf a b))
     f = found la lb L
 
     c : Counted (circle.intersectionPoints (circleOf a) (circleOf b)) (meetsOf a b) (meetsOnceOf a b)
@@ -242,6 +248,7 @@ stays-bounded a b ha hb = record {
   apart = λ h. subst (λ (d : Float). Least 1 1074 d) (sym e) (record { finite = root-is-finite (squaredDistance a b) L; bound = root-at-least (squaredDistance a b) L 1 (omega arith) h });
   divides = meet-apart (squaredDistance a b) (radiusOf a) (radiusOf b);
   placed = found (limits-of a ha) (limits-of b hb) L .placed;
+  off = found (limits-of a ha) (limits-of b hb) L .off;
 }
   where
     L : squaredDistance a b < 2 ^ 32
@@ -257,3 +264,21 @@ no-points-unless-met a b ha hb e = (decides-exactly a b ha hb .none .1 e, decide
 -- Heads that touch from outside or are apart share no area.
 pub no-area-beyond : NoAreaBeyond
 no-area-beyond a b ha hb h = rw (decides-exactly a b ha hb .outside ∙ le-leb (sum a b * sum a b) (squaredDistance a b) h)
+
+-- both quotients, over whole numbers
+both-within : (r₁ r₂ D : ℕ) → 1 ≤ r₁ → r₁ ≤ 20000 → 1 ≤ r₂ → r₂ ≤ 20000 → gap r₁ r₂ * gap r₁ r₂ < D → D < (r₁ + r₂) * (r₁ + r₂)
+    → Most 1 1074 (quotient (float r₁) (float r₂) (rootOf D)) × Most 1 1074 (quotient (float r₂) (float r₁) (rootOf D))
+both-within r₁ r₂ D P₁ L₁ P₂ L₂ low high =
+    (quotient-within r₁ r₂ D P₁ L₁ P₂ L₂ low high, quotient-within r₂ r₁ D P₂ L₂ P₁ L₁ (rw (gap-comm r₂ r₁) low) (omega arith))
+
+-- Where a lens is worked out, what is handed to acos is within -1 to 1.
+pub quotients-within : QuotientsWithin
+quotients-within a b ha hb out held =
+    let la = limits-of a ha in
+    let lb = limits-of b hb in
+    let D = squaredDistance a b in
+    let t = difference a b in
+    let s = sum a b in
+    rw (distance-is la lb (distance-fits a b ha hb), la .whole, lb .whole)
+    (both-within (radiusOf a) (radiusOf b) D (la .least) (la .most) (lb .least) (lb .most)
+    (leb-false D (t * t) (sym (decides-exactly a b ha hb .inside) ∙ held)) (leb-false (s * s) D (sym (decides-exactly a b ha hb .outside) ∙ out)))

@@ -1,18 +1,19 @@
 -- Two circles that touch, so that their distance is the whole number n: every step is exact. The foot of the chord is the point of touch, r₁ from the
 -- first centre, nothing is left across, and both points are equal. Rests on Squares and Coordinates.
-use mathlib.Core.Path.{_≡_, sym, ap, ap₂, _∙_}
+use mathlib.Core.Path.{_≡_, refl, sym, ap, ap₂, _∙_}
 use mathlib.Core.Logic.{_⊎_, inl, inr}
-use mathlib.Core.Bool.{true}
+use mathlib.Core.Bool.{Bool, true, false}
 use Prim.Native.Nat.{ℕ, _+_, _-_, _*_, _^_, _≤_, _<_}
-use native.Mathlib.Nat.{le-refl, le-of-eq, mul-pos, mul-le-mul}
+use native.Mathlib.Nat.{le-refl, le-of-eq, mul-pos, mul-le-mul, mul-le-mul-right}
 use native.Mathlib.Omega.{arith}
-use lib.Ieee.{Float, binary64, add, sub, mul, eq}
-use Rattle.binary64.specs.Units.{one, mag, plus, minus}
+use lib.Ieee.{Float, binary64, add, sub, mul, eq, unlike}
+use Rattle.binary64.specs.Units.{one, mag, negative, plus, minus}
+use Rattle.binary64.proofs.Naturals.{lt-or-ge}
 use Rattle.binary64.specs.Rounding.{rnd}
 use Rattle.binary64.specs.Magnitude.{Most}
-use Rattle.binary64.proofs.Units.{one-pos, plus-minus, eq-of-units}
+use Rattle.binary64.proofs.Units.{one-pos, plus-minus, plus-sign, minus-sign, eq-of-units}
 use Rattle.binary64.proofs.Rounding.{rnd-exact}
-use Rattle.binary64.proofs.Operations.{add-result, sub-result, result-rounded, mul-mag, div-mag}
+use Rattle.binary64.proofs.Operations.{add-result, sub-result, result-rounded, mul-mag, div-mag, div-sign}
 use Rattle.binary64.proofs.Magnitude.{bound-digits, bound-limit, add-most, sub-most}
 use Rattle.binary64.proofs.Whole.{mul-ofInt-pos}
 use Rattle.elementary.proofs.root.Values.{root-finite}
@@ -65,11 +66,46 @@ module _ (r₁ r₂ n : ℕ) (L₁ : r₁ ≤ 20000) (L₂ : r₂ ≤ 20000) (N 
   pub along-most : Most r₁ 1074 (along r₁ r₂ (float n))
   along-most = quotient-most (numerator-exact .finite) (d-twice .finite) (omega arith) (omega arith) d-twice-pos (le-of-eq quotient)
 
-  along-mag : mag (along r₁ r₂ (float n)) ≡ r₁ * one
+  pub along-mag : mag (along r₁ r₂ (float n)) ≡ r₁ * one
   along-mag =
       div-mag (numerator-exact .finite) (d-twice .finite) d-twice-pos (along-most .finite)
       ∙ ap (λ (k : ℕ). rnd k (mag (mul binary64 two64 (float n)))) quotient
       ∙ rnd-exact (r₁ * one) (mag (mul binary64 two64 (float n))) d-twice-pos (bound-digits 1074 (omega arith))
+
+  -- its sign: ahead, where the second centre lies not at the point of touch, or behind
+  pub along-side : 1 ≤ r₁ → 1 ≤ r₂ → ((negative (along r₁ r₂ (float n)) ≡ false) × ((r₁ < n) ⊎ (n < r₁))) ⊎ (negative (along r₁ r₂ (float n)) ≡ true)
+  along-side P₁ P₂ = go touch
+    where
+      some : 0 < 2 * (r₁ * n) * one
+      some = mul-pos (omega (arith, mul-le-mul P₁ N)) one-pos
+
+      by-numerator : (s : Bool) → negative numerator ≡ s → negative (along r₁ r₂ (float n)) ≡ s
+      by-numerator s e =
+          div-sign (numerator-exact .finite) (d-twice .finite) d-twice-pos (along-most .finite)
+          ∙ ap₂ unlike e (plus-sign (mul binary64 two64 (float n)) (omega (arith, d-twice .up, mul-le-mul-right one N, one-pos))) ∙ plain s
+        where
+          plain : (b : Bool) → unlike b false ≡ b
+          plain true = refl
+          plain false = refl
+
+      other : r₁ * r₁ + n * n ≡ r₂ * r₂ + 2 * (r₁ * n) → (r₁ < n) ⊎ (n ≤ r₁) → (r₁ < n) ⊎ (n < r₁)
+      other e (inl l) = inl l
+      other e (inr l) = by (lt-or-ge n r₁)
+        where
+          by : (n < r₁) ⊎ (r₁ ≤ n) → (r₁ < n) ⊎ (n < r₁)
+          by (inl k) = inr k
+          by (inr k) = let same : n ≡ r₁ = omega arith in absurd (omega (arith, mul-le-mul P₂ P₂, ap (λ (i : ℕ). i * i) same, ap (λ (i : ℕ). r₁ * i) same))
+
+      go : (r₁ * r₁ + n * n ≡ r₂ * r₂ + 2 * (r₁ * n)) ⊎ (r₂ * r₂ ≡ r₁ * r₁ + n * n + 2 * (r₁ * n))
+          → ((negative (along r₁ r₂ (float n)) ≡ false) × ((r₁ < n) ⊎ (n < r₁))) ⊎ (negative (along r₁ r₂ (float n)) ≡ true)
+      go (inl e) =
+          let p : up ≡ down + 2 * (r₁ * n) * one =
+          omega (arith, ap (λ (k : ℕ). k * one) e, difference-exact r₁ r₂ L₁ L₂ .parts, d-squared .up, d-squared .down) in
+          inl (by-numerator false (plus-sign numerator (omega (arith, numerator-exact .parts, p, some))), other e (lt-or-ge r₁ n))
+      go (inr e) =
+          let p : down ≡ up + 2 * (r₁ * n) * one =
+          omega (arith, ap (λ (k : ℕ). k * one) e, difference-exact r₁ r₂ L₁ L₂ .parts, d-squared .up, d-squared .down) in
+          inr (by-numerator true (minus-sign numerator (omega (arith, numerator-exact .parts, p, some))))
 
   -- its square is r₁², and nothing is left
   abbrev squared : Float

@@ -2,29 +2,32 @@
 -- below rounding changes none of these." Each statement equates what the definitions of `geometry` give, with f64, with what those of `heads` give, over
 -- whole numbers. proofs/Theorem.antt proves these records for every ordered pair of heads within document 01's limits.
 use Prim.Native.Nat.{ℕ, _+_, _*_, _≤_, _<_}
-use mathlib.Core.Path.{_≡_}
+use mathlib.Core.Path.{_≡_, refl}
 use mathlib.Core.Bool.{Bool, true, false, _&&_}
 use mathlib.Core.List.{[]}
 use mathlib.Core.Logic.{_↔_}
 use lib.Dec.{T, ltb, leb}
+use lib.Ieee.{Float}
 use lib.ListN.{length}
 use Rattle.heads.specs.declared.Head.{Head}
 use Rattle.heads.specs.declared.Relation.the-variants.{Crossing}
-use Rattle.heads.specs.Limits.{inLimits}
+use Rattle.heads.specs.Limits.{isDrawn}
 use Rattle.heads.specs.Relation.{gap, points}
 use Rattle.heads.specs.Pair.{squaredDistance, radiusOf, relationOf, meetsOf, meetsOnceOf, containsOf}
 use Rattle.binary64.specs.Units.{negative}
 use Rattle.binary64.specs.Functions.{absolute}
-use Rattle.binary64.specs.Constants.{zero64}
+use Rattle.binary64.specs.Constants.{zero64, half64, two64}
 use Rattle.binary64.specs.Magnitude.{Most, Least}
 use Rattle.geometry.specs.declared.circle.Circle.{Circle}
 use Rattle.geometry.specs.declared.meeting.Meeting.{Meeting}
 use Rattle.geometry.specs.Meeting as meeting
-use Rattle.geometry.specs.Floats.{_+ᶠ_, _-ᶠ_, _≤ᶠ_}
+use Rattle.binary64.specs.Floats.{_+ᶠ_, _-ᶠ_, _*ᶠ_, _/ᶠ_, _≤ᶠ_}
+use Rattle.elementary.specs.Arctangent.{acos}
+use Rattle.elementary.specs.Root.{root}
 use Rattle.geometry.specs.Point.{distance}
-use Rattle.geometry.specs.Circle.{intersectionArea, contains, intersects, intersectionPoints}
+use Rattle.geometry.specs.Circle.{lens, intersectionArea, contains, intersects, intersectionPoints}
 use Rattle.exact.specs.Circle.{circleOf}
-use Rattle.exact.specs.Points.{AllPlaced}
+use Rattle.exact.specs.Points.{AllPlaced, AllOff}
 
 -- The circles touch from outside or are apart: the Rust's `d >= r1 + r2`, at which intersection_area is zero.
 abbrev pub beyond : Circle → Circle → Bool
@@ -81,23 +84,44 @@ pub record Bounded (a b : Head) : Type 0 where
   pub divides : meetsOf a b ≡ true → 0 < squaredDistance a b
   -- each meeting point is finite, its coordinates at most 80000 from zero
   pub placed : AllPlaced (intersectionPoints (circleOf a) (circleOf b))
+  -- and it is the centre of neither circle, so that it has an angle about each
+  pub off : AllOff (circleOf a .center) (intersectionPoints (circleOf a) (circleOf b))
+      × AllOff (circleOf b .center) (intersectionPoints (circleOf a) (circleOf b))
 
--- For every head within the limits, and for every ordered pair of them.
+-- For every head that is drawn (`isDrawn`), and for every ordered pair of them.
 abbrev pub IsDrawn : Type 0
-IsDrawn = (h : Head) → T (inLimits h) → Drawn h
+IsDrawn = (h : Head) → T (isDrawn h) → Drawn h
 
 abbrev pub DecidesExactly : Type 0
-DecidesExactly = (a b : Head) → T (inLimits a) → T (inLimits b) → Decided a b
+DecidesExactly = (a b : Head) → T (isDrawn a) → T (isDrawn b) → Decided a b
 
 abbrev pub StaysBounded : Type 0
-StaysBounded = (a b : Head) → T (inLimits a) → T (inLimits b) → Bounded a b
+StaysBounded = (a b : Head) → T (isDrawn a) → T (isDrawn b) → Bounded a b
 
 -- Heads that do not meet have no meeting points, in either order of the pair: what the theorem on lists of edits asks of the geometry.
 abbrev pub NoPointsUnlessMet : Type 0
-NoPointsUnlessMet = (a b : Head) → T (inLimits a) → T (inLimits b) → meetsOf a b ≡ false
+NoPointsUnlessMet = (a b : Head) → T (isDrawn a) → T (isDrawn b) → meetsOf a b ≡ false
     → (intersectionPoints (circleOf a) (circleOf b) ≡ []) × (intersectionPoints (circleOf b) (circleOf a) ≡ [])
 
 -- "Giving heads that touch from outside an `intersection_area` above zero" is a slip: heads that touch from outside or are apart have +0.
 abbrev pub NoAreaBeyond : Type 0
-NoAreaBeyond = (a b : Head) → T (inLimits a) → T (inLimits b) → sum a b * sum a b ≤ squaredDistance a b
+NoAreaBeyond = (a b : Head) → T (isDrawn a) → T (isDrawn b) → sum a b * sum a b ≤ squaredDistance a b
     → intersectionArea (circleOf a) (circleOf b) ≡ zero64
+
+-- ---- the area of a lens
+
+-- what is handed to acos for the sector of a circle of radius r, beside one of radius s at the distance d
+abbrev pub quotient : Float → Float → Float → Float
+quotient r s d = (d *ᶠ d +ᶠ r *ᶠ r -ᶠ s *ᶠ s) /ᶠ (two64 *ᶠ d *ᶠ r)
+
+-- the two sectors of a lens are worked out from these quotients, and from nothing else of acos
+pub lens-sectors : (r s d : Float) → lens r s d
+    ≡ r *ᶠ r *ᶠ acos (quotient r s d) +ᶠ s *ᶠ s *ᶠ acos (quotient s r d)
+    -ᶠ half64 *ᶠ root ((r +ᶠ s -ᶠ d) *ᶠ (d +ᶠ r -ᶠ s) *ᶠ (d -ᶠ r +ᶠ s) *ᶠ (d +ᶠ r +ᶠ s))
+lens-sectors r s d = refl
+
+-- Where a lens is worked out, both quotients are within -1 to 1: acos's domain. So no area rests on the +0 outside it.
+abbrev pub QuotientsWithin : Type 0
+QuotientsWithin = (a b : Head) → T (isDrawn a) → T (isDrawn b) → beyond (circleOf a) (circleOf b) ≡ false → within (circleOf a) (circleOf b) ≡ false
+    → Most 1 1074 (quotient (circleOf a .radius) (circleOf b .radius) (distance (circleOf a .center) (circleOf b .center)))
+    × Most 1 1074 (quotient (circleOf b .radius) (circleOf a .radius) (distance (circleOf a .center) (circleOf b .center)))

@@ -10,12 +10,5 @@ use heads::Head;
 pub fn circle_of(head: Head) -> Circle
     ensures { λ r. ⌜ r ≡ circleOf head ⌝ }
 {
-    let center = Point {
-        x: head.x as f64,
-        y: head.y as f64,
-    };
-    Circle {
-        center,
-        radius: head.radius as f64,
-    }
+    Circle::new(Point::new(head.x as f64, head.y as f64), head.radius as f64)
 }

@@ -10,15 +10,14 @@ use lib.Ieee.{Float}
 use Rattle.binary64.specs.Magnitude.{Most}
 use Rattle.binary64.proofs.Functions.{larger-most}
 use Rattle.binary64.proofs.Magnitude.{most-weaken, most-either, most-zero, neg-most, add-most, sub-most, mul-most}
-use Rattle.geometry.specs.Floats.{_+ᶠ_, _-ᶠ_, _<ᶠ_}
+use Rattle.binary64.specs.Floats.{_+ᶠ_, _-ᶠ_, _<ᶠ_}
 use Rattle.geometry.specs.declared.bounds.Bounds.{Bounds}
 use Rattle.geometry.specs.declared.circle.Circle.{Circle}
-use Rattle.boundary.specs.Every.{Every, every-map}
+use Rattle.lists.specs.Every.{Every, every-map, every-mapped}
 use Rattle.inside.specs.Span.{Interval, between, halfChord, missed, raised, lowered, lowEnd, highEnd, open-between, horizontalSpan, swapped, verticalSpan}
 use Rattle.clip.specs.Area.{addSpan, addEdges}
 use Rattle.finite.specs.Open.{InDomain}
-use Rattle.finite.specs.Boxed.{BoxInDomain}
-use Rattle.finite.proofs.Every.{every-mapped}
+use Rattle.finite.specs.Clipped.{BoxInDomain}
 use Rattle.finite.proofs.Root.{root-most}
 
 -- ---- one span
@@ -95,7 +94,7 @@ edges-short box cs b d =
 -- a span adds at most 40,000 × 171,072
 span-most : {factor total : Float} (j : ℕ) (l : List Interval) → Most 40000 1074 factor → Most j 1074 total → OneShort l → j + 6842880000 ≤ 2 ^ 53
     → Most (j + 6842880000) 1074 (addSpan factor total l)
-unfolding addSpan OneShort
+unfolding OneShort
 span-most j [] hf ht h room = most-weaken ht (omega arith)
 span-most j (i ∷ rest) hf ht h room = rw (h .1) (add-most ht (mul-most hf (h .0) 1074 refl (lit≤ tt) (lit≤ tt)) room (lit≤ tt))
 

@@ -1,142 +1,46 @@
 -- Open areas and gradients are finite: bounds on the angles, gaps and arcs of any outline, and on what each arc adds.
 -- Rests on the promises of `elementary` as bounds, proofs/Promises.antt.
 use mathlib.Core.Path.{_≡_, refl}
-use mathlib.Core.Bool.{Bool, true, false, cond, not, _&&_}
+use mathlib.Core.Bool.{Bool, true, false, cond}
 use mathlib.Core.List.{List, [], _∷_, map}
-use Prim.Native.Nat.{ℕ, suc, _+_, _*_, _^_, _%_, _≤_, _<_}
-use native.Mathlib.Nat.{mod-lt, le-refl}
+use Prim.Native.Nat.{ℕ, _+_, _*_, _^_, _≤_}
 use native.Mathlib.Omega.{arith}
 use borrow.Author.Tests.{ltb-true}
 use lib.Dec.{leb→le, lit≤, ltb}
 use lib.ListN.{length, getD, replicate, length-take}
-use lib.Ieee.{Float, nan, inf, fin, binary64, ofBits, fits}
-use lib.Ieee.Fits.{sub-fits}
-use Rattle.binary64.specs.Units.{Finite, mag, pow2, plus, minus, negative}
-use Rattle.binary64.specs.Functions.{absolute, signumOf, remEuclid, FromZeroTo}
+use lib.Ieee.{Float, nan, inf, fin, fits}
+use Rattle.binary64.specs.Units.{Finite, mag, pow2}
+use Rattle.binary64.specs.Functions.{absolute, signumOf}
 use Rattle.binary64.specs.Magnitude.{Most}
-use Rattle.binary64.specs.Constants.{zero64, half64, pi, twoPi}
-use Rattle.binary64.proofs.Constants.{half64-most, pi-most, pi-least, twoPi-most, twoPi-least}
+use Rattle.binary64.specs.Constants.{zero64}
+use Rattle.binary64.proofs.Constants.{half64-most, twoPi-most}
 use Rattle.binary64.proofs.Functions.{absolute-most}
-use Rattle.binary64.proofs.Magnitude.{bound-digits, most-weaken, most-coarser, most-zero, most-either, add-most, sub-most, mul-most}
-use Rattle.binary64.proofs.Operations.{sub-result, result-le}
-use Rattle.binary64.proofs.Remainder.{rem-euclid-within}
-use Rattle.binary64.proofs.Units.{pow2-pos, plus-minus, plus-is, units-of-lt, units-of-not-lt}
+use Rattle.binary64.proofs.Magnitude.{most-weaken, most-coarser, most-zero, add-most, sub-most, mul-most}
+use Rattle.elementary.specs.ArctangentPromise.{UpToPi}
 use Rattle.elementary.specs.Sine.{sine as sin, cosine as cos}
-use Rattle.geometry.specs.Floats.{_+ᶠ_, _-ᶠ_, _*ᶠ_, _<ᶠ_, _≤ᶠ_}
-use Rattle.geometry.specs.declared.point.Point.{Point}
+use Rattle.binary64.specs.Floats.{_+ᶠ_, _-ᶠ_, _*ᶠ_}
 use Rattle.geometry.specs.declared.circle.Circle.{Circle}
 use Rattle.boundary.specs.declared.arcs.BoundaryArc.{BoundaryArc}
-use Rattle.boundary.specs.declared.points.IntersectionPoint.{IntersectionPoint}
-use Rattle.boundary.specs.Every.{Every, every-append, every-map, every-upTo, every-at}
-use Rattle.boundary.specs.Outline.{Member, circlesOf, angleAbout, wrapAngle, gap, collapsed, owned, pointAt, probe, fullCircle, between, arcFrom, arcsAt, anglesOf, outlineFrom, outline, noCircle}
+use Rattle.intersections.specs.declared.points.IntersectionPoint.{IntersectionPoint}
+use Rattle.lists.specs.Every.{Every, every-map, every-at, every-set, every-mapped, every-replicate, every-take}
+use Rattle.intersections.specs.Members.{Member, circlesOf, noCircle, headsOf, membersOf}
+use Rattle.boundary.specs.Outline.{fullCircle, between, outline}
 use Rattle.outline.specs.Area.{arcTerms, addArc, addArcs, areaOf, openArea, addAt, subAt, arcSlopes, addSlopes, addGradient, openGradient}
-use Rattle.boundary.specs.Set.{headsOf, membersOf, numbered, arcsHeld, regionArcs}
+use Rattle.boundary.specs.Set.{numbered, arcsHeld, regionArcs}
 use Rattle.finite.specs.Arcs.{ShortArc, OutlineShort, OutlineEnds}
+use Rattle.finite.specs.Domains.{UpToTurn}
 use Rattle.finite.specs.Open.{InDomain, ArcsAreaFinite, ArcsGradientFinite, AreaFinite, GradientFinite, RegionAreaFinite, RegionGradientFinite}
-use Rattle.finite.proofs.Every.{every-set, sorted-every, every-mapped, every-replicate, every-take}
-use Rattle.finite.proofs.Promises.{sine-most, cosine-most, arctangent-most}
+use Rattle.finite.proofs.Promises.{sine-most, cosine-most, up-to-four}
+use Rattle.finite.proofs.Turns.{seven, wrapped-within, outline-every}
 
 -- ---- angles
 
 abbrev Angle : Float → Type 0
 Angle = Most 4 1074
 
-angles-most : (c : Circle) (l : List Point) → Every Angle (map (angleAbout c) l)
-unfolding angleAbout
-angles-most c [] = tt
-angles-most c (p ∷ l) = (arctangent-most _ _ (sub-fits binary64 _ _) (sub-fits binary64 _ _), angles-most c l)
-
-sorted-most : (m : Member) → Every Angle (anglesOf m)
-unfolding anglesOf
-sorted-most m = sorted-every Angle (map (angleAbout (m .circle)) (m .points)) (angles-most (m .circle) (m .points))
-
--- a gap between angles
-gap-most : (a b : Float) → Angle a → Angle b → Most 15 1074 (gap a b)
-unfolding gap
-gap-most a b ha hb =
-    let d = sub-most hb ha (lit≤ tt) (lit≤ tt) in
-    most-either (b -ᶠ a ≤ᶠ zero64) (add-most d twoPi-most (lit≤ tt) (lit≤ tt)) (most-weaken d (lit≤ tt))
-
-positive-constants : (negative pi ≡ false) × (negative twoPi ≡ false)
-unfolding ofBits
-positive-constants = (refl, refl)
-
--- an angle wrapped: the remainder lies from 0 to 2 * PI, and one above PI comes down by 2 * PI
-pub wrapped-most : {x : Float} → Finite x → Angle (wrapAngle x)
-unfolding wrapAngle
-wrapped-most {x} h = by (pi <ᶠ y) refl
-  where
-    y : Float
-    y = remEuclid x twoPi
-
-    half : (plus pi ≡ mag pi) × (minus pi ≡ 0)
-    half = plus-is pi (positive-constants .0)
-
-    whole : (plus twoPi ≡ mag twoPi) × (minus twoPi ≡ 0)
-    whole = plus-is twoPi (positive-constants .1)
-
-    w : FromZeroTo y twoPi
-    w = rem-euclid-within h (twoPi-most .finite) (omega (arith, whole, twoPi-least .bound, pow2-pos 1074))
-
-    by : (b : Bool) → (pi <ᶠ y) ≡ b → Angle (cond b (y -ᶠ twoPi) y)
-    by true e =
-        let above = units-of-lt (pi-most .finite) (w .finite) e in
-        let size : Most 7 1074 y = record { finite = w .finite; bound = omega (arith, plus-minus y, w .above, w .below, whole, twoPi-most .bound) } in
-        let f = sub-most size twoPi-most (lit≤ tt) (lit≤ tt) .finite in
-        let least = pi-least .bound in
-        let most = twoPi-most .bound in
-        record {
-          finite = f;
-          bound = result-le (le-refl 1) (sub-result (w .finite) (twoPi-most .finite)) (bound-digits 1074 (lit≤ tt)) (omega (arith, w .below, whole)) (omega (arith, above, w .above, half, whole)) f;
-        }
-    by false e =
-        record {
-          finite = w .finite;
-          bound = omega (arith, units-of-not-lt (pi-most .finite) (w .finite) e, plus-minus y, w .above, half, pi-most .bound);
-        }
-
--- ---- arcs
-
-one-of : {A : Type 0} (P : A → Type 0) (b : Bool) (x : A) → P x → Every P (cond b (x ∷ []) [])
-one-of P true x h = (h, tt)
-one-of P false x h = tt
-
--- What holds of full circles, and of arcs from an angle of at most 4 over a gap of at most 15, holds of every arc of an outline.
-module _ (P : BoundaryArc → Type 0) (full : (k : ℕ) (c : Circle) → P (fullCircle k c)) (over : (k : ℕ) (c : Circle) (a delta : Float) → Angle a → Most 15 1074 delta → P (between k c a delta)) where
-  gap-every : (cs : List Circle) (k : ℕ) (c : Circle) (phis : List Float) (i : ℕ) → i < length phis → Every Angle phis → Every P (arcFrom cs k c phis i)
-  unfolding arcFrom
-  gap-every cs k c phis i h e =
-      let a = getD phis i nan in
-      let next = (i + 1) % length phis in
-      let b = getD phis next nan in
-      let delta = gap a b in
-      let ha = every-at Angle phis i nan h e in
-      let hb = every-at Angle phis next nan (mod-lt (i + 1) {m = length phis} (omega arith)) e in
-      one-of P (not (collapsed delta) && owned k (pointAt c (a +ᶠ delta *ᶠ half64)) cs) (between k c a delta) (over k c a delta ha (gap-most a b ha hb))
-
-  arcs-every : (cs : List Circle) (k : ℕ) (c : Circle) (phis : List Float) → Every Angle phis → Every P (arcsAt cs k c phis)
-  unfolding arcsAt
-  arcs-every cs k c [] e = one-of P (owned k (probe c) cs) (fullCircle k c) (full k c)
-  arcs-every cs k c (phi ∷ phis) e =
-      every-upTo P (arcFrom cs k c (phi ∷ phis)) (length (phi ∷ phis)) (λ i h. gap-every cs k c (phi ∷ phis) i h e)
-
-  members-every : (cs : List Circle) (k : ℕ) (ms : List Member) → Every P (outlineFrom cs k ms)
-  unfolding outlineFrom
-  members-every cs k [] = tt
-  members-every cs k (m ∷ ms) =
-      every-append P (arcsAt cs k (m .circle) (anglesOf m)) (outlineFrom cs (suc k) ms)
-      (arcs-every cs k (m .circle) (anglesOf m) (sorted-most m))
-      (members-every cs (suc k) ms)
-
-  outline-every : (ms : List Member) → Every P (outline ms)
-  unfolding outline
-  outline-every [] = tt
-  outline-every (m ∷ []) = (full 0 (m .circle), tt)
-  outline-every (m ∷ (m' ∷ ms)) = members-every (circlesOf (m ∷ (m' ∷ ms))) 0 (m ∷ (m' ∷ ms))
-
-between-short : (k : ℕ) (c : Circle) (a delta : Float) → Angle a → Most 15 1074 delta → ShortArc (between k c a delta)
+between-short : (k : ℕ) (c : Circle) (a delta : Float) → UpToPi a → UpToTurn delta → ShortArc (between k c a delta)
 unfolding between
-between-short k c a delta ha h = record { start = ha; turn = most-weaken h (lit≤ tt) }
+between-short k c a delta ha h = record { start = up-to-four ha; turn = most-weaken (seven h) (lit≤ tt) }
 
 full-short : (k : ℕ) (c : Circle) → ShortArc (fullCircle k c)
 unfolding fullCircle
@@ -146,9 +50,9 @@ full-short k c = record { start = most-zero; turn = most-weaken twoPi-most (lit�
 pub outline-short : OutlineShort
 outline-short = outline-every ShortArc full-short between-short
 
-between-end : (k : ℕ) (c : Circle) (a delta : Float) → Angle a → Most 15 1074 delta → Angle (between k c a delta .«phi_end»)
+between-end : (k : ℕ) (c : Circle) (a delta : Float) → UpToPi a → UpToTurn delta → Angle (between k c a delta .«phi_end»)
 unfolding between
-between-end k c a delta ha h = wrapped-most (add-most ha h (lit≤ tt) (lit≤ tt) .finite)
+between-end k c a delta ha h = up-to-four (wrapped-within (add-most (up-to-four ha) (seven h) (lit≤ tt) (lit≤ tt) .finite))
 
 full-end : (k : ℕ) (c : Circle) → Angle (fullCircle k c .«phi_end»)
 unfolding fullCircle
@@ -203,7 +107,6 @@ arc-most j total cs arc ht d hs room = by (ltb (arc .circle) (length cs)) refl
 
 arcs-most : (arcs : List BoundaryArc) (j : ℕ) (total : Float) (cs : List Circle) → Most j 1074 total → Every InDomain cs → Every ShortArc arcs
     → j + length arcs * 8000000000 ≤ 2 ^ 53 → Most (j + length arcs * 8000000000) 1074 (addArcs cs total arcs)
-unfolding addArcs
 arcs-most [] j total cs ht d hs room = most-weaken ht (omega arith)
 arcs-most (arc ∷ arcs) j total cs ht d hs room =
     most-weaken
@@ -275,7 +178,6 @@ arc-slopes-most j g cs arc e d hs room = by (ltb (arc .circle) (length cs)) refl
 
 gradient-most : (arcs : List BoundaryArc) (j : ℕ) (g : List Float) (cs : List Circle) → Every (Most j 1074) g → Every InDomain cs → Every ShortArc arcs
     → j + length arcs * 400000 ≤ 2 ^ 53 → Every (Most (j + length arcs * 400000) 1074) (addGradient cs g arcs)
-unfolding addGradient
 gradient-most [] j g cs e d hs room = every-map g (λ z m. most-weaken m (omega arith)) e
 gradient-most (arc ∷ arcs) j g cs e d hs room =
     every-map (addGradient cs (addSlopes cs g arc) arcs) (λ z m. most-weaken m (omega arith))

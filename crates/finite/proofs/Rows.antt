@@ -1,51 +1,63 @@
--- The open rows of heads within the limits, and so of a taken plan, are finite. Rests on proofs/Open.antt: the circles of such
+-- The open row of a set of drawn heads is finite, and so are the rows of a taken plan. Rests on proofs/Open.antt: the circles of such
 -- heads are of the domain, and ten circles have outlines of at most 180 arcs.
-use mathlib.Core.Path.{sym}
+use mathlib.Core.Path.{_≡_, subst}
 use mathlib.Core.Bool.{Bool, true, false, cond}
-use mathlib.Core.List.{List, [], _∷_}
-use Prim.Native.Nat.{ℕ, zero, suc, _*_, _<_}
+use mathlib.Core.List.{List}
+use Prim.Native.Nat.{ℕ, zero, suc, _*_, _≤_, _<_}
 use lib.Ieee.{Float}
-use lib.IntN.{pos}
-use lib.ListN.{length}
+use lib.ListN.{length, replicate}
+use native.Mathlib.Omega.{arith}
 use Rattle.binary64.specs.Magnitude.{Most}
-use Rattle.binary64.specs.Constants.{zero64, zero64-is}
+use Rattle.binary64.specs.Constants.{zero64}
 use Rattle.binary64.proofs.Magnitude.{most-zero}
 use Rattle.heads.specs.declared.Head.{Head}
-use Rattle.plan.specs.Limits.{HeadWithin}
-use Rattle.plan.proofs.Exactly.{plan-taken}
+use Rattle.plan.specs.Limits.{Acceptable}
+use Rattle.plan.specs.declared.Plan.{Plan}
+use Rattle.plan.proofs.Exactly.{plan-taken, within-limits}
 use Rattle.regions.specs.Edit.{absent, present, afreshRow}
-use Rattle.regions.specs.Table.{areaAt, headAt}
+use Rattle.drawn.specs.Drawn.{planCircles}
+use Rattle.regions.specs.Table.{headAt, planMembers, areaAt}
 use Rattle.exact.specs.Circle.{circleOf}
+use Rattle.exact.specs.Decisions.{Drawn}
+use Rattle.exact.proofs.Theorem.{is-drawn}
 use Rattle.geometry.specs.declared.circle.Circle.{Circle}
-use Rattle.boundary.specs.declared.points.IntersectionPoint.{IntersectionPoint}
-use Rattle.boundary.specs.Outline.{noCircle, circlesOf}
-use Rattle.boundary.specs.Set.{headsOf, circleAt, membersOf}
-use Rattle.outline.specs.Points.{collected}
-use Rattle.outline.specs.Counts.{heads-below, outline-few}
-use Rattle.boundary.specs.Every.{Every, every-map, every-upTo, every-at}
+use Rattle.intersections.specs.declared.points.IntersectionPoint.{IntersectionPoint}
+use Rattle.intersections.specs.Members.{noCircle, circlesOf, headsOf, circleAt, membersOf}
+use Rattle.intersections.specs.Points.{collected}
+use Rattle.intersections.specs.Counts.{heads-below}
+use Rattle.outline.specs.Counts.{outline-few}
+use Rattle.lists.specs.Every.{Every, every-map, every-both, every-at, every-mapped, every-by-index}
 use Rattle.outline.proofs.Walking.{circles-of-members}
-use Rattle.areas.specs.Open.{circlesOfHeads, openMethod}
-use Rattle.areas.proofs.Open.{circles-length, open-row, open-gradient-row}
+use Rattle.outline.specs.Area.{addGradient}
+use Rattle.boundary.specs.Set.{regionArcs}
+use Rattle.areas.specs.Open.{openMethod, openGradientRow}
+use Rattle.areas.proofs.ByHead.{plan-by-head}
+use Rattle.areas.proofs.Scattering.{heads-in}
+use Rattle.drawn.proofs.Circles.{circles-many, circle-at, circles-few}
 use Rattle.finite.specs.Open.{InDomain}
-use Rattle.finite.specs.Rows.{HeadsFinite, PlanFinite, TableFinite}
-use Rattle.finite.proofs.Limits.{position-most, radius-most}
-use Rattle.finite.proofs.Every.{every-mapped}
-use Rattle.finite.proofs.Open.{area-finite, gradient-finite, region-gradient-finite}
+use Rattle.finite.specs.Rows.{MembersDrawn, DrawnFinite, AcceptableFinite, PlanFinite, TableFinite}
+use Rattle.finite.proofs.Open.{area-finite, gradient-finite}
+use Rattle.finite.proofs.Scattering.{scatter-most}
 
 -- ---- circles of heads
 
--- the circle of a head within the limits is a circle of the domain
-circle-domain : (h : Head) → HeadWithin h → InDomain (circleOf h)
-circle-domain h m =
-    record {
-      x = position-most (h .x) (m .0);
-      y = position-most (h .y) (m .1);
-      r = radius-most (h .radius) (m .2);
-    }
+drawn-domain : (h : Head) → Drawn h → InDomain (circleOf h)
+drawn-domain h d = record { x = d .x; y = d .y; r = d .most }
 
-pub circles-domain : (h : ℕ → Head) (n : ℕ) → ((i : ℕ) → i < n → HeadWithin (h i)) → Every InDomain (circlesOfHeads h n)
-unfolding circlesOfHeads
-circles-domain h n met = every-upTo InDomain (λ i. circleOf (h i) ∷ []) n (λ i g. (circle-domain (h i) (met i g), tt))
+-- a head that the checks accept is drawn
+accepted-drawn : (p : Plan) → Acceptable p → (i : ℕ) → i < p .n → Drawn (headAt p i)
+accepted-drawn p ok i h = is-drawn (headAt p i) (within-limits (headAt p i) (ok .heads i h))
+
+pub all-drawn : (p : Plan) → Acceptable p → (S : ℕ) → MembersDrawn p S
+all-drawn p ok S j h t = accepted-drawn p ok j h
+
+-- the circles of a plan within the limits are of the domain
+pub circles-domain : (p : Plan) → length (p .heads) ≡ 10 → Acceptable p → Every InDomain (planCircles p)
+circles-domain p ten ok =
+    every-by-index InDomain (planCircles p) noCircle
+    (λ i h.
+    let g : i < p .n = subst (λ n. i < n) (circles-many p ten (ok .count)) h in
+    rw (circle-at p ten (ok .count) i noCircle g) (drawn-domain (headAt p i) (accepted-drawn p ok i g)))
 
 -- the circles of a set's members are among the circles
 pub members-domain : (cs : List Circle) (points : List IntersectionPoint) (S : ℕ) → Every InDomain cs → Every InDomain (circlesOf (membersOf cs points S))
@@ -54,42 +66,58 @@ members-domain cs points S d =
     (every-mapped InDomain (circleAt cs) (headsOf (length cs) S)
     (every-map (headsOf (length cs) S) (λ j g. every-at InDomain cs j noCircle g d) (heads-below (length cs) S)))
 
+-- the circles of a set whose heads are drawn are of the domain
+pub drawn-members : (p : Plan) → length (p .heads) ≡ 10 → p .n ≤ 10 → (S : ℕ) → MembersDrawn p S → Every InDomain (circlesOf (planMembers p S))
+drawn-members p ten few S drawn =
+    let cs = planCircles p in
+    rw (circles-of-members cs (collected cs) S)
+    (every-mapped InDomain (circleAt cs) (headsOf (length cs) S)
+    (every-both (headsOf (length cs) S)
+    (λ j h t.
+    let g : j < p .n = subst (λ n. j < n) (circles-many p ten few) h in
+    rw (circle-at p ten few j noCircle g) (drawn-domain (headAt p j) (drawn j g t)))
+    (heads-below (length cs) S) (heads-in (length cs) S)))
+
 -- ---- rows
 
--- The open row of any set of at most ten heads within the limits is finite.
-pub heads-finite : HeadsFinite
-heads-finite h n S hn hS met =
-    let cs = circlesOfHeads h n in
-    let points = collected cs in
-    let d = circles-domain h n met in
-    let inside = members-domain cs points S d in
-    let few = outline-few cs S (rw (circles-length h n) hn) in
+-- The open row of a set whose heads are drawn is finite. By head number it is the row by position, scattered.
+pub drawn-finite : DrawnFinite
+drawn-finite p ten few S drawn =
+    let cs = planCircles p in
+    let inside = drawn-members p ten few S drawn in
+    let short = outline-few cs S (circles-few p few) in
+    let gradient = gradient-finite (planMembers p S) inside short in
     record {
-      area = rw (sym (open-row h n S hn hS)) (area-finite (membersOf cs points S) inside few);
-      gradient = rw (sym (open-gradient-row h n S hn hS)) (gradient-finite (membersOf cs points S) inside few);
-      gradientByHead = region-gradient-finite cs points S (3 * n) d;
+      area = area-finite (planMembers p S) inside short;
+      gradient = gradient;
+      gradientByHead =
+          subst (λ n. Every (Most 72000000 1074) (addGradient cs (replicate (3 * n) zero64) (regionArcs cs (collected cs) S))) (circles-many p ten few)
+          (rw (plan-by-head p S few .gradient) (scatter-most 72000000 (headsOf (length cs) S) (length cs) (openGradientRow p S) gradient));
     }
+
+-- The open row of any set of the heads of a plan within the limits is finite.
+pub acceptable-finite : AcceptableFinite
+acceptable-finite p ten ok S = drawn-finite p ten (ok .count) S (all-drawn p ok S)
 
 -- The open row of any set of a taken plan's heads is finite.
 pub plan-finite : PlanFinite
-plan-finite p long taken S hS =
-    let ok = plan-taken p long .0 taken in
-    heads-finite (headAt p) (p .n) S (ok .count) hS (ok .heads)
+plan-finite p long taken = acceptable-finite p long (plan-taken p long .0 taken)
 
 -- ---- tables
 
 -- a row with a number, or an absent one
 row-most : {j a : ℕ} (b : Bool) (v : Float) → Most j a v → Most j a (cond b (present v) absent .number)
 row-most true v h = h
-row-most false v h = rw (sym zero64-is) most-zero
+row-most false v h = most-zero
 
 -- An afresh row has the box's number, a set's area or +0.
-pub afresh-most : {j a : ℕ} (boxed : Bool) (box : Float) (area : ℕ → Float) (sets : ℕ → Bool) (S : ℕ) → Most j a box → Most j a (area S) → Most j a (afreshRow boxed box area sets S .number)
+pub afresh-most : {j a : ℕ} (hasBox : Bool) (box : Float) (area : ℕ → Float) (sets : ℕ → Bool) (S : ℕ) → Most j a box → Most j a (area S)
+    → Most j a (afreshRow hasBox box area sets S .number)
 unfolding afreshRow
-afresh-most boxed box area sets zero hb ha = row-most boxed box hb
-afresh-most boxed box area sets (suc S) hb ha = row-most (sets (suc S)) (area (suc S)) ha
+afresh-most hasBox box area sets zero hb ha = row-most hasBox box hb
+afresh-most hasBox box area sets (suc S) hb ha = row-most (sets (suc S)) (area (suc S)) ha
 
 -- Every number of the afresh table of a taken plan's open rows is finite.
 pub table-finite : TableFinite
-table-finite sets p long taken S hS =
-    afresh-most false zero64 (areaAt (openMethod sets) p) (sets p) S most-zero (plan-finite p long taken S hS .area)
+table-finite sets exclusives p long taken S hS =
+    afresh-most false zero64 (areaAt (openMethod sets exclusives) p) (sets p) S most-zero (plan-finite p long taken S .area)

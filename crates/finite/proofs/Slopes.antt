@@ -1,5 +1,5 @@
 -- The area of a set in the box together with its gradient is finite: what each part and each edge adds to the entries. Rests on
--- Boxed, for the breaks and the parts, and on Edges.
+-- Clipped, for the breaks and the parts, and on Edges.
 use mathlib.Core.Path.{_≡_, refl}
 use mathlib.Core.Bool.{Bool, true, false, cond}
 use mathlib.Core.List.{List, [], _∷_}
@@ -10,31 +10,31 @@ use lib.Dec.{lit≤, ltb}
 use lib.ListN.{length, getD, replicate}
 use lib.Ieee.{Float, ofBits}
 use Rattle.binary64.specs.Units.{mag, pow2}
-use Rattle.binary64.specs.Constants.{zero64}
+use Rattle.binary64.specs.Constants.{zero64, four64}
 use Rattle.binary64.specs.Magnitude.{Most, Least}
 use Rattle.binary64.proofs.Magnitude.{literal-least, most-weaken, most-zero, neg-most, add-most, sub-most, mul-most, div-most}
 use Rattle.elementary.specs.Sine.{sine as sin, cosine as cos}
-use Rattle.geometry.specs.Floats.{_+ᶠ_, _-ᶠ_, _*ᶠ_, _/ᶠ_}
+use Rattle.binary64.specs.Floats.{_+ᶠ_, _-ᶠ_, _*ᶠ_, _/ᶠ_}
 use Rattle.geometry.specs.declared.bounds.Bounds.{Bounds}
 use Rattle.geometry.specs.declared.circle.Circle.{Circle}
 use Rattle.boundary.specs.declared.arcs.BoundaryArc.{BoundaryArc}
-use Rattle.boundary.specs.Every.{Every, every-map, every-at}
-use Rattle.boundary.specs.Outline.{circlesOf, outline, noCircle}
+use Rattle.lists.specs.Every.{Every, every-map, every-at, every-replicate}
+use Rattle.intersections.specs.Members.{circlesOf, noCircle}
+use Rattle.boundary.specs.Outline.{outline}
 use Rattle.outline.specs.Area.{addAt, subAt}
 use Rattle.clip.specs.declared.edges.Edge.{Edge}
 use Rattle.inside.specs.Breaks.{breaks}
 use Rattle.inside.specs.Parts.{summed}
 use Rattle.inside.specs.Span.{Interval}
 use Rattle.clip.specs.Area.{emptyBox}
-use Rattle.clip.specs.Gradient.{WithGradient, with-gradient, subArcByDifferences, partSlopes, subArcWithGradient, addPartWithGradient, clippedArcIntegralWithGradient, addClippedArcWithGradient, addClippedArcsWithGradient, moved, fourᶠ, edgeSlopes, addSpanWithGradient, bottomEdge, rightEdge, topEdge, leftEdge, addEdgesWithGradient, clippedWithGradient, clippedOnto, clippedGradient}
+use Rattle.clip.specs.Gradient.{WithGradient, with-gradient, subArcByDifferences, partSlopes, subArcWithGradient, addPartWithGradient, clippedArcIntegralWithGradient, addClippedArcWithGradient, addClippedArcsWithGradient, moved, edgeSlopes, addSpanWithGradient, bottomEdge, rightEdge, topEdge, leftEdge, addEdgesWithGradient, clippedWithGradient, clippedOnto, clippedGradient}
 use Rattle.finite.specs.Arcs.{ShortArc}
 use Rattle.finite.specs.Open.{InDomain}
-use Rattle.finite.specs.Boxed.{BoxInDomain, GradientMost, ClippedGradientFinite, GradientInBoxFinite}
-use Rattle.finite.proofs.Every.{every-replicate}
-use Rattle.finite.proofs.Folds.{fold-after, pairs-after}
+use Rattle.finite.specs.Clipped.{BoxInDomain, GradientMost, ClippedGradientFinite, GradientClippedFinite}
+use Rattle.lists.proofs.Folds.{fold-after, pairs-after}
 use Rattle.finite.proofs.Open.{entry-add, entry-sub, outline-short}
 use Rattle.finite.proofs.Edges.{OneShort, edges-short}
-use Rattle.finite.proofs.Boxed.{Angle, breaks-most, breaks-few, sines-most, cosines-most, length-most, terms-most, half-most}
+use Rattle.finite.proofs.Clipped.{Angle, breaks-most, breaks-few, sines-most, cosines-most, length-most, terms-most, half-most}
 
 -- ---- looser bounds
 
@@ -131,7 +131,7 @@ module _ (box : Bounds) (cs : List Circle) (k : ℕ) (d : Every InDomain cs) (ro
 
 -- ---- edges
 
-four-least : Least 4 1074 fourᶠ
+four-least : Least 4 1074 four64
 unfolding ofBits mag pow2
 four-least = literal-least 0x4010_0000_0000_0000 4 1074 tt tt
 
@@ -145,7 +145,7 @@ edge-slopes-most : (e : Edge) (at k : ℕ) (l : Float) (g : List Float) → Most
     → k + 6843051072 ≤ 2 ^ 53 → Every (Most (k + 6843051072) 1074) (edgeSlopes e at l g)
 unfolding edgeSlopes
 edge-slopes-most e at k l g ha hl h room =
-    let share = e .across /ᶠ fourᶠ *ᶠ l in
+    let share = e .across /ᶠ four64 *ᶠ l in
     let most = mul-most (div-most ha four-least 20000 1074 refl (lit≤ tt) (lit≤ tt) (lit≤ tt) (lit≤ tt)) hl 1074 refl (lit≤ tt) (lit≤ tt) in
     let centre = moved (e .outward) g (cond (e .upright) at (at + 1)) l in
     let size = addAt centre (at + 2) share in
@@ -194,9 +194,9 @@ clipped-gradient-finite box all own arcs k g b domain members short few e room =
     record { sum = half-most (most .sum) (lit≤ tt) (lit≤ tt); entries = entries-weaken (round .grad) (most .entries) (omega arith) }
 
 -- By the members of a set, from zeros.
-pub gradient-in-box-finite : GradientInBoxFinite
+pub gradient-clipped-finite : GradientClippedFinite
 unfolding clippedGradient clippedOnto
-gradient-in-box-finite box ms b d few =
+gradient-clipped-finite box ms b d few =
     let zeros = replicate (length ms * 3 + 4) zero64 in
     clipped-gradient-finite box (circlesOf ms) (circlesOf ms) (outline ms) 0 zeros b d d (outline-short ms) few
     (every-replicate (Most 0 1074) (length ms * 3 + 4) zero64 most-zero) (lit≤ tt)

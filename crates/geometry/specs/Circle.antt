@@ -6,7 +6,7 @@ use Rattle.elementary.specs.Arctangent.{acos}
 use Rattle.binary64.specs.Constants.{pi, zero64, half64, two64}
 use Rattle.binary64.specs.Functions.{absolute, smallerOf}
 use Rattle.elementary.specs.Root.{root}
-use Rattle.geometry.specs.Floats.{_+ᶠ_, _-ᶠ_, _*ᶠ_, _/ᶠ_, _<ᶠ_, _≤ᶠ_, _=ᶠ_}
+use Rattle.binary64.specs.Floats.{_+ᶠ_, _-ᶠ_, _*ᶠ_, _/ᶠ_, _<ᶠ_, _≤ᶠ_, _=ᶠ_}
 use Rattle.geometry.specs.Point.{at, distance}
 use Rattle.geometry.specs.Meeting.{distinct}
 use Rattle.geometry.specs.declared.point.Point.{Point}

@@ -1,5 +1,4 @@
 -- What points, boxes and circles are: the Rust's float operations in the Rust's order.
-pub mod Floats
 pub mod Tolerances
 pub mod Point
 pub mod Bounds

@@ -5,7 +5,7 @@ use mathlib.Core.Bool.{_&&_, cond}
 use mathlib.Core.List.{List, [], _∷_}
 use mathlib.Core.Path.{_≡_, refl}
 use lib.ListN.{length}
-use Rattle.geometry.specs.Floats.{_=ᶠ_}
+use Rattle.binary64.specs.Floats.{_=ᶠ_}
 use Rattle.geometry.specs.Point.{at}
 use Rattle.geometry.specs.declared.point.Point.{Point}
 use Rattle.geometry.specs.declared.meeting.Meeting.{Meeting}

@@ -1,7 +1,7 @@
 -- Points and their distance (point.rs). Rests on hypot of elementary, of which only the name is used.
 use lib.Ieee.{Float}
 use Rattle.elementary.specs.Root.{hypot}
-use Rattle.geometry.specs.Floats.{_-ᶠ_}
+use Rattle.binary64.specs.Floats.{_-ᶠ_}
 use Rattle.geometry.specs.declared.point.Point.{Point}
 
 -- The point with these coordinates.

@@ -1,7 +1,7 @@
 -- A box by its centre and its sides (rectangle.rs): its area and its bounds.
 use lib.Ieee.{Float}
 use Rattle.binary64.specs.Constants.{two64}
-use Rattle.geometry.specs.Floats.{_+ᶠ_, _-ᶠ_, _*ᶠ_, _/ᶠ_}
+use Rattle.binary64.specs.Floats.{_+ᶠ_, _-ᶠ_, _*ᶠ_, _/ᶠ_}
 use Rattle.geometry.specs.Bounds.{extents}
 use Rattle.geometry.specs.declared.bounds.Bounds.{Bounds}
 use Rattle.geometry.specs.declared.point.Point.{Point}

@@ -12,7 +12,7 @@ use mir.Facts.{and-yes}
 use borrow.Author.Tests.{ltb-true, ltb-false}
 use Rattle.heads.specs.declared.Head.{Head}
 use Rattle.heads.specs.declared.Relation.the-variants.{Apart}
-use Rattle.heads.specs.Limits.{positionLimit, radiusLimit, positionInLimits, radiusInLimits, inLimits}
+use Rattle.heads.specs.Limits.{positionLimit, radiusLimit, positionInLimits, radiusInLimits, inLimits, isDrawn}
 use Rattle.heads.specs.Relation.{relation, meets, meetsOnce}
 use Rattle.heads.specs.Pair.{squaredDistance, aboveZero, radiusOf, relationOf, meetsOf, meetsOnceOf, greatest}
 use Rattle.heads.specs.Cases.{relation-is, relation-comm, meets-comm, meetsOnce-comm}
@@ -88,7 +88,7 @@ meetsOnceOf-comm a b =
     meetsOnce-comm (squaredDistance a b) (radiusOf a) (radiusOf b)
     ∙ ap (λ (D : ℕ). meetsOnce D (radiusOf b) (radiusOf a)) (squaredDistance-comm a b)
 
--- what the limits say of a head's numbers
+-- what the limits say of a drawn head's numbers
 pub record InLimits (h : Head) : Type 0 where
   pub x : natAbs (h .x) ≤ positionLimit
   pub y : natAbs (h .y) ≤ positionLimit
@@ -105,8 +105,8 @@ radius-bounds (pos n) h =
     let both = and-yes (leb 1 n) (leb n 20000) h in (leb→le 1 n (both .0), leb→le n 20000 (both .1), refl)
 radius-bounds (negsuc n) h = absurd h
 
--- a head within the limits has these bounds
-pub limits-of : (h : Head) → T (inLimits h) → InLimits h
+-- a drawn head has these bounds
+pub limits-of : (h : Head) → T (isDrawn h) → InLimits h
 limits-of h t =
     let xs = and-yes (positionInLimits (h .x)) (positionInLimits (h .y) && radiusInLimits (h .radius)) t in
     let ys = and-yes (positionInLimits (h .y)) (radiusInLimits (h .radius)) (xs .1) in
@@ -119,17 +119,24 @@ limits-of h t =
       whole = r .2;
     }
 
+-- an accepted head lies within the limits, whatever its radius
+position-of : (h : Head) → T (inLimits h) → (natAbs (h .x) ≤ positionLimit) × (natAbs (h .y) ≤ positionLimit)
+position-of h t =
+    let xs = and-yes (positionInLimits (h .x)) (positionInLimits (h .y) && radiusInLimits (h .radius)) t in
+    let ys = and-yes (positionInLimits (h .y)) (radiusInLimits (h .radius)) (xs .1) in
+    (position-bound (h .x) (xs .0), position-bound (h .y) (ys .0))
+
 -- two positions within the limits lie at most 40000 apart
 position-diff : (v w : ℤ) → natAbs v ≤ positionLimit → natAbs w ≤ positionLimit → natAbs (v -ℤ w) ≤ 40000
 position-diff v w hv hw = omega (arith, natAbs-diff v w, far-natAbs v w)
 
--- two heads of the domain: D is at most 2 × 40000², which is below 2^32
+-- two accepted heads: D is at most 2 × 40000², which is below 2^32
 pub distance-in-limits : (a b : Head) → T (inLimits a) → T (inLimits b) → squaredDistance a b ≤ 2 * (40000 * 40000)
 distance-in-limits a b ha hb =
-    let la = limits-of a ha in
-    let lb = limits-of b hb in
-    let dx = position-diff (a .x) (b .x) (la .x) (lb .x) in
-    let dy = position-diff (a .y) (b .y) (la .y) (lb .y) in
+    let la = position-of a ha in
+    let lb = position-of b hb in
+    let dx = position-diff (a .x) (b .x) (la .0) (lb .0) in
+    let dy = position-diff (a .y) (b .y) (la .1) (lb .1) in
     omega (arith, mul-le-mul dx dx, mul-le-mul dy dy)
 
 pub distance-fits : (a b : Head) → T (inLimits a) → T (inLimits b) → squaredDistance a b < 2 ^ 32

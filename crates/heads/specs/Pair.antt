@@ -1,5 +1,6 @@
 -- The relation of two heads by their fields, over exact whole numbers, whatever the fields are.
-use Prim.Native.Nat.{ℕ, _+_, _*_}
+use Prim.Native.Nat.{ℕ, _+_, _-_, _*_, _^_}
+use mathlib.Core.Path.{_≡_, refl}
 use mathlib.Core.Bool.{Bool}
 use lib.IntN.{ℤ, pos, negsuc, natAbs, _-ℤ_}
 use Rattle.heads.specs.declared.Head.{Head}
@@ -23,6 +24,9 @@ squaredDistance a b =
 -- the greatest u64
 abbrev pub greatest : ℕ
 greatest = 0xFFFF_FFFF_FFFF_FFFF
+
+pub greatest-is : greatest ≡ 2 ^ 64 - 1
+greatest-is = refl
 
 -- how two heads lie to each other
 abbrev pub relationOf : Head → Head → Relation

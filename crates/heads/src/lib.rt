@@ -4,9 +4,9 @@ ghost use mathlib.Core.Path.{_≡_};
 ghost use Prim.Native.Nat.{_+_, _*_, min};
 ghost use lib.Dec.{ltb};
 ghost use lib.IntN.{natAbs, _-ℤ_};
-ghost use Rattle.heads.specs.Limits.{within, positionInLimits, radiusInLimits, sideInLimits, inLimits};
-ghost use Rattle.heads.specs.Relation.{gap, relation, number, points, meeting, touching, covering};
-ghost use Rattle.heads.specs.Pair.{aboveZero, squaredDistance, greatest, relationOf, meetsOf, meetsOnceOf, containsOf};
+ghost use Rattle.heads.specs.Limits.{within, positionInLimits, radiusInLimits, sideInLimits};
+ghost use Rattle.heads.specs.Relation.{gap, relation, number, meeting};
+ghost use Rattle.heads.specs.Pair.{aboveZero, squaredDistance, greatest, relationOf, meetsOf};
 
 // A head: a circle about (x, y), in centimetres.
 pub struct Head {
@@ -72,19 +72,6 @@ pub fn side_in_limits(v: i32) -> bool
     lies_within(SIDE_LEAST, SIDE_LIMIT, v)
 }
 
-// Whether a head is one of document 01's domain.
-pub fn in_limits(h: Head) -> bool
-    ensures { λ r. ⌜ r ≡ inLimits h ⌝ }
-{
-    if !position_in_limits(h.x) {
-        return false;
-    }
-    if !position_in_limits(h.y) {
-        return false;
-    }
-    radius_in_limits(h.radius)
-}
-
 // Whether d is below the square of s, which need not fit: from 2^32 on it is above every d.
 fn below_square(d: u64, s: u64) -> bool
     ensures { λ r. ⌜ r ≡ ltb d (s * s) ⌝ }
@@ -141,22 +128,8 @@ pub fn relation_number(r: Relation) -> usize
     }
 }
 
-// How many meeting points two heads in this relation have.
-pub fn meeting_points(r: Relation) -> usize
-    ensures { λ n. ⌜ n ≡ points r ⌝ }
-{
-    match r {
-        Relation::Apart => 0,
-        Relation::TouchingOutside => 1,
-        Relation::Crossing => 2,
-        Relation::TouchingInside => 1,
-        Relation::Holding => 0,
-        Relation::Identical => 0,
-    }
-}
-
 // Whether two heads in this relation meet.
-pub fn is_meeting(r: Relation) -> bool
+fn is_meeting(r: Relation) -> bool
     ensures { λ b. ⌜ b ≡ meeting r ⌝ }
 {
     match r {
@@ -166,34 +139,6 @@ pub fn is_meeting(r: Relation) -> bool
         Relation::TouchingInside => true,
         Relation::Holding => false,
         Relation::Identical => false,
-    }
-}
-
-// Whether two heads in this relation meet in one point.
-pub fn is_touching(r: Relation) -> bool
-    ensures { λ b. ⌜ b ≡ touching r ⌝ }
-{
-    match r {
-        Relation::Apart => false,
-        Relation::TouchingOutside => true,
-        Relation::Crossing => false,
-        Relation::TouchingInside => true,
-        Relation::Holding => false,
-        Relation::Identical => false,
-    }
-}
-
-// Whether of two heads in this relation the larger contains the other.
-pub fn is_covering(r: Relation) -> bool
-    ensures { λ b. ⌜ b ≡ covering r ⌝ }
-{
-    match r {
-        Relation::Apart => false,
-        Relation::TouchingOutside => false,
-        Relation::Crossing => false,
-        Relation::TouchingInside => true,
-        Relation::Holding => true,
-        Relation::Identical => true,
     }
 }
 
@@ -224,7 +169,7 @@ fn capped_sum(a: u64, b: u64) -> u64
 }
 
 // The squared distance of the centres, or the greatest u64 where it is above that, which no two heads within the limits reach.
-pub fn squared_distance(a: Head, b: Head) -> u64
+fn squared_distance(a: Head, b: Head) -> u64
     ensures { λ r. ⌜ r ≡ min (squaredDistance a b) greatest ⌝ }
 {
     capped_sum(squared_difference(a.x, b.x), squared_difference(a.y, b.y))
@@ -256,21 +201,4 @@ pub fn meets(a: Head, b: Head) -> bool
     ensures { λ r. ⌜ r ≡ meetsOf a b ⌝ }
 {
     is_meeting(relation_of(a, b))
-}
-
-// Whether two heads meet in one point.
-pub fn meets_in_one_point(a: Head, b: Head) -> bool
-    ensures { λ r. ⌜ r ≡ meetsOnceOf a b ⌝ }
-{
-    is_touching(relation_of(a, b))
-}
-
-// Whether head a contains head b.
-pub fn contains(a: Head, b: Head) -> bool
-    ensures { λ r. ⌜ r ≡ containsOf a b ⌝ }
-{
-    if above_zero(a.radius) < above_zero(b.radius) {
-        return false;
-    }
-    is_covering(relation_of(a, b))
 }

@@ -1,22 +1,23 @@
 -- Laws of the span of an edge for the loop that goes through the circles of a set.
 use mathlib.Core.Path.{_≡_, refl, sym, ap, _∙_}
 use mathlib.Core.Bool.{Bool, true, false}
-use mathlib.Core.List.{List, [], _∷_, map, map-id}
-use Prim.Native.Nat.{ℕ, zero, suc, _+_, _≤_, _<_}
+use mathlib.Core.List.{List, [], map, map-id}
+use Prim.Native.Nat.{ℕ, _+_, _≤_, _<_}
 use native.Mathlib.Numerals.{add-one}
-use native.Mathlib.Omega.{arith}
 use lib.ListN.{length, getD, take, drop, drop-of-length-le}
 use lib.Seq.{drop-cons, getD-take}
 use lib.Ieee.{Float}
+use Rattle.lists.proofs.Lists.{getD-mapped}
 use Rattle.geometry.specs.declared.circle.Circle.{Circle}
-use Rattle.geometry.specs.Floats.{_+ᶠ_, _-ᶠ_}
-use Rattle.boundary.specs.Outline.{noCircle}
+use Rattle.binary64.specs.Floats.{_+ᶠ_, _-ᶠ_}
+use Rattle.intersections.specs.Members.{noCircle}
 use Rattle.inside.specs.Span.{misses, halfChord, missed, raised, lowered, lowEnd, highEnd, open-between, horizontalSpan, seen, verticalSpan}
 
 module _ (y lo hi : Float) (cs : List Circle) (i : ℕ) where
   -- the circle at i reaches the line: the ends move to its chord, and the rest go on
   span-on : i < length cs → misses y (getD cs i noCircle) ≡ false
-      → horizontalSpan y (raised lo (getD cs i noCircle .center .x -ᶠ halfChord y (getD cs i noCircle))) (lowered hi (getD cs i noCircle .center .x +ᶠ halfChord y (getD cs i noCircle))) (drop (i + 1) cs)
+      → horizontalSpan y (raised lo (getD cs i noCircle .center .x -ᶠ halfChord y (getD cs i noCircle)))
+      (lowered hi (getD cs i noCircle .center .x +ᶠ halfChord y (getD cs i noCircle))) (drop (i + 1) cs)
       ≡ horizontalSpan y lo hi (drop i cs)
   unfolding horizontalSpan missed lowEnd highEnd
   span-on h e = rw (drop-cons cs i noCircle h, e, add-one i)
@@ -37,17 +38,11 @@ module _ (y lo hi : Float) (cs : List Circle) (i : ℕ) where
   unfolding horizontalSpan missed lowEnd highEnd
   span-end h = rw (drop-of-length-le cs h)
 
--- an element of a mapped list
-pub getD-map : {A B : Type 0} (f : A → B) (l : List A) (i : ℕ) (d : A) (e : B) → i < length l → getD (map f l) i e ≡ f (getD l i d)
-getD-map f [] i d e h = absurd (omega arith)
-getD-map f (x ∷ l) zero d e h = refl
-getD-map f (x ∷ l) (suc i) d e h = getD-map f l i d e (omega arith)
-
 -- the circle at i as an edge sees it
 pub seen-at : (upright : Bool) (n : ℕ) (circles : List Circle) (i : ℕ) → i < n → i < length (take n circles)
     → seen upright (getD circles i noCircle) ≡ getD (map (seen upright) (take n circles)) i noCircle
 seen-at upright n circles i h k =
-    sym (getD-map (seen upright) (take n circles) i noCircle noCircle k ∙ ap (seen upright) (getD-take n circles i noCircle h))
+    sym (getD-mapped (seen upright) (take n circles) i noCircle noCircle k ∙ ap (seen upright) (getD-take n circles i noCircle h))
 
 -- a horizontal edge sees the circles as they are
 pub seen-level : (cs : List Circle) → map (seen false) cs ≡ cs

@@ -6,10 +6,10 @@ use Rattle.elementary.specs.Arctangent.{acos, asin}
 use Rattle.geometry.specs.declared.bounds.Bounds.{Bounds}
 use Rattle.geometry.specs.declared.circle.Circle.{Circle}
 use Rattle.geometry.specs.Tolerances.{clipAngle}
-use Rattle.regions.specs.Row.{keep}
+use Rattle.lists.specs.Lists.{keep}
 use Rattle.binary64.specs.Constants.{zero64, one64, pi, twoPi}
 use Rattle.binary64.specs.Functions.{absolute}
-use Rattle.geometry.specs.Floats.{_+ᶠ_, _-ᶠ_, _*ᶠ_, _/ᶠ_, _<ᶠ_, _≤ᶠ_}
+use Rattle.binary64.specs.Floats.{_+ᶠ_, _-ᶠ_, _*ᶠ_, _/ᶠ_, _<ᶠ_, _≤ᶠ_}
 use Rattle.boundary.specs.Sort.{sorted}
 use Rattle.boundary.specs.declared.arcs.BoundaryArc.{BoundaryArc}
 

@@ -1,13 +1,13 @@
 // The span of an edge of the box: the part of it that every head of a set waters. The Rust has an Option<(f64, f64)> here.
 // Rests on specs/Span.antt.
 use binary64::larger;
-use boundary::members::Members;
 use elementary::root::root;
 use geometry::circle::Circle;
 use geometry::point::Point;
+use intersections::members::Members;
 ghost use mathlib.Core.Path.{_≡_};
 ghost use mathlib.Core.List.{map};
-ghost use Rattle.boundary.specs.Lists.{circleList};
+ghost use Rattle.intersections.specs.Counted.{circleList};
 ghost use Rattle.inside.specs.Span.{spans, misses, halfChord, raised, lowered, open-between, seen, horizontalSpan, verticalSpan};
 
 // No span, or the low and the high end.
@@ -60,14 +60,7 @@ fn seen(upright: bool, c: Circle) -> Circle
     ensures { λ r. ⌜ r ≡ seen upright c ⌝ }
 {
     if upright {
-        let center = Point {
-            x: c.center.y,
-            y: c.center.x,
-        };
-        return Circle {
-            center: center,
-            radius: c.radius,
-        };
+        return Circle::new(Point::new(c.center.y, c.center.x), c.radius);
     }
     c
 }

@@ -1,16 +1,15 @@
 -- The set gathered from a test on heads has those heads and no others, and is the only such mask of its width.
-use Prim.Native.Nat.{ℕ, zero, suc, _+_, _-_, _*_, _^_, _≤_, _<_}
+use Prim.Native.Nat.{ℕ, zero, suc, _+_, _-_, _*_, _^_, _<_}
 use native.Mathlib.Nat.{one-mul, add-zero, eq-or-lt-of-le, le-of-suc-le-suc}
 use native.Mathlib.Omega.{arith}
 use mathlib.Core.Path.{_≡_, refl, sym, ap, _∙_}
-use mathlib.Core.Bool.{Bool, true, false, not, cond, _&&_, _||_, or-false, or-true, and-true}
+use mathlib.Core.Bool.{Bool, true, false, not, cond, _&&_, _||_, or-false, or-true}
 use mathlib.Core.Logic.{⊎-elim}
 use lib.Bits.{bitAnd, bitOr, or-lt, and-lt, or-shifted-r}
 use lib.Dec.{eqb, ltb}
-use lib.Pow.{pow-pos, pow-mono}
-use borrow.Author.Tests.{ltb-true, ltb-false, eq-eqb, ne-eqb, lt-ltb}
-use Rattle.masks.specs.Mask.{inSet, gather, single, below, union, intersection, withHead, withoutHead, shifted, complement}
-use Rattle.masks.specs.Operations.{in-ext, in-or, in-and, in-minus, in-beyond, in-shifted, in-of-zero, in-power, in-ones, bit-of-zero, shifted-lt, complement-lt}
+use borrow.Author.Tests.{ltb-true, ltb-false, eq-eqb, ne-eqb}
+use Rattle.masks.specs.Mask.{inSet, gather, single, withHead, withoutHead, shifted, complement}
+use Rattle.masks.specs.Operations.{in-ext, in-or, in-minus, in-beyond, in-shifted, in-power, shifted-lt, complement-lt}
 
 gather-step-lt : (w G : ℕ) (b : Bool) → G < 2 ^ w → G + cond b (2 ^ w) 0 < 2 ^ suc w
 gather-step-lt w G true h = omega arith
@@ -62,14 +61,6 @@ gather-unique w S p hs h = in-ext S (gather w p) (λ i. go i (ltb i w) refl)
 pub shifted-single : (w i : ℕ) → i < w → shifted w i ≡ single w i
 shifted-single w i h = gather-unique w (shifted w i) (λ j. eqb j i) (shifted-lt w i) (λ j k. in-shifted w i j h)
 
--- `S | T`
-pub or-union : (w S T : ℕ) → S < 2 ^ w → T < 2 ^ w → bitOr S T ≡ union w S T
-or-union w S T hs ht = gather-unique w (bitOr S T) (λ j. inSet S j || inSet T j) (or-lt w S T hs ht) (λ j k. in-or S T j)
-
--- `S & T`
-pub and-intersection : (w S T : ℕ) → S < 2 ^ w → T < 2 ^ w → bitAnd S T ≡ intersection w S T
-and-intersection w S T hs ht = gather-unique w (bitAnd S T) (λ j. inSet S j && inSet T j) (and-lt w S T hs ht) (λ j k. in-and S T j)
-
 -- `S | 1 << i`
 pub or-withHead : (w S i : ℕ) → S < 2 ^ w → i < w → bitOr S (shifted w i) ≡ withHead w S i
 or-withHead w S i hs h =
@@ -82,28 +73,3 @@ and-withoutHead w S i hs h =
     gather-unique w (bitAnd S (complement w (shifted w i))) (λ j. inSet S j && not (eqb j i))
     (and-lt w S (complement w (shifted w i)) hs (complement-lt w (shifted w i)))
     (λ j k. in-minus w S (shifted w i) j hs (shifted-lt w i) ∙ ap (λ (b : Bool). inSet S j && not b) (in-shifted w i j h))
-
--- `(1 << n) - 1`
-pub ones-below : (w n : ℕ) → n ≤ w → 2 ^ n - 1 ≡ below w n
-ones-below w n h = gather-unique w (2 ^ n - 1) (λ j. ltb j n) (omega (arith, pow-mono h, pow-pos n)) (λ j k. in-ones n j)
-
--- ---- a head of w or more is in no mask of width w
-
--- its single is empty; adding it or taking it away changes nothing
-pub single-beyond : (w i : ℕ) → w ≤ i → 0 ≡ single w i
-single-beyond w i h =
-    gather-unique w 0 (λ j. eqb j i) (pow-pos w) (λ j k. in-of-zero 0 j (bit-of-zero j) ∙ sym (ne-eqb j i (λ e. omega arith)))
-
-pub withHead-beyond : (w S i : ℕ) → S < 2 ^ w → w ≤ i → S ≡ withHead w S i
-withHead-beyond w S i hs h =
-    gather-unique w S (λ j. inSet S j || eqb j i) hs (λ j k. sym (simp (ne-eqb j i (λ e. omega arith), or-false)))
-
-pub withoutHead-beyond : (w S i : ℕ) → S < 2 ^ w → w ≤ i → S ≡ withoutHead w S i
-withoutHead-beyond w S i hs h =
-    gather-unique w S (λ j. inSet S j && not (eqb j i)) hs (λ j k. sym (simp (ne-eqb j i (λ e. omega arith), and-true)))
-
--- more than w heads below w: all of them
-pub below-beyond : (w n : ℕ) → w ≤ n → below w w ≡ below w n
-below-beyond w n h =
-    gather-unique w (below w w) (λ j. ltb j n) (gather-lt w (λ j. ltb j w))
-    (λ j k. in-gather w (λ j. ltb j w) j k ∙ lt-ltb j w k ∙ sym (lt-ltb j n (omega arith)))

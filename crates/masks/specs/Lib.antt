@@ -4,3 +4,4 @@ pub mod Mask
 pub mod Operations
 pub mod Size
 pub mod Subset
+pub mod Presence

@@ -1,16 +1,13 @@
 -- The lowest head of a set by the count of trailing zeros: it is in the set and none below it is; a set of one head is its single.
 use Prim.Native.Nat.{ℕ, zero, suc, _/_, _%_, _^_, _<_}
-use native.Mathlib.Nat.{eq-or-lt-of-le, le-of-suc-le-suc}
 use native.Mathlib.Omega.{arith}
 use mathlib.Core.Path.{_≡_, refl, sym, ap, _∙_}
 use mathlib.Core.Bool.{Bool, true, false}
-use mathlib.Core.Logic.{⊎-elim}
 use lib.Count.{ones, trailingZeros, under}
 use lib.Dec.{ltb}
 use borrow.Author.Tests.{ltb-true, ltb-false}
-use Rattle.masks.specs.declared.LowestHead.the-variants.{Head, Nobody}
-use Rattle.masks.specs.Mask.{bit, inSet, lowestOf, orElse, shifted}
-use Rattle.masks.specs.Operations.{bit-zero, bit-suc, bit-le, bit-of-zero, bit-power, bit-power-other, shifted-is, in-of-one, in-of-zero}
+use Rattle.masks.specs.Mask.{bit, shifted}
+use Rattle.masks.specs.Operations.{bit-zero, bit-suc, bit-le, bit-power, bit-power-other, shifted-is}
 use Rattle.masks.specs.Subset.{power-subset}
 use Rattle.masks.specs.Size.{ones-of-zero, ones-power, ones-subset-eq}
 
@@ -79,33 +76,3 @@ one-single w S h e = sym (ones-subset-eq (2 ^ trailingZeros w S) S (power-subset
 
     there : bit S (trailingZeros w S) ≡ 1
     there = trailing-in w S (trailing-lt w S (some (ltb 0 S) refl) h)
-
--- ---- the lowest head, by its definition
-
--- no head below w; and a head with none below it
-pub lowest-none : (w S : ℕ) → ((j : ℕ) → j < w → bit S j ≡ 0) → lowestOf w S ≡ Nobody
-unfolding lowestOf
-lowest-none zero S h = refl
-lowest-none (suc w) S h =
-    simp (lowest-none w S (λ j k. h j (omega arith)), in-of-zero S w (h w (omega arith)))
-
-pub lowest-head : (w S i : ℕ) → i < w → bit S i ≡ 1 → ((j : ℕ) → j < i → bit S j ≡ 0) → lowestOf w S ≡ Head i
-unfolding lowestOf
-lowest-head zero S i h one none = absurd (omega arith)
-lowest-head (suc w) S i h one none =
-    ⊎-elim (λ k. top k) (λ k. ap (λ l. orElse l (inSet S w) w) (lowest-head w S i k one none))
-    (eq-or-lt-of-le (le-of-suc-le-suc h))
-  where
-    top : i ≡ w → orElse (lowestOf w S) (inSet S w) w ≡ Head i
-    top k =
-        simp (lowest-none w S (λ j l. none j (omega arith)), in-of-one S w (ap (bit S) (sym k) ∙ one)) (ap Head (sym k))
-
--- trailing zeros of a set that is not empty
-pub lowest-trailing : (w S : ℕ) → 0 < S → S < 2 ^ w → lowestOf w S ≡ Head (trailingZeros w S)
-lowest-trailing w S p h =
-    let t = trailing-lt w S p h in
-    lowest-head w S (trailingZeros w S) t (trailing-in w S t) (λ j k. trailing-below w S j k)
-
--- the empty set has none
-pub lowest-empty : (w : ℕ) → lowestOf w 0 ≡ Nobody
-lowest-empty w = lowest-none w 0 (λ j k. bit-of-zero j)

@@ -2,9 +2,7 @@
 -- The definitions go bit by bit; the code's shifts and masks are proved equal to them.
 use Prim.Native.Nat.{ℕ, zero, suc, _+_, _-_, _*_, _/_, _%_, _^_, _≤_}
 use mathlib.Core.Bool.{Bool, true, not, cond, _&&_, _||_}
-use lib.Dec.{eqb, ltb}
-use Rattle.masks.specs.declared.LowestHead.{LowestHead}
-use Rattle.masks.specs.declared.LowestHead.the-variants.{Head, Nobody}
+use lib.Dec.{eqb}
 
 -- bit i of the mask S, 0 or 1
 unfoldable pub bit : ℕ → ℕ → ℕ
@@ -34,33 +32,11 @@ unfoldable pub size : ℕ → ℕ → ℕ
 size zero S = 0
 size (suc w) S = size w S + bit S w
 
--- the head found so far, or else head k if b holds
-abbrev pub orElse : LowestHead → Bool → ℕ → LowestHead
-orElse (Head i) b k = Head i
-orElse Nobody b k = cond b (Head k) Nobody
-
--- the lowest head below w in S
-unfoldable pub lowestOf : ℕ → ℕ → LowestHead
-lowestOf zero S = Nobody
-lowestOf (suc w) S = orElse (lowestOf w S) (inSet S w) w
-
 -- ---- sets of heads below w; a head of w or more is in none of them
 
 -- head i alone
 abbrev pub single : ℕ → ℕ → ℕ
 single w i = gather w (λ j. eqb j i)
-
--- the heads below n
-abbrev pub below : ℕ → ℕ → ℕ
-below w n = gather w (λ j. ltb j n)
-
--- the heads of S or T
-abbrev pub union : ℕ → ℕ → ℕ → ℕ
-union w S T = gather w (λ j. inSet S j || inSet T j)
-
--- the heads of both S and T
-abbrev pub intersection : ℕ → ℕ → ℕ → ℕ
-intersection w S T = gather w (λ j. inSet S j && inSet T j)
 
 -- S with head i
 abbrev pub withHead : ℕ → ℕ → ℕ → ℕ

@@ -291,5 +291,10 @@ in-ones n j = go (ltb j n) refl
   where
     go : (b : Bool) → ltb j n ≡ b → inSet (2 ^ n - 1) j ≡ b
     go true e =
-        in-of-one (2 ^ n - 1) j (omega (arith, bit-complement n 0 j (pow-pos n) (ltb-true j n e), bit-of-zero j, ap (λ (m : ℕ). bit m j) (sub-zero (2 ^ n - 1))))
+        in-of-one (2 ^ n - 1) j (omega (
+          arith,
+          bit-complement n 0 j (pow-pos n) (ltb-true j n e),
+          bit-of-zero j,
+          ap (λ (m : ℕ). bit m j) (sub-zero (2 ^ n - 1)),
+        ))
     go false e = in-beyond n (2 ^ n - 1) j (omega (arith, pow-pos n)) (ltb-false j n e)

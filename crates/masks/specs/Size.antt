@@ -10,7 +10,8 @@ use lib.Count.{ones, ones-step}
 use lib.Dec.{eqb}
 use borrow.Author.Tests.{eqb-true, eqb-false, not-true}
 use Rattle.masks.specs.Mask.{bit, Subset, size, subset, strictSubset, shifted, complement}
-use Rattle.masks.specs.Operations.{bit-zero, bit-suc, bit-and, bit-or, bit-ext, shifted-is, test-mask, bit-with, bit-with-other, bit-without, bit-without-other}
+use Rattle.masks.specs.Operations.{bit-zero, bit-suc, bit-and, bit-or, bit-ext, shifted-is, test-mask, bit-with, bit-with-other, bit-without}
+use Rattle.masks.specs.Operations.{bit-without-other}
 use Rattle.masks.specs.Subset.{and-both, subset-yes}
 
 -- the empty set has no heads

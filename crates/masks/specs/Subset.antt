@@ -10,7 +10,8 @@ use lib.Bits.{bitAnd, bitOr}
 use lib.Dec.{T, eqb, ltb}
 use borrow.Author.Tests.{ltb-true, ltb-false, eqb-true, eqb-false, eq-eqb, ne-eqb}
 use Rattle.masks.specs.Mask.{bit, inSet, Subset, every, subset, shifted, complement}
-use Rattle.masks.specs.Operations.{bit-zero, bit-suc, bit-le, bit-and, bit-or, bit-ext, bit-minus, bit-beyond, bit-power-other, shifted-lt, bit-with, bit-without, in-of-one, one-of-in, zero-of-in}
+use Rattle.masks.specs.Operations.{bit-zero, bit-suc, bit-le, bit-and, bit-or, bit-ext, bit-minus, bit-beyond, bit-power-other, shifted-lt}
+use Rattle.masks.specs.Operations.{bit-with, bit-without, in-of-one, one-of-in, zero-of-in}
 
 -- an order on sets
 pub subset-refl : (S : ℕ) → Subset S S
@@ -50,7 +51,14 @@ subset-of-and S T e i = omega (arith, bit-and S T i, ap (λ (n : ℕ). bit n i) 
 pub subset-le : (S T : ℕ) → Subset S T → S ≤ T
 subset-le =
     bin-ind (λ (n : ℕ). (T : ℕ) → Subset n T → n ≤ T) (λ T h. omega arith)
-    (λ n ih T h. omega (arith, ih (T / 2) (λ i. subst (λ (a : ℕ). a ≤ bit (T / 2) i) (bit-suc n i) (subst (λ (b : ℕ). bit n (suc i) ≤ b) (bit-suc T i) (h (suc i)))), bit-zero n, bit-zero T, h 0))
+    (λ n ih T h. omega (
+      arith,
+      ih (T / 2) (λ i. subst (λ (a : ℕ). a ≤ bit (T / 2) i) (bit-suc n i)
+          (subst (λ (b : ℕ). bit n (suc i) ≤ b) (bit-suc T i) (h (suc i)))),
+      bit-zero n,
+      bit-zero T,
+      h 0,
+    ))
 
 -- a strict subset is smaller as a number
 pub subset-lt : (S T : ℕ) → Subset S T → (S ≡ T → ⊥) → S < T
@@ -99,12 +107,12 @@ and-both true b e = (refl, e)
 and-both false b e = absurd (subst T (sym e) tt)
 
 -- the test holds exactly if it holds at each head below w
-pub every-at : (w : ℕ) (p : ℕ → Bool) → every w p ≡ true → (i : ℕ) → i < w → p i ≡ true
+pub every-below : (w : ℕ) (p : ℕ → Bool) → every w p ≡ true → (i : ℕ) → i < w → p i ≡ true
 unfolding every
-every-at zero p e i h = absurd (omega arith)
-every-at (suc w) p e i h =
+every-below zero p e i h = absurd (omega arith)
+every-below (suc w) p e i h =
     let both = and-both (every w p) (p w) e in
-    ⊎-elim (λ k. ap p k ∙ both .1) (λ k. every-at w p (both .0) i k) (eq-or-lt-of-le (le-of-suc-le-suc h))
+    ⊎-elim (λ k. ap p k ∙ both .1) (λ k. every-below w p (both .0) i k) (eq-or-lt-of-le (le-of-suc-le-suc h))
 
 pub every-of : (w : ℕ) (p : ℕ → Bool) → ((i : ℕ) → i < w → p i ≡ true) → every w p ≡ true
 unfolding every
@@ -124,7 +132,7 @@ subset-of-test w S U hs e = subset-by-heads S U (λ i f. go i f (ltb i w) refl)
   where
     go : (i : ℕ) → inSet S i ≡ true → (b : Bool) → ltb i w ≡ b → inSet U i ≡ true
     go i f true k =
-        implied (inSet S i) (inSet U i) (every-at w (λ j. not (inSet S j) || inSet U j) e i (ltb-true i w k)) f
+        implied (inSet S i) (inSet U i) (every-below w (λ j. not (inSet S j) || inSet U j) e i (ltb-true i w k)) f
     go i f false k = absurd (omega (arith, one-of-in S i f, bit-beyond w S i hs (ltb-false i w k)))
 
 test-of-subset : (w S U : ℕ) → Subset S U → subset w S U ≡ true

@@ -2,7 +2,7 @@
 -- in which an arc names one; an arc of no circle of the list adds nothing.
 use Prim.Native.Nat.{ℕ, _+_, _*_}
 use mathlib.Core.Bool.{cond}
-use mathlib.Core.List.{List, [], _∷_}
+use mathlib.Core.List.{List, foldl}
 use lib.Dec.{ltb}
 use lib.ListN.{length, getD, set, replicate}
 use lib.Ieee.{Float, nan}
@@ -11,8 +11,9 @@ use Rattle.geometry.specs.declared.circle.Circle.{Circle}
 use Rattle.boundary.specs.declared.arcs.BoundaryArc.{BoundaryArc}
 use Rattle.binary64.specs.Constants.{zero64, half64}
 use Rattle.binary64.specs.Functions.{absolute, signumOf}
-use Rattle.geometry.specs.Floats.{_+ᶠ_, _-ᶠ_, _*ᶠ_}
-use Rattle.boundary.specs.Outline.{Member, noCircle, circlesOf, outline}
+use Rattle.binary64.specs.Floats.{_+ᶠ_, _-ᶠ_, _*ᶠ_}
+use Rattle.intersections.specs.Members.{Member, noCircle, circlesOf}
+use Rattle.boundary.specs.Outline.{outline}
 
 -- ---- area
 
@@ -30,15 +31,13 @@ unfoldable pub addArc : List Circle → Float → BoundaryArc → Float
 unfolding arcTerms
 addArc cs total arc = cond (ltb (arc .circle) (length cs)) (arcTerms total (getD cs (arc .circle) noCircle) arc) total
 
--- the sum over the arcs, onto a sum
-unfoldable pub addArcs : List Circle → Float → List BoundaryArc → Float
-unfolding addArc
-addArcs cs total [] = total
-addArcs cs total (arc ∷ arcs) = addArcs cs (addArc cs total arc) arcs
+-- the arcs one after another, onto a sum
+abbrev pub addArcs : List Circle → Float → List BoundaryArc → Float
+addArcs cs = foldl (addArc cs)
 
 -- the area that the arcs enclose
 unfoldable pub areaOf : List Circle → List BoundaryArc → Float
-unfolding addArcs
+unfolding addArc
 areaOf cs arcs = half64 *ᶠ addArcs cs zero64 arcs
 
 -- ---- gradient: x, y and radius of each circle in turn
@@ -64,11 +63,9 @@ unfoldable pub addSlopes : List Circle → List Float → BoundaryArc → List F
 unfolding arcSlopes
 addSlopes cs g arc = cond (ltb (arc .circle) (length cs)) (arcSlopes g (getD cs (arc .circle) noCircle) arc) g
 
--- the gradient of the arcs, added to a gradient
-unfoldable pub addGradient : List Circle → List Float → List BoundaryArc → List Float
-unfolding addSlopes
-addGradient cs g [] = g
-addGradient cs g (arc ∷ arcs) = addGradient cs (addSlopes cs g arc) arcs
+-- the arcs one after another, onto a gradient
+abbrev pub addGradient : List Circle → List Float → List BoundaryArc → List Float
+addGradient cs = foldl (addSlopes cs)
 
 -- ---- of a set: functions of the list of its members
 
@@ -79,5 +76,5 @@ openArea ms = areaOf (circlesOf ms) (outline ms)
 
 -- its gradient, by position
 unfoldable pub openGradient : List Member → List Float
-unfolding addGradient outline
+unfolding addSlopes outline
 openGradient ms = addGradient (circlesOf ms) (replicate (3 * length ms) zero64) (outline ms)

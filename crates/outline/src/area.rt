@@ -6,25 +6,26 @@ use boundary::arcs::Candidate;
 use boundary::arcs::full_circle;
 use boundary::candidates::arc_from;
 use boundary::candidates::whole_circle;
-use boundary::members::Members;
 use boundary::members::angles_for;
-use boundary::members::members_of;
-use boundary::points::Intersections;
 use boundary::sort::Angles;
 use boundary::sort::count;
 use elementary::sine::cos;
 use elementary::sine::sin;
 use geometry::circle::Circle;
+use intersections::members::Members;
+use intersections::members::members_of;
+use intersections::points::Intersections;
 ghost use mathlib.Core.Path.{_≡_};
 ghost use lib.ListN.{take};
 ghost use Rattle.boundary.specs.Outline.{arcsAt, outlineFrom};
 ghost use Rattle.binary64.specs.Constants.{zero64};
 ghost use Rattle.outline.specs.Area.{arcTerms, addArc, addArcs, areaOf, openArea};
-ghost use Rattle.boundary.specs.Set.{membersOf, membersWith};
-ghost use Rattle.boundary.specs.Lists.{angleList, pointList, headList, circleList, candidateList, arcList};
+ghost use Rattle.intersections.specs.Members.{membersOf, membersWith};
+ghost use Rattle.intersections.specs.Counted.{pointList, headList, circleList};
+ghost use Rattle.boundary.specs.Counted.{angleList, candidateList, arcList};
 
 // The three terms of an arc of a circle, added to a sum.
-pub fn arc_terms(total: f64, c: Circle, arc: BoundaryArc) -> f64
+fn arc_terms(total: f64, c: Circle, arc: BoundaryArc) -> f64
     ensures { λ r. ⌜ r ≡ arcTerms total c arc ⌝ }
 {
     let r = c.radius;
@@ -36,7 +37,7 @@ pub fn arc_terms(total: f64, c: Circle, arc: BoundaryArc) -> f64
 }
 
 // An arc added to a sum; one of no circle adds nothing.
-pub fn add_arc(total: f64, circles: [Circle; 10], n: usize, arc: BoundaryArc) -> f64
+fn add_arc(total: f64, circles: [Circle; 10], n: usize, arc: BoundaryArc) -> f64
     ensures { λ r. ⌜ r ≡ addArc (take n circles) total arc ⌝ }
 {
     let at = arc.circle;

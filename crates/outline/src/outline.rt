@@ -5,13 +5,13 @@ use boundary::arcs::Candidate;
 use boundary::arcs::full_circle;
 use boundary::candidates::arc_from;
 use boundary::candidates::whole_circle;
-use boundary::members::Members;
 use boundary::members::angles_for;
-use boundary::members::members_of;
-use boundary::points::Intersections;
 use boundary::sort::Angles;
 use boundary::sort::count;
 use geometry::circle::Circle;
+use intersections::members::Members;
+use intersections::members::members_of;
+use intersections::points::Intersections;
 ghost use mathlib.Core.Path.{_≡_};
 ghost use mathlib.Core.Bool.{cond};
 ghost use mathlib.Core.List.{[], _∷_, _++_, map};
@@ -19,11 +19,13 @@ ghost use Prim.Native.Nat.{_+_};
 ghost use lib.Dec.{ltb};
 ghost use lib.ListN.{length, take};
 ghost use Rattle.boundary.specs.Outline.{arcsAt, outlineFrom};
-ghost use Rattle.boundary.specs.Set.{membersWith, numbered, arcsHeld, regionArcs};
-ghost use Rattle.boundary.specs.Lists.{angleList, pointList, headList, circleList, candidateList, arcList};
+ghost use Rattle.intersections.specs.Members.{membersWith};
+ghost use Rattle.boundary.specs.Set.{numbered, arcsHeld, regionArcs};
+ghost use Rattle.intersections.specs.Counted.{pointList, headList, circleList};
+ghost use Rattle.boundary.specs.Counted.{angleList, candidateList, arcList};
 
 // No arcs; the places are filled with some arc.
-pub fn no_arcs(filler: BoundaryArc) -> Arcs
+fn no_arcs(filler: BoundaryArc) -> Arcs
     ensures { λ r. ⌜ (r .n ≡ 0) × (arcList r ≡ []) ⌝ }
 {
     let all = [filler; 180];
@@ -31,7 +33,7 @@ pub fn no_arcs(filler: BoundaryArc) -> Arcs
 }
 
 // An arc more, while there is room.
-pub fn push(arcs: Arcs, arc: BoundaryArc) -> Arcs
+fn push(arcs: Arcs, arc: BoundaryArc) -> Arcs
     ensures { λ r. ⌜ arcList r ≡ take arcsHeld (arcList arcs ++ (arc ∷ [])) ⌝ }
     ensures { λ r. ⌜ r .n ≡ cond (ltb (arcs .n) arcsHeld) (arcs .n + 1) (arcs .n) ⌝ }
 {
@@ -45,7 +47,7 @@ pub fn push(arcs: Arcs, arc: BoundaryArc) -> Arcs
 }
 
 // The arc of a member as the arc of its head.
-pub fn numbered(arc: BoundaryArc, set: Members) -> BoundaryArc
+fn numbered(arc: BoundaryArc, set: Members) -> BoundaryArc
     ensures { λ r. ⌜ r ≡ numbered (headList set) arc ⌝ }
 {
     let mut renamed = arc;

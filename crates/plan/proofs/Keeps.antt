@@ -5,28 +5,31 @@ use mathlib.Core.List.{[], _∷_}
 use native.Mathlib.Decide.{ℕ-discrete}
 use native.Mathlib.Omega.{arith}
 use lib.ListN.{length, getD, set, length-set}
+use Rattle.lists.specs.Run.{after}
 use lib.Seq.{getD-set-same, getD-set-other}
 use Rattle.plan.specs.declared.Answer.{Answer}
 use Rattle.plan.specs.declared.Answer.the-variants.{Taken, Refused}
 use Rattle.plan.specs.declared.Edit.{Edit}
 use Rattle.plan.specs.declared.Lent.{Lent}
-use Rattle.plan.specs.declared.Needed.{Needed}
 use Rattle.plan.specs.declared.Plan.{Plan}
 use Rattle.plan.specs.Checks.{editAnswer}
 use Rattle.plan.specs.Limits.{HeadWithin, noHead, Acceptable}
-use Rattle.plan.specs.Book.{headOf, applied, leaves, entered, book, Keeps, BookKeeps, AppliedAcceptable, BookAcceptable}
+use Rattle.plan.specs.Book.{headOf, applied, leaves, bookStep, Keeps, AppliedHeads, BookKeeps, AppliedAcceptable, BookAcceptable}
 use Rattle.plan.proofs.Exactly.{edit-taken}
 
 entered-keeps : (p : Plan) (e : Edit) (a : Answer) → Keeps p (leaves a p (applied p e))
 entered-keeps p e Taken = record { n = refl; ground = refl; room = length-set (p .heads) (e .head) (headOf e) }
 entered-keeps p e (Refused r at) = record { n = refl; ground = refl; room = refl }
 
+pub applied-heads : AppliedHeads
+applied-heads p e = refl
+
 pub book-keeps : BookKeeps
-unfolding book
-book-keeps needed p [] = record { n = refl; ground = refl; room = refl }
-book-keeps needed p (e ∷ es) =
-    let one = entered-keeps p (e .edit) (editAnswer p (e .edit) needed (e .lent)) in
-    let rest = book-keeps needed (entered p (e .edit) needed (e .lent)) es in
+unfolding after
+book-keeps p [] = record { n = refl; ground = refl; room = refl }
+book-keeps p (e ∷ es) =
+    let one = entered-keeps p (e .edit) (editAnswer p (e .edit) (e .lent)) in
+    let rest = book-keeps (bookStep p e .left) es in
     record { n = rest .n ∙ one .n; ground = rest .ground ∙ one .ground; room = rest .room ∙ one .room }
 
 pub applied-acceptable : AppliedAcceptable
@@ -49,16 +52,16 @@ applied-acceptable p e long ok edit =
           ];
     }
 
-entered-acceptable : (needed : Needed) (p : Plan) (e : Edit) (lent : Lent) (a : Answer) → editAnswer p e needed lent ≡ a → length (p .heads) ≡ 10 → Acceptable p → Acceptable (leaves a p (applied p e))
-entered-acceptable needed p e lent Taken taken long ok =
-    applied-acceptable p e long ok (edit-taken p e needed lent long .0 taken .1)
-entered-acceptable needed p e lent (Refused r at) refused long ok = ok
+entered-acceptable : (p : Plan) (e : Edit) (lent : Lent) (a : Answer) → editAnswer p e lent ≡ a → length (p .heads) ≡ 10 → Acceptable p → Acceptable (leaves a p (applied p e))
+entered-acceptable p e lent Taken taken long ok =
+    applied-acceptable p e long ok (edit-taken p e lent long .0 taken .1)
+entered-acceptable p e lent (Refused r at) refused long ok = ok
 
 pub book-acceptable : BookAcceptable
-unfolding book
-book-acceptable needed p [] long ok = ok
-book-acceptable needed p (e ∷ es) long ok =
-    let answer = editAnswer p (e .edit) needed (e .lent) in
-    book-acceptable needed (entered p (e .edit) needed (e .lent)) es
+unfolding after
+book-acceptable p [] long ok = ok
+book-acceptable p (e ∷ es) long ok =
+    let answer = editAnswer p (e .edit) (e .lent) in
+    book-acceptable (bookStep p e .left) es
     (entered-keeps p (e .edit) answer .room ∙ long)
-    (entered-acceptable needed p (e .edit) (e .lent) answer refl long ok)
+    (entered-acceptable p (e .edit) (e .lent) answer refl long ok)

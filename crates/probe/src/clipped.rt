@@ -2,24 +2,28 @@
 // meeting points out anew.
 ghost use mathlib.Core.Path.{_≡_};
 ghost use Rattle.clip.specs.Area.{clippedAreaOf, clippedArea};
+ghost use Rattle.clip.specs.Arc.{namedArcIntegralWithGradient};
 ghost use Rattle.clip.specs.Gradient.{with-gradient, clippedWithGradient, clippedOnto};
 ghost use Rattle.inside.specs.Span.{horizontalSpan, verticalSpan};
-ghost use Rattle.probe.specs.Lists as spec;
+ghost use Rattle.probe.specs.Handed as spec;
 use crate::Extents;
-use crate::lists::Circles;
-use crate::lists::Ends;
-use crate::lists::bounds_of;
-use crate::lists::circles_of;
-use crate::lists::ends_of;
+use crate::given::Arc;
+use crate::given::Circles;
+use crate::given::Ends;
+use crate::given::boundary_arc;
+use crate::given::bounds_of;
+use crate::given::circles_of;
+use crate::given::ends_of;
 use crate::outlines::arcs_of;
 use crate::outlines::points_of;
-use boundary::members::members_of;
 use clip::area::area_from_clipped_arcs;
 use clip::area::clipped_region_area;
 use clip::gradient::area_and_gradient_from_clipped_arcs;
 use clip::gradient::clipped_region_area_and_gradient;
+use clip::slopes::clipped_arc_integral_with_gradient;
 use inside::span::horizontal_edge_inside_interval;
 use inside::span::vertical_edge_inside_interval;
+use intersections::members::members_of;
 
 // The span of the edge at y from x_min to x_max.
 #[no_mangle]
@@ -51,6 +55,26 @@ pub extern "C" fn probe_vertical_span(
 {
     let set = members_of(mask, circles_of(circles), n_sets);
     ends_of(vertical_edge_inside_interval(x, y_min, y_max, set))
+}
+
+// The integral along the parts in the box of an arc, and its gradient by head numbers, added to grad.
+#[no_mangle]
+pub extern "C" fn probe_clipped_arc_integral_with_gradient(
+    circles: Circles,
+    n_sets: usize,
+    arc: Arc,
+    sides: Extents,
+    grad: &mut [f64],
+) -> f64
+    ensures { λ r. ⌜ with-gradient r (now (grad .exit)) ≡ namedArcIntegralWithGradient (spec.boundsOf sides) (spec.circles (circles .numbers) «n_sets») (spec.boundaryArc arc) (now (grad .entry)) ⌝ }
+{
+    clipped_arc_integral_with_gradient(
+        boundary_arc(arc),
+        circles_of(circles),
+        n_sets,
+        bounds_of(sides),
+        grad,
+    )
 }
 
 // The area in the box, from the arcs.

@@ -1,127 +1,193 @@
--- Demand 3's two halves, as specs/Demand.antt states them.
+-- Demand 3's two halves and the afresh call, as specs/Demand.antt states them.
 use Prim.Native.Nat.{ℕ, zero, suc, _≤_, _<_, _^_}
 use mathlib.Core.Path.{_≡_, refl, sym, ap, _∙_, subst}
 use mathlib.Core.Bool.{true, false, not, _&&_, _||_, true≢false, or-true, and-false}
 use mathlib.Core.List.{List, [], _∷_}
 use mathlib.Core.Logic.{_⊎_, inl, inr}
+use native.Mathlib.Nat.{le-refl, le-of-eq}
 use native.Mathlib.Omega.{arith}
 use lib.Pow.{pow-pos}
 use lib.ListN.{length, length-set}
-use lib.Seq.{getD-set-same, getD-set-other}
-use borrow.Author.Tests.{lt-ltb, le-ltb, eq-eqb, ne-eqb}
-use Rattle.heads.specs.declared.Head.{Head}
+use borrow.Author.Tests.{eq-eqb, ne-eqb}
 use Rattle.heads.specs.Pair.{meetsOf}
 use Rattle.masks.specs.Mask.{inSet}
 use Rattle.plan.specs.declared.Answer.{Answer}
 use Rattle.plan.specs.declared.Answer.the-variants.{Taken, Refused}
 use Rattle.plan.specs.declared.Edit.{Edit}
-use Rattle.plan.specs.declared.Needed.{Needed}
+use Rattle.plan.specs.declared.Gradients.the-variants.{None}
 use Rattle.plan.specs.declared.Plan.{Plan}
-use Rattle.plan.specs.Book.{Entry, headOf, applied, entered, book, answers}
-use Rattle.plan.specs.Checks.{editAnswer}
-use Rattle.plan.specs.Limits.{HeadWithin, Acceptable, AcceptableEdit, noHead}
+use Rattle.plan.specs.Book.{Entry, AnyTaken, headOf, applied, leaves, bookStep, book}
+use Rattle.plan.specs.Checks.{callAnswer, editAnswer}
+use Rattle.plan.specs.Limits.{Acceptable, AcceptableEdit}
 use Rattle.plan.proofs.Exactly.{plan-taken, edit-taken}
 use Rattle.plan.proofs.Keeps.{applied-acceptable}
-use Rattle.regions.specs.Row.{isSingle}
-use Rattle.regions.specs.Edit.{Row, absent, present, boxRow, overlaps, meetsAny, met, reworked, editedRow}
-use Rattle.regions.specs.Run as Run
-use Rattle.regions.specs.Table.{Method, Sheet, headAt, areaAt, afresh, metBy, edited, leaves, sheetStep, bookStep}
-use Rattle.regions.specs.Demand.{Faithful, AfreshRows, ListEndsAfresh, Reworks, EditReworksExactly, RefusedLeavesAll}
+use Rattle.intersections.specs.Members.{isSingle}
+use Rattle.regions.specs.Edit.{Row, absent, present, boxRow, afreshRow, overlaps, meetsAny, met, reworked, editedRow}
+use Rattle.regions.specs.Table.{Method, PlanTable, headAt, afresh, metBy, edited, overlaid, settled, rowsOver, afreshStep, tableStep}
+use Rattle.regions.specs.Demand.{AfreshRows, ExclusivesOf, BeyondStays, AfreshWorks, ListEndsAfresh, Reworks, EditReworksExactly}
+use Rattle.regions.specs.Demand.{RefusedLeavesAll, DemandThree}
 use Rattle.masks.specs.Operations.{in-power}
 use Rattle.masks.specs.Gather.{in-gather}
 use Rattle.regions.proofs.Masks.{overlap-at, overlap-none, head-below}
 use Rattle.regions.proofs.Rows.{edited-afresh}
-use Rattle.regions.proofs.Simulation.{simulates}
+use Rattle.regions.proofs.Steps.{rows-over, overlaid-below, settled-exclusives, settled-beyond, after-keeps, any-taken, none-taken}
+use Rattle.lists.specs.Run as Run
+use Rattle.lists.proofs.Simulation.{simulates}
 
--- ---- the heads of an edited plan
+-- ---- the afresh call
 
-module _ (p : Plan) (e : Edit) (ten : length (p .heads) ≡ 10) (k : e .head < 10) where
-  head-edited : headAt (applied p e) (e .head) ≡ headOf e
-  head-edited = getD-set-same (p .heads) (e .head) (headOf e) noHead (subst (λ n. e .head < n) (sym ten) k)
+left-afresh : (m : Method) (s : PlanTable) → AfreshRows m (s .plan) (overlaid (2 ^ s .plan .n) (afresh m (s .plan)) (s .rows))
+left-afresh m s S h = overlaid-below (2 ^ s .plan .n) (afresh m (s .plan)) (s .rows) S h
 
-  head-other : (i : ℕ) → (i ≡ e .head → ⊥) → headAt p i ≡ headAt (applied p e) i
-  head-other i n = sym (getD-set-other (p .heads) (e .head) i (headOf e) noHead n)
+pub afresh-works : (m : Method) → AfreshWorks m
+unfolding afreshStep
+afresh-works m s lent = record { taken = taken; refused = go (callAnswer (s .plan) None lent) }
+  where
+    left : PlanTable
+    left = settled m (2 ^ s .plan .n) (s .plan) (afresh m (s .plan)) s
+
+    taken : callAnswer (s .plan) None lent ≡ Taken
+        → (leaves (callAnswer (s .plan) None lent) s left .plan ≡ s .plan)
+        × AfreshRows m (s .plan) (leaves (callAnswer (s .plan) None lent) s left .rows)
+        × ExclusivesOf m (s .plan .n) (afresh m (s .plan)) (leaves (callAnswer (s .plan) None lent) s left .exclusives)
+        × BeyondStays (2 ^ s .plan .n) s (leaves (callAnswer (s .plan) None lent) s left)
+    taken q =
+        rw q (
+          refl,
+          left-afresh m s,
+          λ S h. settled-exclusives m (2 ^ s .plan .n) (s .plan) (afresh m (s .plan)) s (le-refl (2 ^ s .plan .n)) S h
+              ∙ m .exclusives .below (s .plan .n) (left .rows) (afresh m (s .plan)) (left-afresh m s) S h,
+          settled-beyond m (2 ^ s .plan .n) (s .plan) (afresh m (s .plan)) s,
+        )
+
+    go : (a : Answer) → (a ≡ Taken → ⊥) → leaves a s left ≡ s
+    go Taken n = absurd (n refl)
+    go (Refused r at) n = refl
 
 -- ---- a taken edit of afresh rows
 
+-- what a taken edit leaves
+abbrev left : Method → PlanTable → Edit → PlanTable
+left m s e = settled m (rowsOver (s .plan) e) (applied (s .plan) e) (edited m (s .plan) e (s .rows)) s
+
+-- rows 0 to 2^n - 1 are the edited ones
+left-below : (m : Method) (s : PlanTable) (e : Edit) (S : ℕ) → S < 2 ^ s .plan .n → left m s e .rows S ≡ edited m (s .plan) e (s .rows) S
+left-below m s e S h = overlaid-below (rowsOver (s .plan) e) (edited m (s .plan) e (s .rows)) (s .rows) S (subst (λ n. S < n) (sym (rows-over (s .plan) e)) h)
+
+-- the exclusives are those of the rows left, and what stands beyond stays
+left-exclusives : (m : Method) (s : PlanTable) (e : Edit) → ExclusivesOf m (s .plan .n) (left m s e .rows) (left m s e .exclusives)
+left-exclusives m s e =
+    settled-exclusives m (rowsOver (s .plan) e) (applied (s .plan) e) (edited m (s .plan) e (s .rows)) s (le-of-eq (sym (rows-over (s .plan) e)))
+
+left-beyond : (m : Method) (s : PlanTable) (e : Edit) → BeyondStays (2 ^ s .plan .n) s (left m s e)
+left-beyond m s e S h =
+    settled-beyond m (rowsOver (s .plan) e) (applied (s .plan) e) (edited m (s .plan) e (s .rows)) s S (subst (λ n. n ≤ S) (sym (rows-over (s .plan) e)) h)
+
 -- the edited rows of a plan's afresh rows are the edited plan's afresh rows
-edit-afresh : (m : Method) → Faithful m → (p : Plan) (e : Edit) → length (p .heads) ≡ 10 → Acceptable p → AcceptableEdit (p .n) e
-    → (rows : ℕ → Row) → AfreshRows m p rows → AfreshRows m (applied p e) (edited m p e rows)
+edit-afresh : (m : Method) (s : PlanTable) (e : Edit) → length (s .plan .heads) ≡ 10 → Acceptable (s .plan) → AcceptableEdit (s .plan .n) e
+    → AfreshRows m (s .plan) (s .rows) → AfreshRows m (applied (s .plan) e) (left m s e .rows)
 unfolding edited
-edit-afresh m f p e ten ok oke rows fresh S hS =
-    rw (lt-ltb S (2 ^ p .n) hS)
-    (subst (λ v. editedRow (m .boxed) (2 ^ e .head) (met (headAt p (e .head) ∷ v ∷ []) (headAt p) (p .n) (e .head)) (areaAt m (applied p e)) (m .sets p) (m .sets (applied p e)) rows S ≡ afresh m (applied p e) S)
-    (head-edited p e ten small)
-    (edited-afresh (m .geometry (p .ground)) (headAt p) (headAt (applied p e)) (p .n) (e .head) (head-other p e ten small) apart
-    (m .boxed) (m .boxArea (p .ground)) (m .sets p) (m .sets (applied p e)) rows S hS (fresh S hS)))
+edit-afresh m s e ten ok oke fresh S hS = left-below m s e S hS ∙ edited-afresh m (s .plan) e ten ok oke (s .rows) S hS (fresh S hS)
+
+-- a step's answer and what it leaves, by the answer
+module _ (m : Method) where
+  step-left : (s : PlanTable) (e : Entry) (a : Answer) → tableStep m s e .answer ≡ a → tableStep m s e .left ≡ leaves a s (left m s (e .edit))
+  unfolding tableStep
+  step-left s e a q = ap (λ b. leaves b s (left m s (e .edit))) q
+
+-- a refused edit leaves all
+pub refused-leaves-all : (m : Method) → RefusedLeavesAll m
+refused-leaves-all m s e n = go (tableStep m s e .answer) refl
   where
-    small : e .head < 10
-    small = let a = ok .count in let b = oke .head in omega arith
-
-    edit-within : HeadWithin (headOf e)
-    edit-within = (oke .x, oke .y, oke .radius)
-
-    one : (v : Head) → (v ≡ headAt p (e .head)) ⊎ (v ≡ headAt (applied p e) (e .head)) → HeadWithin v
-    one v (inl q) = subst HeadWithin (sym q) (ok .heads (e .head) (oke .head))
-    one v (inr q) = subst HeadWithin (sym (q ∙ head-edited p e ten small)) edit-within
-
-    apart : (j : ℕ) → j < p .n → (v : Head) → (v ≡ headAt p (e .head)) ⊎ (v ≡ headAt (applied p e) (e .head)) → meetsOf v (headAt p j) ≡ false
-        → (m .geometry (p .ground) .meeting v (headAt p j) ≡ []) × (m .geometry (p .ground) .meeting (headAt p j) v ≡ [])
-    apart j hj v w no-meeting = f .apart (p .ground) v (headAt p j) (one v w) (ok .heads j hj) no-meeting
+    go : (a : Answer) → tableStep m s e .answer ≡ a → tableStep m s e .left ≡ s
+    go Taken q = absurd (n q)
+    go (Refused r at) q = step-left m s e (Refused r at) q
 
 -- ---- the list
 
--- a sheet keeps to a book: the same plan, which is accepted, with its afresh rows
-record Keeps (m : Method) (s : Sheet) (p : Plan) : Type 0 where
+-- a table keeps to a book: the same plan, which is accepted, with its afresh rows; and what stands beyond is as at the start
+record KeepsTo (m : Method) (start s : PlanTable) (p : Plan) : Type 0 where
   plan : s .plan ≡ p
   ten : length (p .heads) ≡ 10
   ok : Acceptable p
   fresh : AfreshRows m p (s .rows)
+  count : p .n ≡ start .plan .n
+  beyond : BeyondStays (2 ^ start .plan .n) start s
 
-module _ (m : Method) (f : Faithful m) (needed : Needed) where
-  -- one edit: the sheet answers as the book and keeps to it
-  step-keeps : (s : Sheet) (p : Plan) (e : Entry) → Keeps m s p
-      → (sheetStep m needed s e .answer ≡ bookStep needed p e .answer) × Keeps m (sheetStep m needed s e .left) (bookStep needed p e .left)
-  unfolding sheetStep bookStep
+module _ (m : Method) (start : PlanTable) where
+  -- one edit of a table that keeps to its own plan
+  left-keeps : (s : PlanTable) (e : Entry) → KeepsTo m start s (s .plan) → (a : Answer) → editAnswer (s .plan) (e .edit) (e .lent) ≡ a
+      → KeepsTo m start (leaves a s (left m s (e .edit))) (leaves a (s .plan) (applied (s .plan) (e .edit)))
+  left-keeps s e k Taken q =
+      let parts = edit-taken (s .plan) (e .edit) (e .lent) (k .ten) .0 q in
+      record {
+        plan = refl;
+        ten = length-set (s .plan .heads) (e .edit .head) (headOf (e .edit)) ∙ k .ten;
+        ok = applied-acceptable (s .plan) (e .edit) (k .ten) (k .ok) (parts .1);
+        fresh = edit-afresh m s (e .edit) (k .ten) (k .ok) (parts .1) (k .fresh);
+        count = k .count;
+        beyond = λ S h.
+            let now = left-beyond m s (e .edit) S (subst (λ n. 2 ^ n ≤ S) (sym (k .count)) h) in
+            let so-far = k .beyond S h in
+            (now .0 ∙ so-far .0, now .1 ∙ so-far .1);
+      }
+  left-keeps s e k (Refused r at) q = k
+
+  -- one edit: the table answers as the book and keeps to it
+  step-keeps : (s : PlanTable) (p : Plan) (e : Entry) → KeepsTo m start s p
+      → (tableStep m s e .answer ≡ bookStep p e .answer) × KeepsTo m start (tableStep m s e .left) (bookStep p e .left)
+  unfolding tableStep
   step-keeps s p e k = (
-    ap (λ q. editAnswer q (e .edit) needed (e .lent)) (k .plan),
-    subst (λ q. Keeps m (leaves (editAnswer q (e .edit) needed (e .lent)) s (record { plan = applied q (e .edit); rows = edited m q (e .edit) (s .rows) })) (bookStep needed p e .left))
-        (sym (k .plan)) (go (editAnswer p (e .edit) needed (e .lent)) refl),
+    ap (λ q. editAnswer q (e .edit) (e .lent)) (k .plan),
+    subst (λ q. KeepsTo m start (tableStep m s e .left) (bookStep q e .left)) (k .plan)
+        (left-keeps s e (subst (KeepsTo m start s) (sym (k .plan)) k) (editAnswer (s .plan) (e .edit) (e .lent)) refl),
   )
+
+  -- the exclusives are those of the rows after a taken edit, and stay so
+  abbrev Settled : PlanTable → Type 0
+  Settled s = ExclusivesOf m (s .plan .n) (s .rows) (s .exclusives)
+
+  taken-settled : (s : PlanTable) (e : Entry) → tableStep m s e .answer ≡ Taken → Settled (tableStep m s e .left)
+  taken-settled s e q = subst Settled (sym (step-left m s e Taken q)) (left-exclusives m s (e .edit))
+
+  stays-settled : (s : PlanTable) (e : Entry) → Settled s → Settled (tableStep m s e .left)
+  stays-settled s e k = go (tableStep m s e .answer) refl
     where
-      go : (a : Answer) → editAnswer p (e .edit) needed (e .lent) ≡ a
-          → Keeps m (leaves a s (record { plan = applied p (e .edit); rows = edited m p (e .edit) (s .rows) })) (Rattle.plan.specs.Book.leaves a p (applied p (e .edit)))
-      go Taken q =
-          let parts = edit-taken p (e .edit) needed (e .lent) (k .ten) .0 q in
-          record {
-            plan = refl;
-            ten = length-set (p .heads) (e .edit .head) (headOf (e .edit)) ∙ k .ten;
-            ok = applied-acceptable p (e .edit) (k .ten) (k .ok) (parts .1);
-            fresh = edit-afresh m f p (e .edit) (k .ten) (k .ok) (parts .1) (s .rows) (k .fresh);
-          }
-      go (Refused r at) q = k
-
--- the fold of the book's step is the book
-book-after : (needed : Needed) (es : List Entry) (p : Plan) → Run.after (bookStep needed) p es ≡ book needed p es
-unfolding Run.after bookStep book
-book-after needed [] p = refl
-book-after needed (e ∷ es) p = book-after needed es (entered p (e .edit) needed (e .lent))
-
-book-answers : (needed : Needed) (es : List Entry) (p : Plan) → Run.answers (bookStep needed) p es ≡ answers needed p es
-unfolding Run.answers bookStep answers
-book-answers needed [] p = refl
-book-answers needed (e ∷ es) p = ap (λ l. editAnswer p (e .edit) needed (e .lent) ∷ l) (book-answers needed es (entered p (e .edit) needed (e .lent)))
+      go : (a : Answer) → tableStep m s e .answer ≡ a → Settled (tableStep m s e .left)
+      go Taken q = taken-settled s e q
+      go (Refused r at) q = subst Settled (sym (step-left m s e (Refused r at) q)) k
 
 -- demand 3, first half
-pub list-ends-afresh : ListEndsAfresh
-list-ends-afresh m f needed p ten taken rows fresh es =
-    let start : Keeps m (record { plan = p; rows = rows }) p =
-    record { plan = refl; ten = ten; ok = plan-taken p ten .0 taken; fresh = fresh } in
-    let end = simulates (sheetStep m needed) (bookStep needed) (Keeps m) (step-keeps m f needed) es (record { plan = p; rows = rows }) p start in
+pub list-ends-afresh : (m : Method) → ListEndsAfresh m
+list-ends-afresh m s begin es =
+    let start : KeepsTo m s s (s .plan) =
     record {
-      answered = end .0 ∙ book-answers needed es p;
-      planned = end .1 .plan ∙ book-after needed es p;
-      fresh = subst (λ q. AfreshRows m q (Run.after (sheetStep m needed) (record { plan = p; rows = rows }) es .rows)) (book-after needed es p) (end .1 .fresh);
+      plan = refl;
+      ten = begin .room;
+      ok = plan-taken (s .plan) (begin .room) .0 (begin .taken);
+      fresh = begin .fresh;
+      count = refl;
+      beyond = λ S h. (refl, refl);
+    } in
+    let end = simulates (tableStep m) bookStep (KeepsTo m s) (step-keeps m s) es s (s .plan) start in
+    let left = Run.after (tableStep m) s es in
+    let p = book (s .plan) es in
+    let of-book : Settled m s left → ExclusivesOf m (p .n) (afresh m p) (left .exclusives) =
+    λ k S h.
+    subst (λ q. ExclusivesOf m (q .n) (left .rows) (left .exclusives)) (end .1 .plan) k S h
+    ∙ m .exclusives .below (p .n) (left .rows) (afresh m p) (end .1 .fresh) S h in
+    record {
+      answered = end .0;
+      planned = end .1 .plan;
+      fresh = end .1 .fresh;
+      exclusive = λ t.
+          of-book (any-taken (tableStep m) (Settled m s) (taken-settled m s) (stays-settled m s) es s (subst AnyTaken (sym (end .0)) t));
+      untouched = λ t. none-taken (tableStep m) (refused-leaves-all m) es s (λ u. t (subst AnyTaken (end .0) u));
+      both = λ k.
+          of-book
+          (after-keeps (tableStep m) (Settled m s) (taken-settled m s) (stays-settled m s) es s
+          (λ S h. k S h ∙ sym (m .exclusives .below (s .plan .n) (s .rows) (afresh m (s .plan)) (begin .fresh) S h)));
+      beyond = end .1 .beyond;
     }
 
 -- ---- one edit
@@ -131,34 +197,32 @@ module _ (m : Method) (p : Plan) (e : Edit) (rows : ℕ → Row) where
   met-at : (j : ℕ) → j < p .n → (j ≡ e .head → ⊥)
       → inSet (metBy p e) j ≡ (meetsOf (headAt p (e .head)) (headAt p j) || (meetsOf (headOf e) (headAt p j) || false))
   unfolding met meetsAny
-  met-at j hj n = in-gather (p .n) _ j hj ∙ ap (λ b. not b && (meetsOf (headAt p (e .head)) (headAt p j) || (meetsOf (headOf e) (headAt p j) || false))) (ne-eqb j (e .head) n)
+  met-at j hj n =
+      in-gather (p .n) _ j hj ∙ ap (λ b. not b && (meetsOf (headAt p (e .head)) (headAt p j) || (meetsOf (headOf e) (headAt p j) || false)))
+      (ne-eqb j (e .head) n)
 
   -- a set after the edit whose row is worked out
-  row-reworked : (S : ℕ) → 0 < S → S < 2 ^ p .n → m .sets (applied p e) S ≡ true → reworked (2 ^ e .head) (metBy p e) (m .sets p) S ≡ true
-      → edited m p e rows S ≡ present (areaAt m (applied p e) S)
-  unfolding edited editedRow
-  row-reworked zero z h a r = absurd (omega arith)
-  row-reworked (suc S) z h a r = rw (lt-ltb (suc S) (2 ^ p .n) h, a, r)
+  row-reworked : (S : ℕ) → 0 < S → m .sets (applied p e) S ≡ true → reworked (2 ^ e .head) (metBy p e) (m .sets p) S ≡ true
+      → edited m p e rows S ≡ afresh m (applied p e) S
+  unfolding edited editedRow afreshRow
+  row-reworked zero z a r = absurd (omega arith)
+  row-reworked (suc S) z a r = rw (a, r)
 
   -- a set after the edit whose row is kept
-  row-kept : (S : ℕ) → 0 < S → S < 2 ^ p .n → m .sets (applied p e) S ≡ true → reworked (2 ^ e .head) (metBy p e) (m .sets p) S ≡ false
+  row-kept : (S : ℕ) → 0 < S → m .sets (applied p e) S ≡ true → reworked (2 ^ e .head) (metBy p e) (m .sets p) S ≡ false
       → edited m p e rows S ≡ present (rows S .number)
   unfolding edited editedRow
-  row-kept zero z h a r = absurd (omega arith)
-  row-kept (suc S) z h a r = rw (lt-ltb (suc S) (2 ^ p .n) h, a, r)
+  row-kept zero z a r = absurd (omega arith)
+  row-kept (suc S) z a r = rw (a, r)
 
-  row-gone : (S : ℕ) → 0 < S → S < 2 ^ p .n → m .sets (applied p e) S ≡ false → edited m p e rows S ≡ absent
+  row-gone : (S : ℕ) → 0 < S → m .sets (applied p e) S ≡ false → edited m p e rows S ≡ absent
   unfolding edited editedRow
-  row-gone zero z h a = absurd (omega arith)
-  row-gone (suc S) z h a = rw (lt-ltb (suc S) (2 ^ p .n) h, a)
+  row-gone zero z a = absurd (omega arith)
+  row-gone (suc S) z a = rw a
 
-  row-ground : edited m p e rows 0 ≡ boxRow (m .boxed) (rows 0 .number)
+  row-ground : edited m p e rows 0 ≡ boxRow (m .hasBox) (rows 0 .number)
   unfolding edited editedRow
-  row-ground = rw (lt-ltb 0 (2 ^ p .n) (pow-pos (p .n)))
-
-  row-beyond : (S : ℕ) → 2 ^ p .n ≤ S → edited m p e rows S ≡ rows S
-  unfolding edited
-  row-beyond S h = rw (le-ltb S (2 ^ p .n) h)
+  row-ground = refl
 
   by-own : (S : ℕ) → inSet S (e .head) ≡ true → reworked (2 ^ e .head) (metBy p e) (m .sets p) S ≡ true
   unfolding reworked
@@ -202,28 +266,33 @@ module _ (m : Method) (p : Plan) (e : Edit) (rows : ℕ → Row) where
           (overlap-none S (metBy p e) (λ j i. met-at j (head-below S (p .n) j h i) (other j i) ∙ rw (c j i .0, c j i .1)))
           ∙ and-false (not (isSingle S))
 
-edited-reworks : (m : Method) (p : Plan) (e : Edit) (rows : ℕ → Row) → Reworks m p e rows (edited m p e rows)
-edited-reworks m p e rows = record {
-  ground = row-ground m p e rows;
-  gone = row-gone m p e rows;
-  own = λ S z h a i. row-reworked m p e rows S z h a (by-own m p e rows S i);
-  newly = λ S z h a b. row-reworked m p e rows S z h a (by-newly m p e rows S b);
-  met = λ S j z h a s i n w. row-reworked m p e rows S z h a (by-met m p e rows S j h s i n w);
-  kept = λ S z h a b i w. row-kept m p e rows S z h a (by-none m p e rows S h b i w);
-  beyond = row-beyond m p e rows;
-}
+edited-reworks : (m : Method) (s : PlanTable) (e : Edit) → Reworks m (s .plan) e (s .rows) (left m s e .rows)
+edited-reworks m s e =
+    let p = s .plan in
+    let rows = s .rows in
+    let below = left-below m s e in
+    record {
+      ground = below 0 (pow-pos (p .n)) ∙ row-ground m p e rows;
+      gone = λ S z h a. below S h ∙ row-gone m p e rows S z a;
+      own = λ S z h a i. below S h ∙ row-reworked m p e rows S z a (by-own m p e rows S i);
+      newly = λ S z h a b. below S h ∙ row-reworked m p e rows S z a (by-newly m p e rows S b);
+      met = λ S j z h a o i n w. below S h ∙ row-reworked m p e rows S z a (by-met m p e rows S j h o i n w);
+      kept = λ S z h a b i w. below S h ∙ row-kept m p e rows S z a (by-none m p e rows S h b i w);
+      beyond = λ S h. left-beyond m s e S h .0;
+    }
 
 -- demand 3, second half
-pub edit-reworks-exactly : EditReworksExactly
-unfolding sheetStep
-edit-reworks-exactly m needed s e q =
-    rw q (refl, edited-reworks m (s .plan) (e .edit) (s .rows))
+pub edit-reworks-exactly : (m : Method) → EditReworksExactly m
+edit-reworks-exactly m s e q =
+    subst (λ t. (t .plan ≡ applied (s .plan) (e .edit)) × Reworks m (s .plan) (e .edit) (s .rows) (t .rows)
+    × ExclusivesOf m (s .plan .n) (t .rows) (t .exclusives) × BeyondStays (2 ^ s .plan .n) s t)
+    (sym (step-left m s e Taken q))
+    (refl, edited-reworks m s (e .edit), left-exclusives m s (e .edit), left-beyond m s (e .edit))
 
--- a refused edit leaves all
-pub refused-leaves-all : RefusedLeavesAll
-unfolding sheetStep
-refused-leaves-all m needed s e n = go (editAnswer (s .plan) (e .edit) needed (e .lent)) n
-  where
-    go : (a : Answer) → (a ≡ Taken → ⊥) → leaves a s (record { plan = applied (s .plan) (e .edit); rows = edited m (s .plan) (e .edit) (s .rows) }) ≡ s
-    go Taken n = absurd (n refl)
-    go (Refused r at) n = refl
+pub demand-three : (m : Method) → DemandThree m
+demand-three m = record {
+  works = afresh-works m;
+  ends = list-ends-afresh m;
+  reworks = edit-reworks-exactly m;
+  refused = refused-leaves-all m;
+}

@@ -1,6 +1,6 @@
-pub mod Lists
 pub mod Masks
-pub mod Kept
 pub mod Rows
-pub mod Simulation
+pub mod Steps
 pub mod Demand
+pub mod Slices
+pub mod Run

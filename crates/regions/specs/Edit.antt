@@ -5,12 +5,12 @@ use mathlib.Core.Bool.{Bool, false, not, _&&_, _||_, cond}
 use mathlib.Core.List.{List, [], _∷_}
 use lib.Dec.{eqb}
 use lib.Bits.{bitAnd}
-use lib.IntN.{pos}
-use lib.Ieee.{Float, fin}
+use lib.Ieee.{Float}
+use Rattle.binary64.specs.Constants.{zero64}
 use Rattle.heads.specs.declared.Head.{Head}
 use Rattle.heads.specs.Pair.{meetsOf}
 use Rattle.masks.specs.Mask.{gather}
-use Rattle.regions.specs.Row.{isSingle}
+use Rattle.intersections.specs.Members.{isSingle}
 
 -- A row of the table: its presence byte and its number.
 pub record Row : Type 0 where
@@ -19,20 +19,20 @@ pub record Row : Type 0 where
 
 -- "Any other row has byte 0 and +0."
 abbrev pub absent : Row
-absent = record { byte = 0; number = fin false 0 (pos 0) }
+absent = record { byte = 0; number = zero64 }
 
 abbrev pub present : Float → Row
 present v = record { byte = 1; number = v }
 
 -- "Row 0, always present where there is a box": its row with a number, or none without a box.
 abbrev pub boxRow : Bool → Float → Row
-boxRow boxed v = cond boxed (present v) absent
+boxRow hasBox v = cond hasBox (present v) absent
 
 -- Document 01, "Afresh": "Row 0 has byte 1 and the box area. A row whose mask is among the plan's sets has byte 1 and its
 -- area as defined. Any other row has byte 0 and +0." Whether there is a box, its area, the area of a set and the sets are handed in.
 unfoldable pub afreshRow : Bool → Float → (ℕ → Float) → (ℕ → Bool) → ℕ → Row
-afreshRow boxed box area sets zero = boxRow boxed box
-afreshRow boxed box area sets (suc S) = cond (sets (suc S)) (present (area (suc S))) absent
+afreshRow hasBox box area sets zero = boxRow hasBox box
+afreshRow hasBox box area sets (suc S) = cond (sets (suc S)) (present (area (suc S))) absent
 
 -- two sets have a head in common
 abbrev pub overlaps : ℕ → ℕ → Bool
@@ -59,6 +59,6 @@ reworked own met before S = overlaps S own || (not (before S) || (not (isSingle 
 -- number handed in, even a false one; no set any more, it is absent. The byte handed in is not read.
 unfoldable pub editedRow : Bool → ℕ → ℕ → (ℕ → Float) → (ℕ → Bool) → (ℕ → Bool) → (ℕ → Row) → ℕ → Row
 unfolding reworked
-editedRow boxed own met area before after rows zero = boxRow boxed (rows zero .number)
-editedRow boxed own met area before after rows (suc S) =
+editedRow hasBox own met area before after rows zero = boxRow hasBox (rows zero .number)
+editedRow hasBox own met area before after rows (suc S) =
     cond (after (suc S)) (present (cond (reworked own met before (suc S)) (area (suc S)) (rows (suc S) .number))) absent

@@ -1,5 +1,5 @@
-pub mod Row
 pub mod Edit
-pub mod Run
 pub mod Table
 pub mod Demand
+pub mod Slices
+pub mod Run

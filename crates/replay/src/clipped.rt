@@ -14,8 +14,6 @@ use crate::numbers::whole;
 use crate::outlines::arcs_of;
 use crate::plans::Plan;
 use crate::plans::entries;
-use boundary::members::Members;
-use boundary::members::members_of;
 use clip::area::area_from_clipped_arcs;
 use clip::area::clipped_region_area;
 use clip::gradient::area_and_gradient_from_clipped_arcs;
@@ -24,6 +22,8 @@ use geometry::bounds::Bounds;
 use inside::span::Span;
 use inside::span::horizontal_edge_inside_interval;
 use inside::span::vertical_edge_inside_interval;
+use intersections::members::Members;
+use intersections::members::members_of;
 
 fn members(words: &[u64; 40], plan: Plan) -> Members {
     let circles = plan.circles;

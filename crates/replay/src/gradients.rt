@@ -1,7 +1,7 @@
 // Gradients as the list has them, by head numbers: x, y and radius of each circle of the plan in
 // turn, then, in the box, its four. There is room for ten circles and the box.
 use crate::numbers::same;
-use boundary::members::Members;
+use intersections::members::Members;
 
 pub(crate) fn zeros() -> [f64; 34] {
     [0.0f64; 34]

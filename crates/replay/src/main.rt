@@ -49,7 +49,7 @@ fn letter(word: u64) -> u8 {
 fn agrees_on_set(letter: u8, words: &[u64; 40], last: usize, plan: Plan) -> bool {
     if plans::is_set(whole(words[1]), plan.n) {
         return match letter {
-            b'S' | b'K' | b'L' => plan.boxed && clipped::agrees(letter, words, last, plan),
+            b'S' | b'K' | b'L' => plan.has_box && clipped::agrees(letter, words, last, plan),
             _ => outlines::agrees(letter, words, last, plan),
         };
     }
@@ -63,7 +63,7 @@ fn agrees(letter: u8, words: &[u64; 40], last: usize, plan: Plan) -> bool {
         b'P' => last == 22 && pair::agrees(words),
         b'W' => last == 2 && outlines::same_wrapped(words),
         b'H' => 0 < plan.n,
-        b'X' => plan.boxed,
+        b'X' => plan.has_box,
         b'I' | b'Q' => 0 < plan.n && points::agrees(letter, words, last, plan),
         _ => 0 < plan.n && agrees_on_set(letter, words, last, plan),
     }

@@ -4,18 +4,18 @@
 ghost use Prim.Native.Nat.{_≤_};
 use crate::numbers::float;
 use crate::numbers::whole;
-use boundary::points::Intersections;
 use geometry::bounds::Bounds;
 use geometry::circle::Circle;
 use geometry::point::Point;
-use outline::collect::collect_intersections;
+use intersections::collect::collect_intersections;
+use intersections::points::Intersections;
 
 // The first n circles, their meeting points, and the box, where it is given. Of no plan n is 0.
 pub struct Plan {
     pub n: usize,
     pub circles: [Circle; 10],
     pub points: Intersections,
-    pub boxed: bool,
+    pub has_box: bool,
     pub bounds: Bounds,
 }
 
@@ -52,7 +52,7 @@ fn of_circles(n: usize, circles: [Circle; 10]) -> Plan {
         n: n,
         circles: circles,
         points: points,
-        boxed: false,
+        has_box: false,
         bounds: bounds,
     }
 }
@@ -88,9 +88,9 @@ fn begun(words: &[u64; 40], last: usize) -> Plan {
 }
 
 // The plan in the box of a line X: in none, if the line is malformed.
-fn boxed(words: &[u64; 40], last: usize, plan: Plan) -> Plan {
+fn with_box(words: &[u64; 40], last: usize, plan: Plan) -> Plan {
     let mut given = plan;
-    given.boxed = 0 < plan.n && last == 4;
+    given.has_box = 0 < plan.n && last == 4;
     given.bounds = Bounds::new(
         float(words[1]),
         float(words[2]),
@@ -104,7 +104,7 @@ fn boxed(words: &[u64; 40], last: usize, plan: Plan) -> Plan {
 pub(crate) fn after(letter: u8, words: &[u64; 40], last: usize, plan: Plan) -> Plan {
     match letter {
         b'H' => begun(words, last),
-        b'X' => boxed(words, last, plan),
+        b'X' => with_box(words, last, plan),
         _ => plan,
     }
 }

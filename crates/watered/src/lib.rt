@@ -4,6 +4,10 @@ ghost use Rattle.elementary.specs.Root.{root, hypot};
 ghost use Rattle.elementary.specs.Sine.{sine, cosine};
 ghost use Rattle.elementary.specs.Arctangent.{atan2, acos, asin};
 
+mod handed;
+pub mod slopes;
+pub mod tables;
+
 // The correctly rounded square root; +0 outside its domain.
 #[no_mangle]
 pub extern "C" fn watered_root(x: f64) -> f64

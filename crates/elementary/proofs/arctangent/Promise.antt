@@ -342,6 +342,7 @@ module _ {y x : Float} (g : Domain y x) where
 pub atan2-promise : Atan2Promise
 atan2-promise = record {
   angle = λ y x g. subst (Angle y x) (sym (atan2-inside g)) (angle-promise g);
+  sign = λ y x g. ap negative (atan2-inside g) ∙ there-is g .sign;
   outside = λ y x g f none. atan2-outside g f none;
   always = atan2-within;
   right = λ y x g z s. atan2-right g z s;

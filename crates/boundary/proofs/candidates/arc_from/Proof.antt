@@ -1,10 +1,11 @@
--- `candidates::arc_from` meets its contract: the law `gap-arc`, and what each call gives.
+-- `candidates::arc_from`: the law `gap-arc` says what the gap is, and each call gives one step of it.
 use mathlib.Core.Path.{_≡_, sym, _∙_}
 use Prim.Native.Nat.{_≤_, _<_, _+_, _%_}
 use native.Mathlib.Omega.{arith}
 use borrow.Author.Tests.{le-ltb, lt-ltb}
 use lib.ListN.{length, length-take}
-use Rattle.boundary.specs.Lists.{circleList, angleList}
+use Rattle.intersections.specs.Counted.{circleList}
+use Rattle.boundary.specs.Counted.{angleList}
 use Rattle.boundary.proofs.Gaps.{next-below, gap-arc}
 use borrow.Author.Needs.{needs}
 use Rattle.boundary.proofs.candidates.arc_from.Statement.{statement}
@@ -70,7 +71,9 @@ between-requires : tie.Need-between-requires
 between-requires c κs = search needs
 
 returns-3 : tie.Need-returns-3
-returns-3 c = let d = c .before .before .before .before in let e = d .before .before .before .before .before in let s = e .before .before in let a = s .args in let n = e .before .count in
+returns-3 c =
+    let d = c .before .before .before .before in let e = d .before .before .before .before .before in let s = e .before .before in let a = s .args in
+    let n = e .before .count in
     rw (
       lt-ltb (a .i) (length (angleList (a .t3))) (omega (arith, n .ensures)),
       gap-arc (circleList (a .set)) (a .k) (a .circle) (a .t3 .phi) (a .t3 .n) (n .result) (a .i) (n .ensures) (e .if1 .left),
@@ -82,7 +85,9 @@ returns-3 c = let d = c .before .before .before .before in let e = d .before .be
     )
 
 returns-4 : tie.Need-returns-4
-returns-4 c = let d = c .before .before .before in let e = d .before .before .before .before .before in let s = e .before .before in let a = s .args in let n = e .before .count in
+returns-4 c =
+    let d = c .before .before .before in let e = d .before .before .before .before .before in let s = e .before .before in let a = s .args in
+    let n = e .before .count in
     rw (
       lt-ltb (a .i) (length (angleList (a .t3))) (omega (arith, n .ensures)),
       gap-arc (circleList (a .set)) (a .k) (a .circle) (a .t3 .phi) (a .t3 .n) (n .result) (a .i) (n .ensures) (e .if1 .left),

@@ -1,30 +1,26 @@
--- `area::arcs_sum` meets its contract. The invariant: the sum over the first i arcs.
-use mathlib.Core.Path.{_≡_, refl, sym, _∙_}
-use Prim.Native.Nat.{_-_, _≤_}
+-- `arcs_sum`: the arcs one after another (ArcsTo), whose step is `addClippedArc`.
+use mathlib.Core.Path.{refl}
+use Prim.Native.Nat.{_-_}
 use native.Mathlib.Omega.{arith}
-use lib.ListN.{length, take}
-use lib.Seq.{take-all}
+use lib.ListN.{take}
 use Rattle.binary64.specs.Constants.{zero64}
-use Rattle.boundary.specs.Set.{noArc}
-use Rattle.boundary.proofs.Arrays.{length-of-values}
-use Rattle.clip.specs.Area.{addClippedArc, addClippedArcs}
-use Rattle.clip.proofs.Walking.{fold-suc}
+use Rattle.lists.proofs.Arrays.{length-of-values}
+use Rattle.outline.proofs.Walking.{ArcsTo, arcs-next, arcs-by-count, arcs-by-room}
+use Rattle.clip.specs.Area.{addClippedArc}
 use Rattle.clip.proofs.area.arcs_sum.Statement.{statement}
 use Rattle.clip.proofs.area.arcs_sum.Tie as tie
 
 abbrev Inv-loop : tie.InvT-loop
-Inv-loop bounds circles n-sets arcs n total₀ i₀ total i = (length (arcs .all) ≡ 180) × (n ≡ arcs .n) × (i ≤ 180) × (i ≤ n) × (total ≡ addClippedArcs bounds (take n-sets circles) zero64 (take i (arcs .all)))
+Inv-loop bounds circles n-sets arcs n total₀ i₀ total i = ArcsTo (addClippedArc bounds (take n-sets circles)) zero64 arcs n i total
 
 abbrev μ-loop : tie.MeasureT-loop
 μ-loop bounds circles n-sets arcs n total₀ i₀ total i = 180 - i
 
 loop-holds : tie.Need-loop-holds Inv-loop μ-loop
-loop-holds c = (search length-of-values, refl, omega arith, omega arith, refl)
+loop-holds c = record { places = search length-of-values; count = refl; most = omega arith; within = omega arith; sum = refl }
 
 returns : tie.Need-returns Inv-loop μ-loop
-returns c = let l = c .before .before .loop in
-    let e : l .i ≡ c .before .before .before .args .t1 .n = omega arith in
-    rw e at (l .inv .4)
+returns c = arcs-by-count (c .before .before .loop .inv) (omega arith)
 
 mul-add-clipped-arc : tie.Need-mul-add-clipped-arc Inv-loop μ-loop
 mul-add-clipped-arc c = omega arith
@@ -42,22 +38,10 @@ loop-less : tie.Need-loop-less Inv-loop μ-loop
 loop-less c = omega arith
 
 loop-again : tie.Need-loop-again Inv-loop μ-loop
-loop-again c = let l = c .before .before .before .before .loop in
-    let a = c .before .before .before .before .before .args in (
-      l .inv .0,
-      refl,
-      omega arith,
-      omega arith,
-      c .add-clipped-arc .ensures
-          ∙ rw (l .inv .4) (fold-suc (addClippedArc (a .bounds) (take (a .n-sets) (a .circles))) zero64 (a .t1 .all) (l .i) noArc (omega arith)),
-    )
+loop-again c = arcs-next (c .before .before .before .before .loop .inv) _ (omega arith) (omega arith) (c .add-clipped-arc .ensures)
 
 returns-2 : tie.Need-returns-2 Inv-loop μ-loop
-returns-2 c = let l = c .before .loop in
-    let arcs = c .before .before .args .t1 in
-    let e : take (l .i) (arcs .all) ≡ take (arcs .n) (arcs .all) =
-    take-all (l .i) (arcs .all) (omega arith) ∙ sym (take-all (arcs .n) (arcs .all) (omega arith)) in
-    rw e at (l .inv .4)
+returns-2 c = arcs-by-room (c .before .loop .inv) (omega arith)
 
 pub arcs-sum-spec : {M : Type 1} → statement M
 arcs-sum-spec =

@@ -1,13 +1,12 @@
--- `area::clipped_region_area` meets its contract: one member's whole circle, or the sum over all members.
+-- `area::clipped_region_area`: one member's whole circle (`fold-one`), or the sum over all members (`fold-other`).
 use borrow.Author.Needs.{needs}
 use mathlib.Core.Path.{refl, sym, _∙_}
 use lib.ListN.{take}
 use Rattle.binary64.specs.Constants.{zero64}
-use Rattle.boundary.specs.Set.{membersOf}
-use Rattle.boundary.specs.Lists.{pointList, circleList}
-use Rattle.outline.proofs.Walking.{circles-of-members, members-many}
+use Rattle.intersections.specs.Members.{membersOf}
+use Rattle.intersections.specs.Counted.{pointList, circleList}
+use Rattle.outline.proofs.Walking.{circles-of-members, members-many, fold-one, fold-other}
 use Rattle.clip.specs.Area.{addClippedArc}
-use Rattle.clip.proofs.Walking.{fold-one, fold-other}
 use Rattle.clip.proofs.Rows.{area-of-nothing, area-by-sum}
 use Rattle.clip.proofs.area.clipped_region_area.Statement.{statement}
 use Rattle.clip.proofs.area.clipped_region_area.Tie as tie
@@ -17,7 +16,8 @@ empty-box-requires c κs = search needs
 
 returns : tie.Need-returns
 returns c = let a = c .before .before .args in
-    area-of-nothing (a .bounds) (membersOf (take (a .n-sets) (a .circles)) (pointList (a .points)) (a .mask)) (sym (c .before .empty-box .ensures) ∙ c .if1 .taken)
+    area-of-nothing (a .bounds) (membersOf (take (a .n-sets) (a .circles)) (pointList (a .points)) (a .mask))
+    (sym (c .before .empty-box .ensures) ∙ c .if1 .taken)
 
 members-of-requires : tie.Need-members-of-requires
 members-of-requires c κs = search needs
@@ -50,7 +50,8 @@ returns-2 c = let t = c .before .before .before .before in
     own
     (c .before .add-clipped-arc .ensures
     ∙ rw (c .before .before .full-circle .ensures)
-    (fold-one (addClippedArc (a .bounds) (take 1 (m .result .circles))) zero64 ms (m .result .circles) _ (members-many circles points (a .mask) ∙ sym (m .ensures .0) ∙ one) own refl)))
+    (fold-one (addClippedArc (a .bounds) (take 1 (m .result .circles))) zero64 ms (m .result .circles) _
+    (members-many circles points (a .mask) ∙ sym (m .ensures .0) ∙ one) own refl)))
 
 outline-sum-requires : tie.Need-outline-sum-requires
 outline-sum-requires c κs = search needs
@@ -72,7 +73,8 @@ returns-3 c = let e = c .before .before in
     (sym (d .before .before .empty-box .ensures) ∙ d .before .if1 .left)
     (m .ensures .1 .1 ∙ sym (circles-of-members circles points (a .mask)))
     (c .before .outline-sum .ensures
-    ∙ fold-other (addClippedArc (a .bounds) cs) zero64 circles points (a .mask) _ cs (m .ensures .1 .0) (m .ensures .1 .1) (λ h. e .if2 .left (m .ensures .0 ∙ sym (members-many circles points (a .mask)) ∙ h))))
+    ∙ fold-other (addClippedArc (a .bounds) cs) zero64 circles points (a .mask) _ cs (m .ensures .1 .0) (m .ensures .1 .1)
+    (λ h. e .if2 .left (m .ensures .0 ∙ sym (members-many circles points (a .mask)) ∙ h))))
 
 pub clipped-region-area-spec : {M : Type 1} → statement M
 clipped-region-area-spec =

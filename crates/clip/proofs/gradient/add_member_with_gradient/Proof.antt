@@ -1,21 +1,28 @@
--- `gradient::add_member_with_gradient` meets its contract. The invariant: the sum over the gaps before i.
+-- `add_member_with_gradient`: the gaps one after another (GapsTo), whose step is `addClippedArcWithGradient`, on a lent gradient.
 use borrow.Author.Needs.{needs}
-use mathlib.Core.Path.{_≡_, refl, sym, _∙_}
-use Prim.Native.Nat.{_-_, _≤_, _<_}
+use mathlib.Core.Path.{_≡_, refl, _∙_}
+use mathlib.Core.List.{List}
+use Prim.Native.Nat.{ℕ, _-_}
 use native.Mathlib.Omega.{arith}
-use borrow.Author.Tests.{lt-ltb}
+use lib.Ieee.{Float}
 use lib.ListN.{length}
-use Rattle.regions.specs.Row.{upTo}
-use Rattle.boundary.specs.Outline.{arcFrom}
-use Rattle.boundary.specs.Lists.{angleList, circleList}
-use Rattle.boundary.proofs.Gaps.{none-of-length, arcs-of-gaps}
-use Rattle.clip.specs.Gradient.{with-gradient, addClippedArcWithGradient, addClippedArcsWithGradient}
-use Rattle.clip.proofs.Walking.{fold-upTo}
+use Rattle.geometry.specs.declared.bounds.Bounds.{Bounds}
+use Rattle.geometry.specs.declared.circle.Circle.{Circle}
+use Rattle.intersections.specs.Counted.{circleList}
+use Rattle.boundary.specs.Counted.{angleList}
+use Rattle.outline.proofs.Walking.{GapsTo, gaps-none, gaps-next, gaps-all, without-gaps}
+use Rattle.clip.specs.Gradient.{WithGradient, with-gradient, addClippedArcWithGradient}
 use Rattle.clip.proofs.gradient.add_member_with_gradient.Statement.{statement}
 use Rattle.clip.proofs.gradient.add_member_with_gradient.Tie as tie
 
+record Added (box : Bounds) (s₀ : WithGradient) (cs : List Circle) (k : ℕ) (c : Circle) (phis : List Float) (n i : ℕ) (sum : Float)
+    (grad : List Float) : Type 0 where
+  same : length grad ≡ length (s₀ .grad)
+  gaps : GapsTo (addClippedArcWithGradient box cs) s₀ cs k c phis n i (with-gradient sum grad)
+
 abbrev Inv-loop : tie.InvT-loop
-Inv-loop total grad₀ bounds k circle angles set n sum₀ i₀ grad sum i = (n ≡ length (angleList angles)) × (0 < n) × (i ≤ n) × (length grad ≡ length grad₀) × (with-gradient sum grad ≡ addClippedArcsWithGradient bounds (circleList set) (with-gradient total grad₀) (upTo (arcFrom (circleList set) k circle (angleList angles)) i))
+Inv-loop total grad₀ bounds k circle angles set n sum₀ i₀ grad sum i =
+    Added bounds (with-gradient total grad₀) (circleList set) k circle (angleList angles) n i sum grad
 
 abbrev μ-loop : tie.MeasureT-loop
 μ-loop total grad₀ bounds k circle angles set n sum₀ i₀ grad sum i = n - i
@@ -34,15 +41,17 @@ same-length : tie.Need-same-length Inv-loop μ-loop
 same-length c = search needs
 
 returns : tie.Need-returns Inv-loop μ-loop
-returns c = let q = c .before .before in
+returns c =
+    let q = c .before .before in
     let w = q .before .before in
     let t = w .before in
     let a = t .before .before .before .args in
-    rw (none-of-length (angleList (a .angles)) (sym (t .before .count .ensures) ∙ t .if1 .taken), ← (w .whole-circle .ensures)) (q .add-candidate-with-gradient .ensures)
+    let cs = circleList (a .set) in
+    without-gaps (addClippedArcWithGradient (a .bounds) cs) (with-gradient (a .total) (a .grad .now)) _ cs (a .k) (a .circle) (angleList (a .angles))
+    (t .before .count .ensures) (t .if1 .taken) (w .whole-circle .ensures) (q .add-candidate-with-gradient .ensures)
 
 loop-holds : tie.Need-loop-holds Inv-loop μ-loop
-unfolding upTo
-loop-holds c = (c .before .count .ensures, omega arith, omega arith, refl, refl)
+loop-holds c = record { same = refl; gaps = gaps-none (c .before .count .ensures) (omega arith) }
 
 arc-from-requires : tie.Need-arc-from-requires Inv-loop μ-loop
 arc-from-requires c κs = search needs
@@ -58,28 +67,17 @@ loop-less : tie.Need-loop-less Inv-loop μ-loop
 loop-less c = search needs
 
 loop-again : tie.Need-loop-again Inv-loop μ-loop
-loop-again c = let q = c .before .before in
-    let g = q .before .before in
-    let l = g .before .before .loop in
-    let a = g .before .before .before .before .before .before .args in
-    let cs = circleList (a .set) in (
-      l .inv .0,
-      l .inv .1,
-      omega arith,
-      q .add-candidate-with-gradient2 .kept .1 .0 ∙ l .inv .3,
-      q .add-candidate-with-gradient2 .ensures
-          ∙ rw (g .arc-from .ensures, lt-ltb (l .i) (length (angleList (a .angles))) (omega (arith, l .inv .0)), l .inv .4)
-          (fold-upTo (addClippedArcWithGradient (a .bounds) cs) (with-gradient (a .total) (a .grad .now)) (arcFrom cs (a .k) (a .circle) (angleList (a .angles))) (l .i)),
-    )
+loop-again c =
+    let added = c .before .before .add-candidate-with-gradient2 in
+    let from = c .before .before .before .before in
+    let inv = from .before .before .loop .inv in
+    record { same = added .kept .1 .0 ∙ inv .same; gaps = gaps-next (inv .gaps) _ _ (omega arith) (from .arc-from .ensures) (added .ensures) }
 
 same-length-2 : tie.Need-same-length-2 Inv-loop μ-loop
-same-length-2 c = c .before .loop .inv .3
+same-length-2 c = c .before .loop .inv .same
 
 returns-2 : tie.Need-returns-2 Inv-loop μ-loop
-returns-2 c = let l = c .before .loop in
-    let a = c .before .before .before .before .before .args in
-    let e : l .i ≡ length (angleList (a .angles)) = omega (arith, l .inv .0) in
-    rw (arcs-of-gaps (circleList (a .set)) (a .k) (a .circle) (angleList (a .angles)) (omega (arith, l .inv .0))) (rw e at (l .inv .4))
+returns-2 c = gaps-all (c .before .loop .inv .gaps) (omega arith)
 
 pub add-member-with-gradient-spec : {M : Type 1} → statement M
 add-member-with-gradient-spec =

@@ -1,33 +1,39 @@
--- `gradient::arcs_sum_with_gradient` meets its contract. The invariant: the sum over the first i arcs.
-use mathlib.Core.Path.{_≡_, refl, sym, _∙_}
-use Prim.Native.Nat.{_-_, _≤_}
+-- `arcs_sum_with_gradient`: the arcs one after another (ArcsTo), whose step is `addClippedArcWithGradient`, on a lent gradient.
+use mathlib.Core.Path.{_≡_, refl, _∙_}
+use mathlib.Core.List.{List}
+use Prim.Native.Nat.{ℕ, _-_}
 use native.Mathlib.Omega.{arith}
+use lib.Ieee.{Float}
 use lib.ListN.{length, take}
-use lib.Seq.{take-all}
 use Rattle.binary64.specs.Constants.{zero64}
-use Rattle.boundary.specs.Set.{noArc}
-use Rattle.boundary.proofs.Arrays.{length-of-values}
-use Rattle.clip.specs.Gradient.{with-gradient, addClippedArcWithGradient, addClippedArcsWithGradient}
-use Rattle.clip.proofs.Walking.{fold-suc}
+use Rattle.geometry.specs.declared.bounds.Bounds.{Bounds}
+use Rattle.geometry.specs.declared.circle.Circle.{Circle}
+use Rattle.boundary.specs.declared.arcs.Arcs.{Arcs}
+use Rattle.lists.proofs.Arrays.{length-of-values}
+use Rattle.outline.proofs.Walking.{ArcsTo, arcs-next, arcs-by-count, arcs-by-room}
+use Rattle.clip.specs.Gradient.{with-gradient, addClippedArcWithGradient}
 use Rattle.clip.proofs.gradient.arcs_sum_with_gradient.Statement.{statement}
 use Rattle.clip.proofs.gradient.arcs_sum_with_gradient.Tie as tie
 
+record Added (box : Bounds) (cs : List Circle) (grad₀ : List Float) (arcs : Arcs) (n i : ℕ) (total : Float) (grad : List Float) : Type 0 where
+  same : length grad ≡ length grad₀
+  added : ArcsTo (addClippedArcWithGradient box cs) (with-gradient zero64 grad₀) arcs n i (with-gradient total grad)
+
 abbrev Inv-loop : tie.InvT-loop
-Inv-loop bounds circles n-sets grad₀ arcs n total₀ i₀ grad total i = (length (arcs .all) ≡ 180) × (n ≡ arcs .n) × (i ≤ 180) × (i ≤ n) × (length grad ≡ length grad₀) × (with-gradient total grad ≡ addClippedArcsWithGradient bounds (take n-sets circles) (with-gradient zero64 grad₀) (take i (arcs .all)))
+Inv-loop bounds circles n-sets grad₀ arcs n total₀ i₀ grad total i = Added bounds (take n-sets circles) grad₀ arcs n i total grad
 
 abbrev μ-loop : tie.MeasureT-loop
 μ-loop bounds circles n-sets grad₀ arcs n total₀ i₀ grad total i = 180 - i
 
 loop-holds : tie.Need-loop-holds Inv-loop μ-loop
-loop-holds c = (search length-of-values, refl, omega arith, omega arith, refl, refl)
+loop-holds c =
+    record { same = refl; added = record { places = search length-of-values; count = refl; most = omega arith; within = omega arith; sum = refl } }
 
 same-length : tie.Need-same-length Inv-loop μ-loop
-same-length c = c .before .before .loop .inv .4
+same-length c = c .before .before .loop .inv .same
 
 returns : tie.Need-returns Inv-loop μ-loop
-returns c = let l = c .before .before .loop in
-    let e : l .i ≡ c .before .before .before .before .args .t1 .n = omega arith in
-    rw e at (l .inv .5)
+returns c = arcs-by-count (c .before .before .loop .inv .added) (omega arith)
 
 mul-add-clipped-arc-with-gradient : tie.Need-mul-add-clipped-arc-with-gradient Inv-loop μ-loop
 mul-add-clipped-arc-with-gradient c = omega arith
@@ -47,27 +53,16 @@ loop-less : tie.Need-loop-less Inv-loop μ-loop
 loop-less c = omega arith
 
 loop-again : tie.Need-loop-again Inv-loop μ-loop
-loop-again c = let q = c .before .before in
-    let l = q .before .before .before .before .before .loop in
-    let a = q .before .before .before .before .before .before .before .args in (
-      l .inv .0,
-      refl,
-      omega arith,
-      omega arith,
-      q .add-clipped-arc-with-gradient .kept .1 .0 ∙ l .inv .4,
-      q .add-clipped-arc-with-gradient .ensures
-          ∙ rw (l .inv .5) (fold-suc (addClippedArcWithGradient (a .bounds) (take (a .n-sets) (a .circles))) (with-gradient zero64 (a .grad .now)) (a .t1 .all) (l .i) noArc (omega arith)),
-    )
+loop-again c =
+    let one = c .before .before .add-clipped-arc-with-gradient in
+    let inv = c .before .before .before .before .before .before .before .loop .inv in
+    record { same = one .kept .1 .0 ∙ inv .same; added = arcs-next (inv .added) _ (omega arith) (omega arith) (one .ensures) }
 
 same-length-2 : tie.Need-same-length-2 Inv-loop μ-loop
-same-length-2 c = c .before .loop .inv .4
+same-length-2 c = c .before .loop .inv .same
 
 returns-2 : tie.Need-returns-2 Inv-loop μ-loop
-returns-2 c = let l = c .before .loop in
-    let arcs = c .before .before .before .args .t1 in
-    let e : take (l .i) (arcs .all) ≡ take (arcs .n) (arcs .all) =
-    take-all (l .i) (arcs .all) (omega arith) ∙ sym (take-all (arcs .n) (arcs .all) (omega arith)) in
-    rw e at (l .inv .5)
+returns-2 c = arcs-by-room (c .before .loop .inv .added) (omega arith)
 
 pub arcs-sum-with-gradient-spec : {M : Type 1} → statement M
 arcs-sum-with-gradient-spec =

@@ -1,16 +1,15 @@
--- `gradient::clipped_region_area_and_gradient` meets its contract: one member's whole circle, or the sum over all members.
+-- `gradient::clipped_region_area_and_gradient`: one member's whole circle (`fold-one`), or the sum over all members (`fold-other`).
 use borrow.Author.Needs.{needs}
 use mathlib.Core.Path.{_≡_, refl, sym, _∙_}
 use Prim.Native.Nat.{_≤_}
 use native.Mathlib.Omega.{arith}
 use lib.ListN.{length, take, length-take}
 use Rattle.binary64.specs.Constants.{zero64}
-use Rattle.outline.specs.Counts.{heads-few}
-use Rattle.boundary.specs.Set.{membersOf}
-use Rattle.boundary.specs.Lists.{pointList, circleList}
-use Rattle.outline.proofs.Walking.{circles-of-members, members-many}
+use Rattle.intersections.specs.Counts.{heads-few}
+use Rattle.intersections.specs.Members.{membersOf}
+use Rattle.intersections.specs.Counted.{pointList, circleList}
+use Rattle.outline.proofs.Walking.{circles-of-members, members-many, fold-one, fold-other}
 use Rattle.clip.specs.Gradient.{with-gradient, addClippedArcWithGradient}
-use Rattle.clip.proofs.Walking.{fold-one, fold-other}
 use Rattle.clip.proofs.Rows.{gradient-of-members, gradient-of-members-nothing}
 use Rattle.clip.proofs.gradient.clipped_region_area_and_gradient.Statement.{statement}
 use Rattle.clip.proofs.gradient.clipped_region_area_and_gradient.Tie as tie
@@ -23,14 +22,21 @@ long c = search needs
 few : (c : tie.After-members-of) → c .members-of .result .n ≤ 10
 few c =
     let s = c .before .before .before .before in
-    omega (arith, c .members-of .ensures .0, heads-few (length (take (s .args .n-sets) (s .args .circles))) (s .args .mask), length-take (s .args .n-sets) (s .args .circles), long s)
+    omega (
+      arith,
+      c .members-of .ensures .0,
+      heads-few (length (take (s .args .n-sets) (s .args .circles))) (s .args .mask),
+      length-take (s .args .n-sets) (s .args .circles),
+      long s,
+    )
 
 empty-box-requires : tie.Need-empty-box-requires
 empty-box-requires c κs = search needs
 
 returns : tie.Need-returns
 returns c = let a = c .before .before .before .args in
-    gradient-of-members-nothing (a .bounds) (membersOf (take (a .n-sets) (a .circles)) (pointList (a .points)) (a .mask)) (a .grad .now) (sym (c .before .empty-box .ensures) ∙ c .if1 .taken)
+    gradient-of-members-nothing (a .bounds) (membersOf (take (a .n-sets) (a .circles)) (pointList (a .points)) (a .mask)) (a .grad .now)
+    (sym (c .before .empty-box .ensures) ∙ c .if1 .taken)
 
 members-of-requires : tie.Need-members-of-requires
 members-of-requires c κs = search needs
@@ -101,7 +107,8 @@ returns-3 c = let e = c .before .before in
     (m .members-of .ensures .1 .1 ∙ sym (circles-of-members circles points (a .mask)))
     many
     (t .outline-sum-with-gradient .ensures
-    ∙ fold-other (addClippedArcWithGradient (a .bounds) cs) (with-gradient zero64 (a .grad .now)) circles points (a .mask) _ cs (m .members-of .ensures .1 .0) (m .members-of .ensures .1 .1) (λ h. j .if2 .left (many ∙ h)))
+    ∙ fold-other (addClippedArcWithGradient (a .bounds) cs) (with-gradient zero64 (a .grad .now)) circles points (a .mask) _ cs
+    (m .members-of .ensures .1 .0) (m .members-of .ensures .1 .1) (λ h. j .if2 .left (many ∙ h)))
     (e .add-edges-with-gradient2 .ensures)
 
 pub clipped-region-area-and-gradient-spec : {M : Type 1} → statement M

@@ -1,38 +1,45 @@
--- `gradient::outline_sum_with_gradient` meets its contract. The invariant: the members from k on, added to the sum, give the whole.
+-- `outline_sum_with_gradient`: the walk over the members (Walked), whose step is `addClippedArcWithGradient`, on a lent gradient.
 use borrow.Author.Needs.{needs}
-use mathlib.Core.Path.{_≡_, refl, sym, _∙_}
-use Prim.Native.Nat.{_-_, _≤_, _<_}
+use mathlib.Core.Path.{_≡_, refl, _∙_}
+use mathlib.Core.List.{List}
+use Prim.Native.Nat.{ℕ, _-_}
 use native.Mathlib.Omega.{arith}
-use lib.ListN.{length, drop, length-take}
-use lib.Seq.{getD-take}
+use lib.Ieee.{Float}
+use lib.ListN.{length}
 use Rattle.binary64.specs.Constants.{zero64}
-use Rattle.boundary.specs.Outline.{outlineFrom, noCircle}
-use Rattle.boundary.specs.Set.{membersWith}
-use Rattle.boundary.specs.Lists.{pointList, headList, circleList}
-use Rattle.boundary.proofs.Arrays.{length-of-values}
-use Rattle.clip.specs.Gradient.{with-gradient, addClippedArcWithGradient, addClippedArcsWithGradient}
-use Rattle.clip.proofs.Walking.{fold-step, fold-end}
+use Rattle.geometry.specs.declared.bounds.Bounds.{Bounds}
+use Rattle.intersections.specs.declared.points.IntersectionPoint.{IntersectionPoint}
+use Rattle.intersections.specs.declared.members.Members.{Members}
+use Rattle.intersections.specs.Counted.{pointList, circleList}
+use Rattle.lists.proofs.Arrays.{length-of-values}
+use Rattle.outline.proofs.Walking.{Walked, walked-next, walked-by-count, walked-by-room}
+use Rattle.clip.specs.Gradient.{with-gradient, addClippedArcWithGradient}
 use Rattle.clip.proofs.gradient.outline_sum_with_gradient.Statement.{statement}
 use Rattle.clip.proofs.gradient.outline_sum_with_gradient.Tie as tie
 
+record Added (box : Bounds) (grad₀ : List Float) (points : List IntersectionPoint) (mask : ℕ) (set : Members) (n k : ℕ) (total : Float)
+    (grad : List Float) : Type 0 where
+  same : length grad ≡ length grad₀
+  walked : Walked (addClippedArcWithGradient box (circleList set)) (with-gradient zero64 grad₀) points mask set n k (with-gradient total grad)
+
 abbrev Inv-loop : tie.InvT-loop
-Inv-loop mask bounds points grad₀ set n total₀ k₀ grad total k = (length (set .heads) ≡ 10) × (length (set .circles) ≡ 10) × (n ≡ set .n) × (k ≤ 10) × (k ≤ n) × (length grad ≡ length grad₀) × (addClippedArcsWithGradient bounds (circleList set) (with-gradient total grad) (outlineFrom (circleList set) k (membersWith (pointList points) mask (drop k (headList set)) (drop k (circleList set)))) ≡ addClippedArcsWithGradient bounds (circleList set) (with-gradient zero64 grad₀) (outlineFrom (circleList set) 0 (membersWith (pointList points) mask (headList set) (circleList set))))
+Inv-loop mask bounds points grad₀ set n total₀ k₀ grad total k = Added bounds grad₀ (pointList points) mask set n k total grad
 
 abbrev μ-loop : tie.MeasureT-loop
 μ-loop mask bounds points grad₀ set n total₀ k₀ grad total k = 10 - k
 
 loop-holds : tie.Need-loop-holds Inv-loop μ-loop
-loop-holds c = (search needs, search length-of-values, refl, omega arith, omega arith, refl, refl)
+loop-holds c =
+    record {
+      same = refl;
+      walked = record { ten-heads = search needs; ten-circles = search length-of-values; count = refl; most = omega arith; within = omega arith; whole = refl };
+    }
 
 same-length : tie.Need-same-length Inv-loop μ-loop
-same-length c = c .before .before .loop .inv .5
+same-length c = c .before .before .loop .inv .same
 
 returns : tie.Need-returns Inv-loop μ-loop
-returns c = let l = c .before .before .loop in
-    let a = c .before .before .before .before .args in
-    let cs = circleList (a .t3) in
-    sym (fold-end (addClippedArcWithGradient (a .bounds) cs) (with-gradient (l .total) (l .grad)) (pointList (a .points)) (a .mask) (headList (a .t3)) cs (l .k) (omega (arith, length-take (a .t3 .n) (a .t3 .heads))))
-    ∙ l .inv .6
+returns c = walked-by-count (c .before .before .loop .inv .walked) (omega arith)
 
 mul-circle : tie.Need-mul-circle Inv-loop μ-loop
 mul-circle c = search needs
@@ -59,38 +66,20 @@ loop-less : tie.Need-loop-less Inv-loop μ-loop
 loop-less c = search needs
 
 loop-again : tie.Need-loop-again Inv-loop μ-loop
-loop-again c = let q = c .before .before in
-    let p = q .before .before in
-    let l = p .before .before .before .before .before .loop in
-    let a = p .before .before .before .before .before .before .before .args in
-    let set = a .t3 in
-    let below : l .k < set .n = omega arith in (
-      l .inv .0,
-      l .inv .1,
-      refl,
-      omega arith,
-      omega arith,
-      q .add-member-with-gradient .kept .1 .0 ∙ l .inv .5,
-      fold-step (addClippedArcWithGradient (a .bounds) (circleList set)) (with-gradient (l .total) (l .grad)) (pointList (a .points)) (a .mask) (headList set) (circleList set) (l .k)
-          (omega (arith, length-take (set .n) (set .heads)))
-          (omega (arith, length-take (set .n) (set .circles)))
-          _ _ _ _
-          (sym (getD-take (set .n) (set .circles) (l .k) noCircle below))
-          (sym (getD-take (set .n) (set .heads) (l .k) 0 below))
-          (p .angles-for .ensures .1)
-          (q .add-member-with-gradient .ensures)
-          ∙ l .inv .6,
-    )
+loop-again c =
+    let added = c .before .before .add-member-with-gradient in
+    let angles = c .before .before .before .before in
+    let inv = angles .before .before .before .before .before .loop .inv in
+    record {
+      same = added .kept .1 .0 ∙ inv .same;
+      walked = walked-next (inv .walked) _ _ _ (omega arith) (omega arith) refl (angles .angles-for .ensures .1) (added .ensures);
+    }
 
 same-length-2 : tie.Need-same-length-2 Inv-loop μ-loop
-same-length-2 c = c .before .loop .inv .5
+same-length-2 c = c .before .loop .inv .same
 
 returns-2 : tie.Need-returns-2 Inv-loop μ-loop
-returns-2 c = let l = c .before .loop in
-    let a = c .before .before .before .args in
-    let cs = circleList (a .t3) in
-    sym (fold-end (addClippedArcWithGradient (a .bounds) cs) (with-gradient (l .total) (l .grad)) (pointList (a .points)) (a .mask) (headList (a .t3)) cs (l .k) (omega (arith, length-take (a .t3 .n) (a .t3 .heads))))
-    ∙ l .inv .6
+returns-2 c = walked-by-room (c .before .loop .inv .walked) (omega arith)
 
 pub outline-sum-with-gradient-spec : {M : Type 1} → statement M
 outline-sum-with-gradient-spec =

@@ -1,11 +1,11 @@
--- `slopes::add_clipped_arc_with_gradient` meets its contract.
+-- `slopes::add_clipped_arc_with_gradient`: an arc of no circle of the first n adds nothing; any other finds its circle in the array.
 use borrow.Author.Needs.{needs}
 use mathlib.Core.Path.{_≡_, ap}
 use native.Mathlib.Omega.{arith}
 use borrow.Author.Tests.{le-ltb, lt-ltb}
 use lib.ListN.{length, take, length-take}
 use lib.Seq.{getD-take}
-use Rattle.boundary.specs.Outline.{noCircle}
+use Rattle.intersections.specs.Members.{noCircle}
 use Rattle.clip.specs.Gradient.{onto, addClippedArcWithGradient}
 use Rattle.clip.proofs.slopes.add_clipped_arc_with_gradient.Statement.{statement}
 use Rattle.clip.proofs.slopes.add_clipped_arc_with_gradient.Tie as tie
@@ -25,15 +25,15 @@ returns-2 c = let s = c .before .before .before in
     let a = s .args in
     rw (le-ltb (a .arc .circle) (length (take (a .n) (a .t4))) (omega (arith, length-take (a .n) (a .t4), long s)))
 
-mul-clipped-arc-integral-with-gradient : tie.Need-mul-clipped-arc-integral-with-gradient
-mul-clipped-arc-integral-with-gradient c = search needs
+mul-arc-integral-with-gradient : tie.Need-mul-arc-integral-with-gradient
+mul-arc-integral-with-gradient c = search needs
 
-array-copy-out-clipped-arc-integral-with-gradient :
-    tie.Need-array-copy-out-clipped-arc-integral-with-gradient
-array-copy-out-clipped-arc-integral-with-gradient c = search needs
+array-copy-out-arc-integral-with-gradient :
+    tie.Need-array-copy-out-arc-integral-with-gradient
+array-copy-out-arc-integral-with-gradient c = search needs
 
-clipped-arc-integral-with-gradient-requires : tie.Need-clipped-arc-integral-with-gradient-requires
-clipped-arc-integral-with-gradient-requires c κs = search needs
+arc-integral-with-gradient-requires : tie.Need-arc-integral-with-gradient-requires
+arc-integral-with-gradient-requires c κs = search needs
 
 same-length : tie.Need-same-length
 same-length c = search needs
@@ -44,8 +44,11 @@ returns-3 c = let p = c .before .before in
     let e = p .before .before .before .before in
     let s = e .before .before in
     let a = s .args in
-    rw (lt-ltb (a .arc .circle) (length (take (a .n) (a .t4))) (omega (arith, length-take (a .n) (a .t4), long s)), getD-take (a .n) (a .t4) (a .arc .circle) noCircle (e .if1 .left))
-    (ap (onto (a .total)) (p .clipped-arc-integral-with-gradient .ensures))
+    rw (
+      lt-ltb (a .arc .circle) (length (take (a .n) (a .t4))) (omega (arith, length-take (a .n) (a .t4), long s)),
+      getD-take (a .n) (a .t4) (a .arc .circle) noCircle (e .if1 .left),
+    )
+    (ap (onto (a .total)) (p .arc-integral-with-gradient .ensures))
 
 pub add-clipped-arc-with-gradient-spec : {M : Type 1} → statement M
 add-clipped-arc-with-gradient-spec =
@@ -53,8 +56,8 @@ add-clipped-arc-with-gradient-spec =
     (tie.spec
     returns
     returns-2
-    mul-clipped-arc-integral-with-gradient
-    array-copy-out-clipped-arc-integral-with-gradient
-    clipped-arc-integral-with-gradient-requires
+    mul-arc-integral-with-gradient
+    array-copy-out-arc-integral-with-gradient
+    arc-integral-with-gradient-requires
     same-length
     returns-3)

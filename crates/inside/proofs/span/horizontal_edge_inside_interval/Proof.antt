@@ -1,7 +1,7 @@
--- `span::horizontal_edge_inside_interval` meets its contract.
+-- `span::horizontal_edge_inside_interval`: a level edge sees the circles as they are (`seen-level`).
 use borrow.Author.Needs.{needs}
 use mathlib.Core.Path.{_∙_, ap}
-use Rattle.boundary.specs.Lists.{circleList}
+use Rattle.intersections.specs.Counted.{circleList}
 use Rattle.inside.specs.Span.{horizontalSpan}
 use Rattle.inside.proofs.Spanning.{seen-level}
 use Rattle.inside.proofs.span.horizontal_edge_inside_interval.Statement.{statement}

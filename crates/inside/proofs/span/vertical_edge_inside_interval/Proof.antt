@@ -1,7 +1,7 @@
--- `span::vertical_edge_inside_interval` meets its contract.
+-- `span::vertical_edge_inside_interval`: an upright edge is a level one of the swapped circles (`seen-upright`).
 use borrow.Author.Needs.{needs}
 use mathlib.Core.Path.{_∙_}
-use Rattle.boundary.specs.Lists.{circleList}
+use Rattle.intersections.specs.Counted.{circleList}
 use Rattle.inside.proofs.Spanning.{seen-upright}
 use Rattle.inside.proofs.span.vertical_edge_inside_interval.Statement.{statement}
 use Rattle.inside.proofs.span.vertical_edge_inside_interval.Tie as tie

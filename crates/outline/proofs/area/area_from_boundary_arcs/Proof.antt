@@ -1,32 +1,27 @@
--- `area::area_from_boundary_arcs` meets its contract. The invariant: the sum over the first i arcs.
-use mathlib.Core.Path.{_≡_, refl, sym, _∙_}
-use Prim.Native.Nat.{_-_, _≤_}
+-- `area_from_boundary_arcs`: the arcs one after another (ArcsTo), whose step is `addArc`.
+use mathlib.Core.Path.{refl}
+use Prim.Native.Nat.{_-_}
 use native.Mathlib.Omega.{arith}
-use lib.ListN.{length, take}
-use lib.Seq.{take-all}
+use lib.ListN.{take}
 use Rattle.binary64.specs.Constants.{zero64}
-use Rattle.outline.specs.Area.{addArcs, areaOf}
-use Rattle.boundary.specs.Set.{noArc}
-use Rattle.boundary.proofs.Arrays.{length-of-values}
-use Rattle.outline.proofs.Summing.{addArcs-suc}
+use Rattle.lists.proofs.Arrays.{length-of-values}
+use Rattle.outline.specs.Area.{addArc, areaOf}
+use Rattle.outline.proofs.Walking.{ArcsTo, arcs-next, arcs-by-count, arcs-by-room}
 use Rattle.outline.proofs.area.area_from_boundary_arcs.Statement.{statement}
 use Rattle.outline.proofs.area.area_from_boundary_arcs.Tie as tie
 
 abbrev Inv-loop : tie.InvT-loop
-Inv-loop circles n-sets arcs n total₀ i₀ total i = (length (arcs .all) ≡ 180) × (n ≡ arcs .n) × (i ≤ 180) × (i ≤ n) × (total ≡ addArcs (take n-sets circles) zero64 (take i (arcs .all)))
+Inv-loop circles n-sets arcs n total₀ i₀ total i = ArcsTo (addArc (take n-sets circles)) zero64 arcs n i total
 
 abbrev μ-loop : tie.MeasureT-loop
 μ-loop circles n-sets arcs n total₀ i₀ total i = 180 - i
 
 loop-holds : tie.Need-loop-holds Inv-loop μ-loop
-unfolding addArcs
-loop-holds c = (search length-of-values, refl, omega arith, omega arith, refl)
+loop-holds c = record { places = search length-of-values; count = refl; most = omega arith; within = omega arith; sum = refl }
 
 returns : tie.Need-returns Inv-loop μ-loop
 unfolding areaOf
-returns c = let l = c .before .before .loop in let a = c .before .before .before .args in
-    let e : l .i ≡ a .t1 .n = omega arith in
-    rw (rw e at (l .inv .4))
+returns c = rw (arcs-by-count (c .before .before .loop .inv) (omega arith))
 
 mul-add-arc : tie.Need-mul-add-arc Inv-loop μ-loop
 mul-add-arc c = omega arith
@@ -44,14 +39,11 @@ loop-less : tie.Need-loop-less Inv-loop μ-loop
 loop-less c = omega arith
 
 loop-again : tie.Need-loop-again Inv-loop μ-loop
-loop-again c = let l = c .before .before .before .before .loop in let a = c .before .before .before .before .before .args in
-    (l .inv .0, refl, omega arith, omega arith, c .add-arc .ensures ∙ rw (l .inv .4) (sym (addArcs-suc (take (a .n-sets) (a .circles)) zero64 (a .t1 .all) (l .i) noArc (omega arith))))
+loop-again c = arcs-next (c .before .before .before .before .loop .inv) _ (omega arith) (omega arith) (c .add-arc .ensures)
 
 returns-2 : tie.Need-returns-2 Inv-loop μ-loop
 unfolding areaOf
-returns-2 c = let l = c .before .loop in let a = c .before .before .args in
-    let e : take (l .i) (a .t1 .all) ≡ take (a .t1 .n) (a .t1 .all) = take-all (l .i) (a .t1 .all) (omega arith) ∙ sym (take-all (a .t1 .n) (a .t1 .all) (omega arith)) in
-    rw (rw e at (l .inv .4))
+returns-2 c = rw (arcs-by-room (c .before .loop .inv) (omega arith))
 
 pub area-from-boundary-arcs-spec : {M : Type 1} → statement M
 area-from-boundary-arcs-spec =

@@ -1,32 +1,28 @@
--- `area::outline_sum` meets its contract. The invariant: the members from k on, added to the sum, give the whole.
+-- `outline_sum`: the walk over the members (Walked), whose step is `addArc`.
 use borrow.Author.Needs.{needs}
-use mathlib.Core.Path.{_≡_, refl, sym, _∙_}
-use Prim.Native.Nat.{_-_, _≤_, _<_}
+use mathlib.Core.Path.{refl}
+use Prim.Native.Nat.{_-_}
 use native.Mathlib.Omega.{arith}
-use lib.ListN.{length, drop, length-take}
-use lib.Seq.{getD-take}
 use Rattle.binary64.specs.Constants.{zero64}
-use Rattle.boundary.specs.Outline.{outlineFrom, noCircle}
-use Rattle.outline.specs.Area.{addArcs}
-use Rattle.boundary.specs.Set.{membersWith}
-use Rattle.boundary.specs.Lists.{pointList, headList, circleList}
-use Rattle.boundary.proofs.Arrays.{length-of-values}
-use Rattle.outline.proofs.Walking.{sum-step, sum-end}
+use Rattle.intersections.specs.Counted.{pointList, circleList}
+use Rattle.lists.proofs.Arrays.{length-of-values}
+use Rattle.outline.specs.Area.{addArc}
+use Rattle.outline.proofs.Walking.{Walked, walked-next, walked-by-count, walked-by-room}
 use Rattle.outline.proofs.area.outline_sum.Statement.{statement}
 use Rattle.outline.proofs.area.outline_sum.Tie as tie
 
 abbrev Inv-loop : tie.InvT-loop
-Inv-loop mask points set n total₀ k₀ total k = (length (set .heads) ≡ 10) × (length (set .circles) ≡ 10) × (n ≡ set .n) × (k ≤ 10) × (k ≤ n) × (addArcs (circleList set) total (outlineFrom (circleList set) k (membersWith (pointList points) mask (drop k (headList set)) (drop k (circleList set)))) ≡ addArcs (circleList set) zero64 (outlineFrom (circleList set) 0 (membersWith (pointList points) mask (headList set) (circleList set))))
+Inv-loop mask points set n total₀ k₀ total k = Walked (addArc (circleList set)) zero64 (pointList points) mask set n k total
 
 abbrev μ-loop : tie.MeasureT-loop
 μ-loop mask points set n total₀ k₀ total k = 10 - k
 
 loop-holds : tie.Need-loop-holds Inv-loop μ-loop
-loop-holds c = (search needs, search length-of-values, refl, omega arith, omega arith, refl)
+loop-holds c =
+    record { ten-heads = search needs; ten-circles = search length-of-values; count = refl; most = omega arith; within = omega arith; whole = refl }
 
 returns : tie.Need-returns Inv-loop μ-loop
-returns c = let l = c .before .before .loop in let a = c .before .before .before .args in
-    sym (sum-end (pointList (a .points)) (a .mask) (headList (a .t2)) (circleList (a .t2)) (l .k) (l .total) (omega (arith, length-take (a .t2 .n) (a .t2 .heads)))) ∙ l .inv .5
+returns c = walked-by-count (c .before .before .loop .inv) (omega arith)
 
 mul-circle : tie.Need-mul-circle Inv-loop μ-loop
 mul-circle c = omega arith
@@ -55,27 +51,10 @@ loop-less c = omega arith
 loop-again : tie.Need-loop-again Inv-loop μ-loop
 loop-again c =
     let l = c .before .before .before .before .before .before .loop in
-    let a = c .before .before .before .before .before .before .before .args in
-    let below : l .k < a .t2 .n = omega arith in (
-      l .inv .0,
-      l .inv .1,
-      refl,
-      omega arith,
-      omega arith,
-      sum-step (pointList (a .points)) (a .mask) (headList (a .t2)) (circleList (a .t2)) (l .k)
-          (omega (arith, length-take (a .t2 .n) (a .t2 .heads)))
-          (omega (arith, length-take (a .t2 .n) (a .t2 .circles)))
-          _ _ _ _ _
-          (sym (getD-take (a .t2 .n) (a .t2 .circles) (l .k) noCircle below))
-          (sym (getD-take (a .t2 .n) (a .t2 .heads) (l .k) 0 below))
-          (c .before .angles-for .ensures .1)
-          (c .add-member .ensures)
-          ∙ l .inv .5,
-    )
+    walked-next (l .inv) _ _ _ (omega arith) (omega arith) refl (c .before .angles-for .ensures .1) (c .add-member .ensures)
 
 returns-2 : tie.Need-returns-2 Inv-loop μ-loop
-returns-2 c = let l = c .before .loop in let a = c .before .before .args in
-    sym (sum-end (pointList (a .points)) (a .mask) (headList (a .t2)) (circleList (a .t2)) (l .k) (l .total) (omega (arith, length-take (a .t2 .n) (a .t2 .heads)))) ∙ l .inv .5
+returns-2 c = walked-by-room (c .before .loop .inv) (omega arith)
 
 pub outline-sum-spec : {M : Type 1} → statement M
 outline-sum-spec =

@@ -1,34 +1,37 @@
--- `gradient::accumulate_region_overlap_gradient` meets its contract. The invariant: the first i arcs are added.
-use mathlib.Core.Path.{_≡_, refl, sym, _∙_}
-use Prim.Native.Nat.{_-_, _≤_}
+-- `accumulate_region_overlap_gradient`: the arcs one after another (ArcsTo), whose step is `addSlopes`, on a lent gradient.
+use mathlib.Core.Path.{_≡_, refl, _∙_}
+use Prim.Native.Nat.{ℕ, _-_}
+use mathlib.Core.List.{List}
 use native.Mathlib.Omega.{arith}
+use lib.Ieee.{Float}
 use lib.ListN.{length, take}
-use lib.Seq.{take-all}
-use Rattle.outline.specs.Area.{addGradient}
-use Rattle.boundary.specs.Set.{noArc}
-use Rattle.boundary.proofs.Arrays.{length-of-values}
-use Rattle.outline.proofs.Summing.{addGradient-suc}
+use Rattle.lists.proofs.Arrays.{length-of-values}
+use Rattle.geometry.specs.declared.circle.Circle.{Circle}
+use Rattle.boundary.specs.declared.arcs.Arcs.{Arcs}
+use Rattle.outline.specs.Area.{addSlopes}
+use Rattle.outline.proofs.Walking.{ArcsTo, arcs-next, arcs-by-count, arcs-by-room}
 use Rattle.outline.proofs.gradient.accumulate_region_overlap_gradient.Statement.{statement}
 use Rattle.outline.proofs.gradient.accumulate_region_overlap_gradient.Tie as tie
 
+record Added (cs : List Circle) (grad₀ : List Float) (arcs : Arcs) (n i : ℕ) (grad : List Float) : Type 0 where
+  same : length grad ≡ length grad₀
+  added : ArcsTo (addSlopes cs) grad₀ arcs n i grad
+
 abbrev Inv-loop : tie.InvT-loop
-Inv-loop circles n-sets grad₀ arcs n i₀ grad i = (length (arcs .all) ≡ 180) × (n ≡ arcs .n) × (i ≤ 180) × (i ≤ n) × (length grad ≡ length grad₀) × (grad ≡ addGradient (take n-sets circles) grad₀ (take i (arcs .all)))
+Inv-loop circles n-sets grad₀ arcs n i₀ grad i = Added (take n-sets circles) grad₀ arcs n i grad
 
 abbrev μ-loop : tie.MeasureT-loop
 μ-loop circles n-sets grad₀ arcs n i₀ grad i = 180 - i
 
 loop-holds : tie.Need-loop-holds Inv-loop μ-loop
-unfolding addGradient
-loop-holds c = (search length-of-values, refl, omega arith, omega arith, refl, refl)
+loop-holds c =
+    record { same = refl; added = record { places = search length-of-values; count = refl; most = omega arith; within = omega arith; sum = refl } }
 
 same-length : tie.Need-same-length Inv-loop μ-loop
-same-length c = c .before .before .loop .inv .4
+same-length c = c .before .before .loop .inv .same
 
 returns : tie.Need-returns Inv-loop μ-loop
-returns c =
-    let l = c .before .before .loop in
-    let e : l .i ≡ c .before .before .before .before .args .t1 .n = omega arith in
-    rw e at (l .inv .5)
+returns c = arcs-by-count (c .before .before .loop .inv .added) (omega arith)
 
 mul-add-slopes : tie.Need-mul-add-slopes Inv-loop μ-loop
 mul-add-slopes c = omega arith
@@ -48,28 +51,14 @@ loop-less c = omega arith
 loop-again : tie.Need-loop-again Inv-loop μ-loop
 loop-again c =
     let l = c .before .before .before .before .before .before .before .loop in
-    let a = c .before .before .before .before .before .before .before .before .before .args in
-    let added = c .before .before .add-slopes in (
-      l .inv .0,
-      refl,
-      omega arith,
-      omega arith,
-      added .kept .0 ∙ l .inv .4,
-      added .ensures
-          ∙ rw (l .inv .5)
-          (sym (addGradient-suc (take (a .n-sets) (a .circles)) (a .grad .now) (a .t1 .all) (l .i) noArc (omega arith))),
-    )
+    let slopes = c .before .before .add-slopes in
+    record { same = slopes .kept .0 ∙ l .inv .same; added = arcs-next (l .inv .added) _ (omega arith) (omega arith) (slopes .ensures) }
 
 same-length-2 : tie.Need-same-length-2 Inv-loop μ-loop
-same-length-2 c = c .before .loop .inv .4
+same-length-2 c = c .before .loop .inv .same
 
 returns-2 : tie.Need-returns-2 Inv-loop μ-loop
-returns-2 c =
-    let l = c .before .loop in
-    let arcs = c .before .before .before .args .t1 in
-    let e : take (l .i) (arcs .all) ≡ take (arcs .n) (arcs .all) =
-    take-all (l .i) (arcs .all) (omega arith) ∙ sym (take-all (arcs .n) (arcs .all) (omega arith)) in
-    rw e at (l .inv .5)
+returns-2 c = arcs-by-room (c .before .loop .inv .added) (omega arith)
 
 pub accumulate-region-overlap-gradient-spec : {M : Type 1} → statement M
 accumulate-region-overlap-gradient-spec =

@@ -1,10 +1,10 @@
--- `outline::push_candidate` meets its contract.
+-- `outline::push_candidate`: one pushed, and its count (`pushed-count`), or none (`pushed-none`).
 use mathlib.Core.Path.{_≡_}
 use native.Mathlib.Omega.{arith}
 use lib.ListN.{length, length-take}
-use Rattle.boundary.specs.Lists.{arcList}
-use Rattle.boundary.proofs.Arrays.{length-of-values}
-use Rattle.outline.proofs.Listing.{pushed-none, pushed-count}
+use Rattle.boundary.specs.Counted.{arcList}
+use Rattle.lists.proofs.Arrays.{length-of-values}
+use Rattle.lists.proofs.Listing.{pushed-none, pushed-count}
 use borrow.Author.Needs.{needs}
 use Rattle.outline.proofs.outline.push_candidate.Statement.{statement}
 use Rattle.outline.proofs.outline.push_candidate.Tie as tie

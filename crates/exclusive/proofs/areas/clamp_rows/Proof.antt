@@ -1,0 +1,108 @@
+-- `areas::clamp_rows` meets its contract. The invariant: the rows below s are clamped, the others are as they were.
+use mathlib.Core.Path.{_≡_, refl, sym, ap, _∙_}
+use mathlib.Core.Bool.{cond}
+use mathlib.Core.List.{List}
+use Prim.Native.Nat.{ℕ, _+_, _-_, _^_, _≤_, _<_}
+use native.Mathlib.Nat.{le-refl}
+use native.Mathlib.Omega.{arith}
+use lib.Ieee.{Float, nan}
+use lib.ListN.{length, getD, set, length-set}
+use Rattle.lists.specs.Written.{written}
+use Rattle.lists.proofs.Writing.{written-none, written-past, write-next}
+use Rattle.masks.specs.Operations.{shifted-is}
+use Rattle.masks.specs.Presence.{stands}
+use Rattle.binary64.specs.Constants.{zero64}
+use Rattle.binary64.specs.Functions.{clampToZero}
+use borrow.Author.Needs.{needs}
+use Rattle.exclusive.proofs.areas.clamp_rows.Statement.{statement}
+use Rattle.exclusive.proofs.areas.clamp_rows.Tie as tie
+
+-- row S of the table
+abbrev row : List ℕ → List Float → ℕ → Float
+row present numbers S = cond (stands present S) (clampToZero (getD numbers S nan)) zero64
+
+abbrev Inv-loop : tie.InvT-loop
+Inv-loop present numbers₀ n masks s₀ numbers s =
+    (n ≤ 10) × (masks ≡ 2 ^ n) × (2 ^ n ≤ length present) × (2 ^ n ≤ length numbers₀) × (s ≤ masks) × (length numbers ≡ length numbers₀)
+    × (numbers ≡ written (row present numbers₀) s numbers₀)
+
+abbrev μ-loop : tie.MeasureT-loop
+μ-loop present numbers₀ n masks s₀ numbers s = masks - s
+
+shl-masks : tie.Need-shl-masks Inv-loop μ-loop
+shl-masks c = search needs
+
+loop-holds : tie.Need-loop-holds Inv-loop μ-loop
+loop-holds c =
+    let t = c .before .before in let p = t .pre in let a = t .args in
+    (p .0, shifted-is 64 (a .n) (omega arith), p .1, p .2, omega arith, refl, written-none (row (a .present .now) (a .numbers .now)) (a .numbers .now))
+
+shared-slice-read-clamped : tie.Need-shared-slice-read-clamped Inv-loop μ-loop
+shared-slice-read-clamped c = search needs
+
+mul-clamped : tie.Need-mul-clamped Inv-loop μ-loop
+mul-clamped c = search needs
+
+slice-read-clamped : tie.Need-slice-read-clamped Inv-loop μ-loop
+slice-read-clamped c = search needs
+
+clamped-requires : tie.Need-clamped-requires Inv-loop μ-loop
+clamped-requires c κs = search needs
+
+mul-numbers : tie.Need-mul-numbers Inv-loop μ-loop
+mul-numbers c = search needs
+
+slice-write-numbers : tie.Need-slice-write-numbers Inv-loop μ-loop
+slice-write-numbers c = search needs
+
+add-s : tie.Need-add-s Inv-loop μ-loop
+add-s c = search needs
+
+loop-less : tie.Need-loop-less Inv-loop μ-loop
+loop-less c = search needs
+
+loop-again : tie.Need-loop-again Inv-loop μ-loop
+loop-again c =
+    let m = c .before .before .before in let l = m .before .loop in let i = l .inv in let a = m .before .before .before .before .args in
+    let f = row (a .present .now) (a .numbers .now) in
+    let v = c .clamped .result in
+    let old = ap (λ (t : List Float). getD t (l .s) nan) (i .6) ∙ written-past f (l .s) (l .s) (a .numbers .now) nan (le-refl (l .s)) in (
+      i .0,
+      i .1,
+      i .2,
+      i .3,
+      omega arith,
+      length-set (l .numbers) (l .s) v ∙ i .5,
+      ap (λ (t : List Float). set t (l .s) v) (i .6)
+          ∙ write-next f (l .s) (a .numbers .now) v nan (omega (arith, i .1, i .3))
+          (c .clamped .ensures ∙ ap (λ (x : Float). cond (stands (a .present .now) (l .s)) (clampToZero x) zero64) old),
+    )
+
+same-length : tie.Need-same-length Inv-loop μ-loop
+same-length c = c .before .loop .inv .5
+
+returns : tie.Need-returns Inv-loop μ-loop
+returns c =
+    let l = c .before .loop in let i = l .inv in let a = c .before .before .before .before .args in
+    let e : l .s ≡ 2 ^ a .n = omega (arith, i .1) in
+    i .6 ∙ ap (λ (m : ℕ). written (row (a .present .now) (a .numbers .now)) m (a .numbers .now)) e
+
+pub clamp-rows-spec : {M : Type 1} → statement M
+clamp-rows-spec =
+    tie.close
+    (tie.spec
+    Inv-loop
+    μ-loop
+    shl-masks
+    loop-holds
+    shared-slice-read-clamped
+    mul-clamped
+    slice-read-clamped
+    clamped-requires
+    mul-numbers
+    slice-write-numbers
+    add-s
+    loop-less
+    loop-again
+    same-length
+    returns)

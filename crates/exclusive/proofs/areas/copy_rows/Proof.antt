@@ -1,0 +1,88 @@
+-- `areas::copy_rows` meets its contract. The invariant: the rows below s are written, the others are as they were.
+use mathlib.Core.Path.{_≡_, refl, sym, ap, _∙_}
+use mathlib.Core.List.{List}
+use Prim.Native.Nat.{ℕ, _+_, _-_, _^_, _≤_, _<_}
+use native.Mathlib.Omega.{arith}
+use lib.Ieee.{Float, nan}
+use lib.ListN.{length, getD, set, length-set}
+use Rattle.lists.specs.Written.{written}
+use Rattle.lists.proofs.Writing.{written-none, write-next}
+use Rattle.masks.specs.Operations.{shifted-is}
+use borrow.Author.Needs.{needs}
+use Rattle.exclusive.proofs.areas.copy_rows.Statement.{statement}
+use Rattle.exclusive.proofs.areas.copy_rows.Tie as tie
+
+abbrev Inv-loop : tie.InvT-loop
+Inv-loop areas exclusives₀ n masks s₀ exclusives s =
+    (n ≤ 10) × (masks ≡ 2 ^ n) × (2 ^ n ≤ length areas) × (2 ^ n ≤ length exclusives₀) × (s ≤ masks) × (length exclusives ≡ length exclusives₀)
+    × (exclusives ≡ written (λ S. getD areas S nan) s exclusives₀)
+
+abbrev μ-loop : tie.MeasureT-loop
+μ-loop areas exclusives₀ n masks s₀ exclusives s = masks - s
+
+shl-masks : tie.Need-shl-masks Inv-loop μ-loop
+shl-masks c = search needs
+
+loop-holds : tie.Need-loop-holds Inv-loop μ-loop
+loop-holds c =
+    let p = c .pre in let a = c .args in
+    (p .0, shifted-is 64 (a .n) (omega arith), p .1, p .2, omega arith, refl, written-none (λ S. getD (a .areas .now) S nan) (a .exclusives .now))
+
+mul-exclusives : tie.Need-mul-exclusives Inv-loop μ-loop
+mul-exclusives c = search needs
+
+shared-slice-read-exclusives : tie.Need-shared-slice-read-exclusives Inv-loop μ-loop
+shared-slice-read-exclusives c = search needs
+
+mul-exclusives-2 : tie.Need-mul-exclusives-2 Inv-loop μ-loop
+mul-exclusives-2 c = search needs
+
+slice-write-exclusives : tie.Need-slice-write-exclusives Inv-loop μ-loop
+slice-write-exclusives c = search needs
+
+add-s : tie.Need-add-s Inv-loop μ-loop
+add-s c = search needs
+
+loop-less : tie.Need-loop-less Inv-loop μ-loop
+loop-less c = search needs
+
+loop-again : tie.Need-loop-again Inv-loop μ-loop
+loop-again c =
+    let l = c .before .before .loop in let i = l .inv in let a = c .before .before .before .args in
+    let v = getD (a .areas .now) (l .s) nan in (
+      i .0,
+      i .1,
+      i .2,
+      i .3,
+      omega arith,
+      length-set (l .exclusives) (l .s) v ∙ i .5,
+      ap (λ (t : List Float). set t (l .s) v) (i .6)
+          ∙ write-next (λ S. getD (a .areas .now) S nan) (l .s) (a .exclusives .now) v nan (omega (arith, i .1, i .3)) refl,
+    )
+
+same-length : tie.Need-same-length Inv-loop μ-loop
+same-length c = c .before .loop .inv .5
+
+returns : tie.Need-returns Inv-loop μ-loop
+returns c =
+    let l = c .before .loop in let i = l .inv in let a = c .before .before .args in
+    let e : l .s ≡ 2 ^ a .n = omega (arith, i .1) in
+    i .6 ∙ ap (λ (m : ℕ). written (λ S. getD (a .areas .now) S nan) m (a .exclusives .now)) e
+
+pub copy-rows-spec : {M : Type 1} → statement M
+copy-rows-spec =
+    tie.close
+    (tie.spec
+    Inv-loop
+    μ-loop
+    shl-masks
+    loop-holds
+    mul-exclusives
+    shared-slice-read-exclusives
+    mul-exclusives-2
+    slice-write-exclusives
+    add-s
+    loop-less
+    loop-again
+    same-length
+    returns)

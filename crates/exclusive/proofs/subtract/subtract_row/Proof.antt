@@ -1,0 +1,93 @@
+-- `subtract::subtract_row` meets its contract. The invariant: the sums are subtracted from the first k numbers of the row.
+use mathlib.Core.Path.{_≡_, sym, ap, subst}
+use Prim.Native.Nat.{ℕ, suc, _+_, _*_, _-_, _≤_, _<_}
+use native.Mathlib.Omega.{arith}
+use lib.ListN.{length, take}
+use Rattle.lists.specs.Every.{Every}
+use Rattle.exclusive.specs.Entries.{RowSubtracted}
+use Rattle.exclusive.proofs.Entries.{row-start, row-next}
+use borrow.Author.Needs.{needs}
+use Rattle.exclusive.proofs.subtract.subtract_row.Statement.{statement}
+use Rattle.exclusive.proofs.subtract.subtract_row.Tie as tie
+
+abbrev Inv-loop : tie.InvT-loop
+Inv-loop s rows count numbers₀ width k₀ numbers k =
+    (count ≤ 1024) × (length rows ≡ 1024) × (suc s * width ≤ length numbers₀) × Every (λ T. suc T * width ≤ length numbers₀) (take count rows)
+    × Every (λ T. T ≡ s → ⊥) (take count rows) × (k ≤ width) × RowSubtracted width s (take count rows) k numbers₀ numbers
+
+abbrev μ-loop : tie.MeasureT-loop
+μ-loop s rows count numbers₀ width k₀ numbers k = width - k
+
+loop-holds : tie.Need-loop-holds Inv-loop μ-loop
+loop-holds c =
+    let p = c .before .pre in let a = c .before .args in (p .0, p .1, p .2, p .3, p .4, omega arith, row-start (a .width) (a .s) (take (a .count) (a .rows .now)) (a .numbers .now) (a .numbers .now))
+
+sum-rows-requires : tie.Need-sum-rows-requires Inv-loop μ-loop
+sum-rows-requires c κs =
+    let l = c .before .before .loop in let i = l .inv in let a = c .before .before .before .before .args in
+    (i .0, i .1, c .before .loop-test .taken, subst (λ (m : ℕ). Every (λ T. suc T * a .width ≤ m) (take (a .count) (a .rows .now))) (sym (i .6 .many)) (i .3))
+
+mul-at : tie.Need-mul-at Inv-loop μ-loop
+mul-at c = omega (arith, c)
+
+add-at : tie.Need-add-at Inv-loop μ-loop
+add-at c = search needs
+
+mul-numbers : tie.Need-mul-numbers Inv-loop μ-loop
+mul-numbers c = search needs
+
+slice-read-numbers : tie.Need-slice-read-numbers Inv-loop μ-loop
+slice-read-numbers c = search needs
+
+mul-numbers-2 : tie.Need-mul-numbers-2 Inv-loop μ-loop
+mul-numbers-2 c = search needs
+
+slice-write-numbers : tie.Need-slice-write-numbers Inv-loop μ-loop
+slice-write-numbers c = search needs
+
+add-k : tie.Need-add-k Inv-loop μ-loop
+add-k c = search needs
+
+loop-less : tie.Need-loop-less Inv-loop μ-loop
+loop-less c = search needs
+
+loop-again : tie.Need-loop-again Inv-loop μ-loop
+loop-again c =
+    let m = c .before .before .before in let l = m .before .loop in let i = l .inv in let a = m .before .before .before .args in (
+      i .0,
+      i .1,
+      i .2,
+      i .3,
+      i .4,
+      omega arith,
+      row-next (a .width) (a .s) (take (a .count) (a .rows .now)) (a .numbers .now) (l .numbers) (l .k) (c .before .sum-rows .result) (omega arith) (i .2) (i .4) (c .before .sum-rows .ensures) (i .6),
+    )
+
+same-length : tie.Need-same-length Inv-loop μ-loop
+same-length c = c .before .loop .inv .6 .many
+
+returns : tie.Need-returns Inv-loop μ-loop
+returns c =
+    let l = c .before .loop in let i = l .inv in let a = c .before .before .before .args in
+    let e : l .k ≡ a .width = omega arith in
+    subst (λ (k : ℕ). RowSubtracted (a .width) (a .s) (take (a .count) (a .rows .now)) k (a .numbers .now) (l .numbers)) e (i .6)
+
+pub subtract-row-spec : {M : Type 1} → statement M
+subtract-row-spec =
+    tie.close
+    (tie.spec
+    Inv-loop
+    μ-loop
+    loop-holds
+    sum-rows-requires
+    mul-at
+    add-at
+    mul-numbers
+    slice-read-numbers
+    mul-numbers-2
+    slice-write-numbers
+    add-k
+    loop-less
+    loop-again
+    same-length
+    returns)

@@ -1,0 +1,165 @@
+-- `subtract::subtract_supersets` meets its contract. The invariant: the rows from place i on have their unclamped exclusives, those before it
+-- are as they were.
+use mathlib.Core.Path.{_≡_, sym, ap, _∙_, subst}
+use mathlib.Core.List.{List}
+use Prim.Native.Nat.{ℕ, suc, _+_, _*_, _-_, _^_, _≤_, _<_}
+use native.Mathlib.Nat.{mul-le-mul-right}
+use native.Mathlib.Omega.{arith}
+use lib.Count.{ones}
+use lib.ListN.{length, getD, take, drop, length-take, length-replicate}
+use lib.Seq.{getD-take}
+use Rattle.lists.specs.Lists.{keep}
+use Rattle.lists.specs.Every.{Every, every-at, every-map}
+use Rattle.masks.specs.Mask.{strictSubset}
+use Rattle.masks.specs.Presence.{stands}
+use Rattle.exclusive.specs.RowOrder.{rowOrder}
+use Rattle.exclusive.specs.Exclusive.{above}
+use Rattle.exclusive.proofs.RowOrder.{every-row}
+use Rattle.exclusive.proofs.Places.{row-lt}
+use Rattle.exclusive.proofs.Unclamped.{above-every}
+use Rattle.exclusive.proofs.Sums.{strict-at}
+use Rattle.exclusive.proofs.Passing.{Pass, pass-start, pass-next, pass-end, all-above}
+use borrow.Author.Needs.{needs}
+use Rattle.exclusive.proofs.subtract.subtract_supersets.Statement.{statement}
+use Rattle.exclusive.proofs.subtract.subtract_supersets.Tie as tie
+
+abbrev Inv-loop : tie.InvT-loop
+Inv-loop present numbers₀ n width order count supersets₀ i₀ numbers supersets i =
+    (n ≤ 10) × (2 ^ n * width ≤ length numbers₀) × (length order ≡ 1024) × (count ≤ 1024) × (take count order ≡ rowOrder (stands present) n) × (i ≤ count)
+    × (length supersets ≡ 1024) × Pass n (stands present) width i numbers₀ numbers
+
+abbrev μ-loop : tie.MeasureT-loop
+μ-loop present numbers₀ n width order count supersets₀ i₀ numbers supersets i = i
+
+row-order-requires : tie.Need-row-order-requires Inv-loop μ-loop
+row-order-requires c κs = let p = c .before .before .pre in (p .0, p .1)
+
+loop-holds : tie.Need-loop-holds Inv-loop μ-loop
+loop-holds c =
+    let r = c .before in let s = r .before .before .before in let p = s .pre in let a = s .args in
+    let rows = r .row-order .result in let e = r .row-order .ensures in (
+      p .0,
+      p .2,
+      e .1 .1,
+      e .1 .0,
+      e .0,
+      omega arith,
+      length-replicate {A = ℕ} 1024 0,
+      pass-start (a .n) (stands (a .present .now)) (a .width) (rows .n) (a .numbers .now) (omega (arith, length-take (rows .n) (rows .all), ap length (e .0))),
+    )
+
+-- the place before i is one of the order, and the row there a mask of the table
+module _ (c : tie.In-loop Inv-loop μ-loop) where
+  abbrev rows : ℕ → ℕ
+  rows j = getD (c .before .before .before .row-order .result .all) j 0
+
+  abbrev at : ℕ
+  at = c .before .loop .i - 1
+
+  abbrev n : ℕ
+  n = c .before .before .before .before .before .before .args .n
+
+  abbrev bytes : List ℕ
+  bytes = c .before .before .before .before .before .before .args .present .now
+
+  inside : at < length (rowOrder (stands bytes) n)
+  inside =
+      let i = c .before .loop .inv in
+      omega (arith, length-take (c .before .before .before .row-order .result .n) (c .before .before .before .row-order .result .all), ap length (i .4), i .2, i .3, i .5)
+
+  here : getD (rowOrder (stands bytes) n) at 0 ≡ rows at
+  here =
+      let i = c .before .loop .inv in let r = c .before .before .before .row-order .result in
+      ap (λ (l : List ℕ). getD l at 0) (sym (i .4)) ∙ getD-take (r .n) (r .all) at 0 (omega (arith, i .5))
+
+  own : rows at < 2 ^ n
+  own =
+      subst (λ (m : ℕ). m < 2 ^ n) here
+      (every-at (λ T. T < 2 ^ n) (rowOrder (stands bytes) n) at 0 inside (every-row (stands bytes) (λ T. T < 2 ^ n) n (λ T h p. h)))
+
+  -- what is collected there is what is above the row
+  collected : (l : List ℕ) → l ≡ keep (strictSubset 64 (rows at)) (drop (at + 1) (take (c .before .before .before .row-order .result .n) (c .before .before .before .row-order .result .all)))
+      → l ≡ keep (strictSubset n (rows at)) (drop (at + 1) (rowOrder (stands bytes) n))
+  collected l e =
+      let i = c .before .loop .inv in
+      e ∙ ap (λ (p : ℕ → _). keep p (drop (at + 1) (take (c .before .before .before .row-order .result .n) (c .before .before .before .row-order .result .all))))
+      (strict-at n (rows at) own (omega (arith, row-lt n (rows at) (i .0) own)))
+      ∙ ap (λ (r : List ℕ). keep (strictSubset n (rows at)) (drop (at + 1) r)) (i .4)
+
+sub-i : tie.Need-sub-i Inv-loop μ-loop
+sub-i c = omega arith
+
+mul-s : tie.Need-mul-s Inv-loop μ-loop
+mul-s c = omega arith
+
+array-read-s : tie.Need-array-read-s Inv-loop μ-loop
+array-read-s c = omega (arith, c .before .loop .inv .3)
+
+add-collect-supersets : tie.Need-add-collect-supersets Inv-loop μ-loop
+add-collect-supersets c = omega (arith, c .before .before .loop .inv .3)
+
+collect-supersets-requires : tie.Need-collect-supersets-requires Inv-loop μ-loop
+collect-supersets-requires c κs = let i = c .before .before .before .loop .inv in (i .3, i .2, i .6)
+
+subtract-row-requires : tie.Need-subtract-row-requires Inv-loop μ-loop
+subtract-row-requires c κs =
+    let k = c .before .before in let m = k .before .before .before in let i = m .before .loop .inv in
+    let e = k .collect-supersets .ensures in let p = i .7 in let a = m .before .before .before .before .before .before .args in
+    let up = collected m _ (e .0) ∙ all-above (n m) (stands (bytes m)) (a .width) (at m) (rows m (at m)) (own m) (inside m) (here m) in
+    let fits : (T : ℕ) → T < 2 ^ n m → suc T * a .width ≤ length (m .before .loop .numbers) = λ T h. omega (arith, mul-le-mul-right (a .width) h, i .1, p .many) in (
+      e .1 .0,
+      e .1 .1,
+      fits (rows m (at m)) (own m),
+      subst (Every (λ T. suc T * a .width ≤ length (m .before .loop .numbers))) (sym up) (above-every (n m) (stands (bytes m)) (rows m (at m)) (own m) (λ T. suc T * a .width ≤ length (m .before .loop .numbers)) (λ T h o. fits T h)),
+      subst (Every (λ T. T ≡ rows m (at m) → ⊥)) (sym up) (above-every (n m) (stands (bytes m)) (rows m (at m)) (own m) (λ T. T ≡ rows m (at m) → ⊥) (λ T h o same. omega (arith, ap ones same))),
+    )
+
+loop-less : tie.Need-loop-less Inv-loop μ-loop
+loop-less c = omega arith
+
+loop-again : tie.Need-loop-again Inv-loop μ-loop
+loop-again c =
+    let t = c .before .before in let k = t .before .before .before in let m = k .before .before .before in let l = m .before .loop in let i = l .inv in
+    let a = m .before .before .before .before .before .before .args in
+    let e = k .collect-supersets .ensures in
+    let z : l .i ≡ at m + 1 = omega arith in (
+      i .0,
+      i .1,
+      i .2,
+      i .3,
+      i .4,
+      omega arith,
+      e .1 .1,
+      pass-next (n m) (stands (bytes m)) (a .width) (at m) (rows m (at m)) (own m) (inside m) (here m) (a .numbers .now) (l .numbers) _ _ (collected m _ (e .0))
+          (subst (λ (j : ℕ). Pass (n m) (stands (bytes m)) (a .width) j (a .numbers .now) (l .numbers)) z (i .7))
+          (t .subtract-row .ensures),
+    )
+
+same-length : tie.Need-same-length Inv-loop μ-loop
+same-length c = c .before .loop .inv .7 .many
+
+returns : tie.Need-returns Inv-loop μ-loop
+returns c =
+    let l = c .before .loop in let i = l .inv in let a = c .before .before .before .before .before .before .args in
+    let z : l .i ≡ 0 = omega arith in
+    pass-end (a .n) (stands (a .present .now)) (a .width) (a .numbers .now) (l .numbers)
+    (subst (λ (j : ℕ). Pass (a .n) (stands (a .present .now)) (a .width) j (a .numbers .now) (l .numbers)) z (i .7))
+
+pub subtract-supersets-spec : {M : Type 1} → statement M
+subtract-supersets-spec =
+    tie.close
+    (tie.spec
+    Inv-loop
+    μ-loop
+    row-order-requires
+    loop-holds
+    sub-i
+    mul-s
+    array-read-s
+    add-collect-supersets
+    collect-supersets-requires
+    subtract-row-requires
+    loop-less
+    loop-again
+    same-length
+    returns)

@@ -1,0 +1,35 @@
+-- A lent table of rows of so many numbers each, one row after another, and what stands in it once the supersets are subtracted and
+-- nothing is clamped yet. What the private functions promise one another; no public contract cites it.
+use Prim.Native.Nat.{ℕ, suc, _+_, _*_, _≤_, _<_, _^_}
+use mathlib.Core.Bool.{Bool, not, _&&_}
+use mathlib.Core.List.{List}
+use mathlib.Core.Path.{_≡_}
+use lib.Ieee.{Float, nan, lt}
+use lib.ListN.{getD, length, drop}
+use Rattle.lists.specs.Every.{Every}
+use Rattle.masks.specs.Presence.{stands}
+use Rattle.binary64.specs.Constants.{zero64}
+use Rattle.binary64.specs.Floats.{_-ᶠ_}
+use Rattle.exclusive.specs.RowOrder.{rowOrder}
+use Rattle.exclusive.specs.Exclusive.{sumOnto, unclamped}
+
+-- number k of row S
+abbrev pub entry : ℕ → List Float → ℕ → ℕ → Float
+entry width numbers k S = getD numbers (S * width + k) nan
+
+-- From the first k numbers of row S the sums of a list of rows are subtracted. All other numbers stay.
+pub record RowSubtracted (width S : ℕ) (rows : List ℕ) (k : ℕ) (before after : List Float) : Type 0 where
+  pub own : (j : ℕ) → j < k → entry width after j S ≡ entry width before j S -ᶠ sumOnto (entry width before j) zero64 rows
+  pub others : (T j : ℕ) → (T ≡ S → k ≤ j) → j < width → entry width after j T ≡ entry width before j T
+  pub rest : (m : ℕ) → suc S * width ≤ m → drop m after ≡ drop m before
+  pub many : length after ≡ length before
+
+-- Each number of each present row is its unclamped exclusive, and what is beyond row 2^n - 1 stays.
+pub record Subtracted (n : ℕ) (present : ℕ → Bool) (width : ℕ) (before after : List Float) : Type 0 where
+  pub rows : (k : ℕ) → k < width → Every (λ S. entry width after k S ≡ unclamped n present (entry width before k) S) (rowOrder present n)
+  pub rest : drop (2 ^ n * width) after ≡ drop (2 ^ n * width) before
+  pub many : length after ≡ length before
+
+-- A row keeps its numbers where it is present and its area, its supersets' subtracted, is not below zero.
+abbrev pub keptRow : List ℕ → List Float → ℕ → Bool
+keptRow bytes areas S = stands bytes S && not (lt (getD areas S nan) zero64)

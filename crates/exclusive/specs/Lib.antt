@@ -1,0 +1,4 @@
+pub mod RowOrder
+pub mod Exclusive
+pub mod Entries
+pub mod Gradient

@@ -1,0 +1,4 @@
+pub mod Members
+pub mod Points
+pub mod Counted
+pub mod Counts

@@ -1,0 +1,85 @@
+-- `listing::print_file` meets its contract.
+use mathlib.Core.Path.{_≡_, refl, sym, _∙_}
+use Rattle.printing.specs.Rows.{tableLines}
+use Rattle.regions.specs.Slices.{planSlices}
+use Rattle.table.specs.Method.{clippedTable}
+use Rattle.reading.specs.Reading.{stateOf, answerAt}
+use Rattle.reading.proofs.Bytes.{prints-file, taken-printed, refused-printed, printed-as, printed-few, printed-fits}
+use borrow.Author.Needs.{needs}
+use Rattle.reading.proofs.listing.print_file.Statement.{statement}
+use Rattle.reading.proofs.listing.print_file.Tie as tie
+use Rattle.plan.proofs.number.Reads as number-reads
+use Rattle.printing.proofs.refusal.print_refusal.Reads as print-refusal-reads
+use Rattle.printing.proofs.rows.print_rows.Reads as print-rows-reads
+use Rattle.reading.proofs.feeding.finish.Reads as finish-reads
+
+finish-requires : tie.Need-finish-requires
+finish-requires c κs = search needs
+
+enum-told : tie.Need-enum-told
+enum-told c = search needs
+
+print-rows-requires : tie.Need-print-rows-requires
+print-rows-requires c κs = search needs
+
+enum-known-answer : tie.Need-enum-known-answer
+enum-known-answer c = search needs
+
+number-requires : tie.Need-number-requires
+number-requires c κs = search needs
+
+cast-print-refusal : tie.Need-cast-print-refusal
+cast-print-refusal c = search needs
+
+print-refusal-requires : tie.Need-print-refusal-requires
+print-refusal-requires c κs = search needs
+
+same-length : tie.Need-same-length
+same-length c = search needs
+
+returns : tie.Need-returns
+returns c =
+    let here = c .before .before in
+    let told = here .before .before in
+    let answered = told .before .before in
+    let a = answered .before .before .before .before .before .before .before .args in
+    let left = planSlices (a .reading .plan) (a .presence .now) (a .rows .now) (a .exclusive-presence .now) (a .exclusives .now) in
+    let lines = tableLines (a .reading .plan .n) (a .exclusive-presence .now) (a .exclusives .now) in
+    let state = stateOf (a .reading .reader) left in
+    let answer = sym (answered .finish .ensures .0) ∙ told .enum-told .given .1 in
+    let printed = printed-as (taken-printed (answerAt state) lines answer) (here .print-rows .ensures) in
+    let few = printed-fits (printed-few (answerAt state) (a .reading .plan .n) (a .exclusive-presence .now) (a .exclusives .now)) printed in
+    (printed, ((λ t s after. printed-as (prints-file clippedTable t s state after) printed), few))
+
+same-length-2 : tie.Need-same-length-2
+same-length-2 c = search needs
+
+returns-2 : tie.Need-returns-2
+returns-2 c =
+    let here = c .before .before in
+    let told = here .before .before .before .before in
+    let answered = told .before .before in
+    let a = answered .before .before .before .before .before .before .before .args in
+    let left = planSlices (a .reading .plan) (a .presence .now) (a .rows .now) (a .exclusive-presence .now) (a .exclusives .now) in
+    let lines = tableLines (a .reading .plan .n) (a .exclusive-presence .now) (a .exclusives .now) in
+    let state = stateOf (a .reading .reader) left in
+    let answer = sym (answered .finish .ensures .0) ∙ told .answer .given .1 in
+    let printed = printed-as (refused-printed (answerAt state) lines _ answer (here .before .before .number .ensures)) (here .print-refusal .ensures) in
+    let few = printed-fits (printed-few (answerAt state) (a .reading .plan .n) (a .exclusive-presence .now) (a .exclusives .now)) printed in
+    (printed, ((λ t s after. printed-as (prints-file clippedTable t s state after) printed), few))
+
+pub print-file-spec : {M : Type 1} → statement M
+print-file-spec =
+    tie.close
+    (tie.spec
+    finish-requires
+    enum-told
+    print-rows-requires
+    enum-known-answer
+    number-requires
+    cast-print-refusal
+    print-refusal-requires
+    same-length
+    returns
+    same-length-2
+    returns-2)

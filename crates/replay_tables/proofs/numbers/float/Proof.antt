@@ -1,0 +1,26 @@
+-- `replay_tables::numbers::float` is safe: a pattern whose exponent's field is not all ones is no NaN's.
+use borrow.Author.Needs.{needs}
+use native.Mathlib.Omega.{arith}
+use borrow.Author.Tests.{ne-eqb}
+use Prim.Native.Nat.{ℕ, _%_, _/_, _^_, _<_}
+use mathlib.Core.Bool.{not}
+use lib.Dec.{T}
+use lib.Ieee.{binary64, nanBits}
+use Rattle.replay_tables.proofs.numbers.float.Statement.{statement}
+use Rattle.replay_tables.proofs.numbers.float.Tie as tie
+
+no-nan : (b : ℕ) → b / 2 ^ 52 % 2048 < 2047 → T (not (nanBits binary64 b))
+unfolding nanBits
+no-nan b h = rw (ne-eqb (b % 2 ^ 63 / 2 ^ 52) 2047 (λ e. omega (arith, h, e))) tt
+
+float-from-bits-result : tie.Need-float-from-bits-result
+float-from-bits-result c = no-nan (c .before .args .bits) (c .if1 .taken)
+
+returns : tie.Need-returns
+returns c = search needs
+
+returns-2 : tie.Need-returns-2
+returns-2 c = search needs
+
+pub float-spec : {M : Type 1} → statement M
+float-spec = tie.close (tie.spec float-from-bits-result returns returns-2)

@@ -1,0 +1,20 @@
+-- `replay_tables::numbers::same` is safe: what equals itself is no NaN, so it has bits.
+use mathlib.Core.Path.{sym, subst}
+use mathlib.Core.Bool.{Bool, not}
+use lib.Dec.{T}
+use Rattle.binary64.proofs.Functions.{equals-itself}
+use borrow.Author.Needs.{needs}
+use Rattle.replay_tables.proofs.numbers.same.Statement.{statement}
+use Rattle.replay_tables.proofs.numbers.same.Tie as tie
+
+float-to-bits-result : tie.Need-float-to-bits-result
+float-to-bits-result c = subst (λ (b : Bool). T (not b)) (sym (equals-itself (c .before .args .x) (c .if1 .taken))) tt
+
+returns : tie.Need-returns
+returns c = search needs
+
+returns-2 : tie.Need-returns-2
+returns-2 c = search needs
+
+pub same-spec : {M : Type 1} → statement M
+same-spec = tie.close (tie.spec float-to-bits-result returns returns-2)

@@ -1,0 +1,37 @@
+// Numbers as the list has them: whole ones, those with a sign by 32 bits, and finite f64s by their bits.
+use file::fields::number32;
+
+pub(crate) fn whole(word: u64) -> usize {
+    word as usize
+}
+
+// The finite f64 with these bits. The list has no other.
+pub(crate) fn float(bits: u64) -> f64 {
+    if (bits >> 52) % 2048 < 2047 {
+        return f64::from_bits(bits);
+    }
+    0.0
+}
+
+// Whether x has these bits.
+pub(crate) fn same(x: f64, bits: u64) -> bool {
+    if x == x {
+        return f64::to_bits(x) == bits;
+    }
+    false
+}
+
+// The lowest byte.
+fn byte(word: u64) -> u8 {
+    (word % 256) as u8
+}
+
+// A whole number with a sign, by its four bytes.
+pub(crate) fn signed(word: u64) -> i32 {
+    number32(
+        byte(word),
+        byte(word >> 8),
+        byte(word >> 16),
+        byte(word >> 24),
+    )
+}

@@ -1,0 +1,153 @@
+-- The steps of discover_regions together give the bytes of specs/Sets.antt: each step looks at masks of n heads only, where the bytes of
+-- the step before say what they stand for.
+use mathlib.Core.Path.{_≡_, refl, sym, ap, ap₂, _∙_, subst}
+use mathlib.Core.Bool.{Bool, true, false, not, cond, _&&_, _||_}
+use mathlib.Core.List.{List}
+use Prim.Native.Nat.{ℕ, zero, suc, _+_, _-_, _*_, _^_, _≤_, _<_}
+use native.Mathlib.Omega.{arith}
+use borrow.Author.Tests.{ltb-true, ltb-false, lt-ltb, le-ltb, ne-eqb}
+use lib.Count.{ones}
+use lib.Dec.{eqb, leb, ltb}
+use lib.ListN.{length, getD, replicate, length-replicate, getD-replicate}
+use lib.Seq.{ext-getD}
+use Rattle.masks.specs.Mask.{inSet, gather, every, single, withHead, withoutHead, subset}
+use Rattle.masks.specs.Gather.{gather-lt}
+use Rattle.lists.specs.Written.{written}
+use Rattle.sets.specs.Marked.{marked}
+use Rattle.masks.specs.Presence.{byte, stands, byte-stands}
+use Rattle.lists.specs.Some.{some}
+use Rattle.sets.specs.Sets.{paired, pair, pairsOf, isPair, witnessed, isPart, withParts, allPairs, oneInAll, inLevel, joined, withLevels}
+use Rattle.sets.specs.Sets.{overlapping, containing, isSet}
+use lib.Pow.{pow-mono}
+use Rattle.sets.proofs.Marks.{length-marked, marked-at, marked-again}
+use Rattle.lists.proofs.Writing.{length-written, written-before, written-past, written-cong, written-again}
+use Rattle.lists.proofs.Somes.{some-cong, some-none}
+use Rattle.intersections.proofs.Masks.{every-cong}
+
+abbrev zeros : ℕ → List ℕ
+zeros m = replicate m 0
+
+-- ---- tests that agree on masks of n heads
+
+pub gather-same : (w : ℕ) (p q : ℕ → Bool) → ((i : ℕ) → i < w → p i ≡ q i) → gather w p ≡ gather w q
+unfolding gather
+gather-same zero p q h = refl
+gather-same (suc w) p q h =
+    ap₂ (λ (g : ℕ) (b : Bool). g + cond b (2 ^ w) 0) (gather-same w p q (λ i k. h i (omega arith))) (h w (omega arith))
+
+module _ (n : ℕ) (f g : ℕ → Bool) (same : (T : ℕ) → T < 2 ^ n → f T ≡ g T) where
+  pub parts-agree : (S : ℕ) → S < 2 ^ n → withParts n f S ≡ withParts n g S
+  unfolding isPart
+  parts-agree S hs =
+      ap₂ (λ (x t : Bool). x || (leb 2 (ones S) && t)) (same S hs)
+      (some-cong n (λ i. not (inSet S i) && f (withHead n S i)) (λ i. not (inSet S i) && g (withHead n S i))
+      (λ i k. ap (λ (b : Bool). not (inSet S i) && b) (same (withHead n S i) (gather-lt n _))))
+
+  pub overlapping-agree : (i : ℕ) → overlapping n f i ≡ overlapping n g i
+  overlapping-agree i = gather-same n (λ j. f (pair n i j)) (λ j. g (pair n i j)) (λ j k. same (pair n i j) (gather-lt n _))
+
+  module _ (o p c d : ℕ → ℕ) (over : (i : ℕ) → i < n → o i ≡ p i) (cont : (i : ℕ) → i < n → c i ≡ d i) where
+    pub level-agree : (e S : ℕ) → S < 2 ^ n → inLevel n f o c e S ≡ inLevel n g p d e S
+    unfolding inLevel allPairs oneInAll
+    level-agree zero S hs = ap (λ (b : Bool). eqb (ones S) 2 && b) (same S hs)
+    level-agree (suc e) S hs =
+        ap₂ _&&_ (ap not (same S hs))
+        (ap₂ _&&_ (every-cong n (λ i. not (inSet S i) || subset n (withoutHead n S i) (o i)) (λ i. not (inSet S i) || subset n (withoutHead n S i) (p i))
+        (λ i k. ap (λ (m : ℕ). not (inSet S i) || subset n (withoutHead n S i) m) (over i k)))
+        (ap₂ _&&_ (some-cong n (λ i. inSet S i && subset n (withoutHead n S i) (c i)) (λ i. inSet S i && subset n (withoutHead n S i) (d i))
+        (λ i k. ap (λ (m : ℕ). inSet S i && subset n (withoutHead n S i) m) (cont i k)))
+        (some-cong n (λ i. inSet S i && inLevel n f o c e (withoutHead n S i)) (λ i. inSet S i && inLevel n g p d e (withoutHead n S i))
+        (λ i k. ap (λ (b : Bool). inSet S i && b) (level-agree e (withoutHead n S i) (gather-lt n _))))))
+
+-- ---- bytes
+
+-- the bytes of a table say what was written
+says : (p : ℕ → Bool) (m S : ℕ) (l : List ℕ) → S < m → stands (written (λ T. byte (p T)) m l) S ≡ p S
+says p m S l h = ap (λ (x : ℕ). eqb x 1) (written-before (λ T. byte (p T)) m S l 0 h) ∙ byte-stands (p S)
+
+-- marks of masks of n heads only
+marks : (p q : ℕ → Bool) (m : ℕ) → m ≤ 1024 → ((S : ℕ) → S < m → p S ≡ q S) → ((S : ℕ) → m ≤ S → p S ≡ false)
+    → marked p (zeros 1024) ≡ written (λ S. byte (q S)) m (zeros 1024)
+marks p q m h same beyond =
+    ext-getD 0 (marked p (zeros 1024)) (written (λ S. byte (q S)) m (zeros 1024))
+    (length-marked p (zeros 1024) ∙ sym (length-written (λ S. byte (q S)) m (zeros 1024) (omega (arith, length-replicate {A = ℕ} 1024 0))))
+    (λ S k.
+    let r : S < 1024 = omega (arith, length-marked p (zeros 1024), length-replicate {A = ℕ} 1024 0) in
+    marked-at p (zeros 1024) S (omega (arith, length-replicate {A = ℕ} 1024 0)) ∙ ap (λ (x : ℕ). cond (p S) 1 x) (getD-replicate 1024 S 0 0 r)
+    ∙ at S r (ltb S m) refl)
+  where
+    at : (S : ℕ) → S < 1024 → (b : Bool) → ltb S m ≡ b → cond (p S) 1 0 ≡ getD (written (λ T. byte (q T)) m (zeros 1024)) S 0
+    at S r true e =
+        let k = ltb-true S m e in
+        ap byte (same S k) ∙ sym (written-before (λ T. byte (q T)) m S (zeros 1024) 0 k)
+    at S r false e =
+        let k = ltb-false S m e in
+        ap byte (beyond S k) ∙ sym (written-past (λ T. byte (q T)) m S (zeros 1024) 0 k ∙ getD-replicate 1024 S 0 0 r)
+
+module _ (n : ℕ) (isSingle isAdopters : ℕ → Bool) (meets contains : ℕ → ℕ → Bool) (few : n ≤ 10)
+    (beyond : (S : ℕ) → 2 ^ n ≤ S → isSingle S ≡ false) where
+  rows : 2 ^ n ≤ 1024
+  rows = pow-mono {i = n} {j = 10} few
+
+  pair-beyond : (S : ℕ) → 2 ^ n ≤ S → isPair n meets contains S ≡ false
+  unfolding isPair
+  pair-beyond S h =
+      some-none n (λ i. pairsOf n meets contains i S)
+      (λ i k. some-none i (λ j. eqb S (pair n i j) && paired meets contains i j)
+      (λ j l. ap (λ (b : Bool). b && paired meets contains i j)
+      (ne-eqb S (pair n i j) (λ e. omega (arith, gather-lt n (λ m. inSet (single n i) m || eqb m j))))))
+
+  -- steps 1 to 3
+  witnesses : marked (isPair n meets contains) (marked (λ S. ltb S (2 ^ n) && isAdopters S) (marked isSingle (zeros 1024)))
+      ≡ written (λ S. byte (witnessed n isSingle isAdopters meets contains S)) (2 ^ n) (zeros 1024)
+  unfolding witnessed
+  witnesses =
+      ap (marked (isPair n meets contains)) (marked-again isSingle (λ S. ltb S (2 ^ n) && isAdopters S) (zeros 1024))
+      ∙ marked-again (λ S. isSingle S || (ltb S (2 ^ n) && isAdopters S)) (isPair n meets contains) (zeros 1024)
+      ∙ marks (λ S. (isSingle S || (ltb S (2 ^ n) && isAdopters S)) || isPair n meets contains S) (witnessed n isSingle isAdopters meets contains) (2 ^ n) rows
+      (λ S h. ap (λ (b : Bool). (isSingle S || (b && isAdopters S)) || isPair n meets contains S) (lt-ltb S (2 ^ n) h)
+      ∙ assoc (isSingle S) (isAdopters S) (isPair n meets contains S))
+      (λ S h. ap₂ _||_ (ap₂ _||_ (beyond S h) (ap (λ (b : Bool). b && isAdopters S) (le-ltb S (2 ^ n) h))) (pair-beyond S h))
+    where
+      assoc : (a b c : Bool) → ((a || b) || c) ≡ (a || (b || c))
+      assoc true b c = refl
+      assoc false b c = refl
+
+  abbrev w : ℕ → Bool
+  w = witnessed n isSingle isAdopters meets contains
+
+  abbrev found : ℕ → Bool
+  found = withParts n w
+
+  -- all steps: what each gives, from what the one before gave
+  pub assembled : (W F O C L R : List ℕ)
+      → W ≡ marked (isPair n meets contains) (marked (λ S. ltb S (2 ^ n) && isAdopters S) (marked isSingle (zeros 1024)))
+      → F ≡ written (λ S. byte (withParts n (stands W) S)) (2 ^ n) W
+      → O ≡ written (overlapping n (stands F)) n (zeros 10)
+      → C ≡ written (containing n contains) n (zeros 10)
+      → L ≡ written (λ S. byte (joined n (stands F) (λ i. getD O i 0) (λ i. getD C i 0) S)) (2 ^ n) (zeros 1024)
+      → R ≡ written (λ S. byte (stands F S || stands L S)) (2 ^ n) F
+      → R ≡ written (λ S. byte (isSet n isSingle isAdopters meets contains S)) (2 ^ n) (zeros 1024)
+  unfolding isSet
+  assembled W F O C L R eW eF eO eC eL eR =
+      let gotW : W ≡ written (λ S. byte (w S)) (2 ^ n) (zeros 1024) = eW ∙ witnesses in
+      let sayW : (T : ℕ) → T < 2 ^ n → stands W T ≡ w T = λ T h. ap (λ (l : List ℕ). stands l T) gotW ∙ says w (2 ^ n) T (zeros 1024) h in
+      let gotF : F ≡ written (λ S. byte (found S)) (2 ^ n) (zeros 1024) =
+      eF ∙ ap (written (λ S. byte (withParts n (stands W) S)) (2 ^ n)) gotW
+      ∙ written-again (λ S. byte (w S)) (λ S. byte (withParts n (stands W) S)) (2 ^ n) (zeros 1024)
+      ∙ agree (withParts n (stands W)) found (λ S h. parts-agree n (stands W) w sayW S h) in
+      let sayF : (T : ℕ) → T < 2 ^ n → stands F T ≡ found T = λ T h. ap (λ (l : List ℕ). stands l T) gotF ∙ says found (2 ^ n) T (zeros 1024) h in
+      let over : (i : ℕ) → i < n → getD O i 0 ≡ overlapping n found i =
+      λ i h. ap (λ (l : List ℕ). getD l i 0) eO ∙ written-before (overlapping n (stands F)) n i (zeros 10) 0 h ∙ overlapping-agree n (stands F) found sayF i in
+      let cont : (i : ℕ) → i < n → getD C i 0 ≡ containing n contains i =
+      λ i h. ap (λ (l : List ℕ). getD l i 0) eC ∙ written-before (containing n contains) n i (zeros 10) 0 h in
+      let sayL : (T : ℕ) → T < 2 ^ n → stands L T ≡ joined n found (overlapping n found) (containing n contains) T =
+      λ T h. ap (λ (l : List ℕ). stands l T) eL ∙ says (joined n (stands F) (λ i. getD O i 0) (λ i. getD C i 0)) (2 ^ n) T (zeros 1024) h
+      ∙ level-agree n (stands F) found sayF (λ i. getD O i 0) (overlapping n found) (λ i. getD C i 0) (containing n contains) over cont (ones T - 2) T h in
+      eR ∙ ap (written (λ S. byte (stands F S || stands L S)) (2 ^ n)) gotF
+      ∙ written-again (λ S. byte (found S)) (λ S. byte (stands F S || stands L S)) (2 ^ n) (zeros 1024)
+      ∙ agree (λ S. stands F S || stands L S) (withLevels n found (overlapping n found) (containing n contains)) (λ S h. ap₂ _||_ (sayF S h) (sayL S h))
+    where
+      agree : (p q : ℕ → Bool) → ((S : ℕ) → S < 2 ^ n → p S ≡ q S)
+          → written (λ S. byte (p S)) (2 ^ n) (zeros 1024) ≡ written (λ S. byte (q S)) (2 ^ n) (zeros 1024)
+      agree p q e = written-cong (λ S. byte (p S)) (λ S. byte (q S)) (2 ^ n) (zeros 1024) (zeros 1024) (λ S h. ap byte (e S h)) refl

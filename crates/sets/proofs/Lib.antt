@@ -1,0 +1,10 @@
+pub mod Masks
+pub mod Marks
+pub mod EveryHead
+pub mod Pairing
+pub mod Adopted
+pub mod InPlace
+pub mod LevelStep
+pub mod Singles
+pub mod Assembled
+pub mod Bytes

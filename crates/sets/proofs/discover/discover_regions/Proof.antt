@@ -1,0 +1,91 @@
+-- `discover::discover_regions` meets its contract: the steps are those of specs/Sets.antt, by proofs/Assembled.antt.
+use mathlib.Core.Path.{_≡_, refl, sym, ap, ap₂, _∙_}
+use mathlib.Core.List.{List}
+use Prim.Native.Nat.{ℕ, _^_, _≤_, min}
+use native.Mathlib.Omega.{arith}
+use lib.ListN.{length, take, replicate, length-take}
+use lib.Seq.{take-all}
+use Rattle.geometry.specs.declared.circle.Circle.{Circle}
+use Rattle.intersections.specs.Counted.{pointList}
+use Rattle.lists.specs.Written.{written}
+use Rattle.lists.proofs.Arrays.{capped-take}
+use Rattle.sets.specs.Marked.{marked}
+use Rattle.masks.specs.Presence.{byte}
+use Rattle.sets.specs.Sets.{isSet, isPair}
+use Rattle.sets.specs.Regions.{isOneHead, isAdoptersOf, meetsAt, containsAt}
+use Rattle.sets.proofs.Assembled.{assembled}
+use Rattle.sets.proofs.Singles.{one-head-beyond}
+use Rattle.sets.proofs.discover.discover_regions.Statement.{statement}
+use borrow.Author.Needs.{needs}
+use Rattle.sets.proofs.discover.discover_regions.Tie as tie
+
+at-most-ten-requires : tie.Need-at-most-ten-requires
+at-most-ten-requires c κs = search needs
+
+add-singles-requires : tie.Need-add-singles-requires
+add-singles-requires c κs = omega (arith, c .at-most-ten .ensures)
+
+add-adopters-requires : tie.Need-add-adopters-requires
+add-adopters-requires c κs = omega (arith, c .before .at-most-ten .ensures)
+
+add-pairs-requires : tie.Need-add-pairs-requires
+add-pairs-requires c κs = omega (arith, c .before .before .at-most-ten .ensures)
+
+add-parts-requires : tie.Need-add-parts-requires
+add-parts-requires c κs = omega (arith, c .before .before .before .at-most-ten .ensures)
+
+overlapping-heads-requires : tie.Need-overlapping-heads-requires
+overlapping-heads-requires c κs = omega (arith, c .before .before .before .before .before .at-most-ten .ensures)
+
+containing-heads-requires : tie.Need-containing-heads-requires
+containing-heads-requires c κs = omega (arith, c .before .before .before .before .before .before .at-most-ten .ensures)
+
+levels-requires : tie.Need-levels-requires
+levels-requires c κs = omega (arith, c .before .before .before .before .before .before .before .before .at-most-ten .ensures)
+
+joined-bytes-requires : tie.Need-joined-bytes-requires
+joined-bytes-requires c κs = omega (arith, c .before .before .before .before .before .before .before .before .before .before .at-most-ten .ensures)
+
+-- there are ten circles
+ten-circles : (c : tie.Start) → length (c .args .circles) ≡ 10
+ten-circles c = search needs
+
+returns : tie.Need-returns
+returns c =
+    let lev = c .before .before in
+    let con = lev .before .before in
+    let ove = con .before in
+    let par = ove .before .before in
+    let pai = par .before in
+    let ado = pai .before in
+    let sin = ado .before in
+    let ten = sin .before in
+    let a = ten .before .args in
+    let n = ten .at-most-ten .result in
+    let e = ten .at-most-ten .ensures in
+    assembled n (isOneHead n) (isAdoptersOf (pointList (a .points))) (meetsAt (pointList (a .points))) (containsAt (take n (a .circles))) (omega (arith, e))
+    (λ S h. one-head-beyond n S h)
+    (pai .add-pairs .result) (par .add-parts .result) (ove .overlapping-heads .result) (con .containing-heads .result) (lev .levels .result)
+    (c .joined-bytes .result)
+    (pai .add-pairs .ensures ∙ ap (marked (isPair n (meetsAt (pointList (a .points))) (containsAt (take n (a .circles)))))
+    (ado .add-adopters .ensures ∙ ap (marked _) (sin .add-singles .ensures)))
+    (par .add-parts .ensures) (ove .overlapping-heads .ensures) (con .containing-heads .ensures) (lev .levels .ensures) (c .joined-bytes .ensures)
+    ∙ ap₂ (λ (cs : List Circle) (m : ℕ). written
+    (λ S. byte (isSet m (isOneHead m) (isAdoptersOf (pointList (a .points))) (meetsAt (pointList (a .points))) (containsAt cs) S)) (2 ^ m) (replicate 1024 0))
+    (ap (λ (m : ℕ). take m (a .circles)) e ∙ capped-take (a .circles) (a .n-sets) 10 (ten-circles (ten .before)))
+    (e ∙ sym (length-take (a .n-sets) (a .circles) ∙ ap (min (a .n-sets)) (ten-circles (ten .before))))
+
+pub discover-regions-spec : {M : Type 1} → statement M
+discover-regions-spec =
+    tie.close
+    (tie.spec
+    at-most-ten-requires
+    add-singles-requires
+    add-adopters-requires
+    add-pairs-requires
+    add-parts-requires
+    overlapping-heads-requires
+    containing-heads-requires
+    levels-requires
+    joined-bytes-requires
+    returns)

@@ -1,0 +1,102 @@
+-- `witnessed::add_pairs_of` meets its contract. The invariant: the pairs of head i with the heads below j are marked.
+use mathlib.Core.Path.{_≡_, refl, sym, ap, ap₂, _∙_}
+use mathlib.Core.Bool.{Bool, true, false, _&&_, _||_}
+use mathlib.Core.List.{List}
+use mathlib.Core.Logic.{⊎-elim}
+use Prim.Native.Nat.{ℕ, _+_, _-_, _≤_, _<_}
+use native.Mathlib.Omega.{arith}
+use lib.Bits.{bitOr}
+use lib.Dec.{eqb}
+use lib.ListN.{length, take, set}
+use Rattle.masks.specs.Mask.{shifted}
+use Rattle.intersections.specs.Counted.{pointList}
+use Rattle.sets.specs.Marked.{marked}
+use Rattle.lists.specs.Some.{some}
+use Rattle.sets.specs.Sets.{pair}
+use Rattle.sets.specs.Regions.{meetsAt, containsAt}
+use Rattle.sets.proofs.Masks.{pair-at, pair-lt}
+use Rattle.sets.proofs.Marks.{marked-none, mark-if, mark-not}
+use Rattle.lists.proofs.Somes.{some-zero, some-next}
+use Rattle.sets.proofs.witnessed.add_pairs_of.Statement.{statement}
+use borrow.Author.Needs.{needs}
+use Rattle.sets.proofs.witnessed.add_pairs_of.Tie as tie
+
+abbrev Inv-loop : tie.InvT-loop
+Inv-loop found₀ circles points i n j₀ found j =
+    (n ≤ 10) × (i < n) × (j ≤ i) × (found ≡ marked
+    (λ S. some j (λ k. eqb S (pair n i k) && (meetsAt (pointList points) i k || (containsAt (take n circles) i k || containsAt (take n circles) k i)))) found₀)
+
+abbrev μ-loop : tie.MeasureT-loop
+μ-loop found₀ circles points i n j₀ found j = i - j
+
+loop-holds : tie.Need-loop-holds Inv-loop μ-loop
+loop-holds c =
+    let a = c .args in (
+      c .pre .0,
+      c .pre .1,
+      omega arith,
+      marked-none _ (a .found .now)
+          (λ S k. some-zero (λ k. eqb S (pair (a .n) (a .i) k) &&
+          (meetsAt (pointList (a .points)) (a .i) k || (containsAt (take (a .n) (a .circles)) (a .i) k || containsAt (take (a .n) (a .circles)) k (a .i))))),
+    )
+
+is-pair-requires : tie.Need-is-pair-requires Inv-loop μ-loop
+is-pair-requires c κs = (omega arith, (omega arith, omega arith))
+
+shl-found : tie.Need-shl-found Inv-loop μ-loop
+shl-found c = search needs
+
+shl-found-2 : tie.Need-shl-found-2 Inv-loop μ-loop
+shl-found-2 c = search needs
+
+element-write-found : tie.Need-element-write-found Inv-loop μ-loop
+element-write-found c =
+    let l = c .before .before .before .loop in let a = c .before .before .before .before .args in
+    pair-lt (a .n) (a .i) (l .j) (l .inv .0) (l .inv .1) (omega arith)
+
+add-j : tie.Need-add-j Inv-loop μ-loop
+add-j c = search needs
+
+loop-less : tie.Need-loop-less Inv-loop μ-loop
+loop-less c = search needs
+
+loop-again : tie.Need-loop-again Inv-loop μ-loop
+loop-again c =
+    let l = c .before .before .before .loop in let a = c .before .before .before .before .args in
+    let test : ℕ → Bool = λ k. meetsAt (pointList (a .points)) (a .i) k ||
+    (containsAt (take (a .n) (a .circles)) (a .i) k || containsAt (take (a .n) (a .circles)) k (a .i)) in
+    let p : ℕ → ℕ → Bool = λ S k. eqb S (pair (a .n) (a .i) k) && test k in (
+      l .inv .0,
+      l .inv .1,
+      omega arith,
+      ⊎-elim
+          (λ w. w .1 ∙ ap (λ (t : List ℕ). set t (bitOr (shifted 64 (a .i)) (shifted 64 (l .j))) 1) (l .inv .3)
+          ∙ ap (λ (v : ℕ). set (marked (λ S. some (l .j) (p S)) (a .found .now)) v 1) (pair-at (a .n) (a .i) (l .j) (l .inv .0) (l .inv .1) (omega arith))
+          ∙ mark-if (pair (a .n) (a .i)) test (l .j) (a .found .now) (sym (c .before .is-pair .ensures) ∙ w .0 .taken))
+          (λ w. w .1 ∙ l .inv .3 ∙ mark-not (pair (a .n) (a .i)) test (l .j) (a .found .now) (sym (c .before .is-pair .ensures) ∙ w .0 .left))
+          (c .if1 .came),
+    )
+
+returns : tie.Need-returns Inv-loop μ-loop
+returns c =
+    let l = c .before .loop in let a = c .before .before .args in
+    let e : l .j ≡ a .i = omega arith in
+    l .inv .3 ∙ ap (λ (m : ℕ). marked (λ S. some m
+    (λ k. eqb S (pair (a .n) (a .i) k) && (meetsAt (pointList (a .points)) (a .i) k ||
+    (containsAt (take (a .n) (a .circles)) (a .i) k || containsAt (take (a .n) (a .circles)) k (a .i))))) (a .found .now)) e
+
+pub add-pairs-of-spec : {M : Type 1} → statement M
+add-pairs-of-spec =
+    tie.close
+    (tie.spec
+    Inv-loop
+    μ-loop
+    loop-holds
+    is-pair-requires
+    shl-found
+    shl-found-2
+    element-write-found
+    add-j
+    loop-less
+    loop-again
+    returns)

@@ -1,0 +1,211 @@
+// Masks found level by level, each from one of the level below and one head more. Rests on `inLevel` of specs/Sets.antt and on specs/Steps.antt.
+use geometry::circle::Circle;
+ghost use mathlib.Core.Path.{_≡_};
+ghost use mathlib.Core.Bool.{not, _&&_, _||_};
+ghost use Prim.Native.Nat.{_≤_, _<_, _^_};
+ghost use lib.ListN.{getD, replicate, take};
+ghost use Rattle.masks.specs.Mask.{inSet, withoutHead, subset, every};
+ghost use Rattle.masks.specs.Presence.{byte, stands};
+ghost use Rattle.lists.specs.Some.{some};
+ghost use Rattle.lists.specs.Written.{written};
+ghost use Rattle.sets.specs.Sets.{joined, overlapping, containing};
+ghost use Rattle.sets.specs.Regions.{containsAt};
+ghost use Rattle.sets.specs.Steps.{levelFrom};
+
+// The heads whose pair with head i is found.
+fn overlapping_head(found: &[u8; 1024], i: usize, n: usize) -> usize
+    requires { ⌜ (n ≤ 10) × (i < n) ⌝ }
+    ensures { λ r. ⌜ r ≡ overlapping n (stands (now (found .entry))) i ⌝ }
+{
+    let mut mask: usize = 0;
+    let mut j: usize = 0;
+    while j < n {
+        if found[1 << i | 1 << j] == 1 {
+            mask = mask | 1 << j;
+        }
+        j += 1;
+    }
+    mask
+}
+
+// For each head the heads whose pair with it is found.
+pub(crate) fn overlapping_heads(found: &[u8; 1024], n: usize) -> [usize; 10]
+    requires { ⌜ n ≤ 10 ⌝ }
+    ensures { λ r. ⌜ r ≡ written (overlapping n (stands (now (found .entry)))) n (replicate 10 0) ⌝ }
+{
+    let mut heads = [0usize; 10];
+    let mut i: usize = 0;
+    while i < n {
+        let mask = overlapping_head(found, i, n);
+        heads[i] = mask;
+        i += 1;
+    }
+    heads
+}
+
+// The heads that contain head k.
+fn containing_head(circles: [Circle; 10], k: usize, n: usize) -> usize
+    requires { ⌜ (n ≤ 10) × (k < n) ⌝ }
+    ensures { λ r. ⌜ r ≡ containing n (containsAt (take n circles)) k ⌝ }
+{
+    let mut mask: usize = 0;
+    let mut j: usize = 0;
+    while j < n {
+        let c = circles[j];
+        if c.contains(circles[k]) {
+            mask = mask | 1 << j;
+        }
+        j += 1;
+    }
+    mask
+}
+
+// For each head the heads that contain it.
+pub(crate) fn containing_heads(circles: [Circle; 10], n: usize) -> [usize; 10]
+    requires { ⌜ n ≤ 10 ⌝ }
+    ensures { λ r. ⌜ r ≡ written (containing n (containsAt (take n circles))) n (replicate 10 0) ⌝ }
+{
+    let mut heads = [0usize; 10];
+    let mut k: usize = 0;
+    while k < n {
+        let mask = containing_head(circles, k, n);
+        heads[k] = mask;
+        k += 1;
+    }
+    heads
+}
+
+// Whether head i is no head of s, or the other heads of s are all in `heads`.
+fn others_in_if(s: usize, i: usize, heads: usize, n: usize) -> bool
+    requires { ⌜ (n ≤ 10) × ((s < 2 ^ n) × (i < n)) ⌝ }
+    ensures { λ r. ⌜ r ≡ (not (inSet s i) || subset n (withoutHead n s i) heads) ⌝ }
+{
+    if s & 1 << i == 0 {
+        return true;
+    }
+    let others = s & !(1 << i);
+    others & heads == others
+}
+
+// Whether head i is a head of s, and the other heads of s are all in `heads`.
+fn others_in(s: usize, i: usize, heads: usize, n: usize) -> bool
+    requires { ⌜ (n ≤ 10) × ((s < 2 ^ n) × (i < n)) ⌝ }
+    ensures { λ r. ⌜ r ≡ (inSet s i && subset n (withoutHead n s i) heads) ⌝ }
+{
+    if s & 1 << i == 0 {
+        return false;
+    }
+    let others = s & !(1 << i);
+    others & heads == others
+}
+
+// Whether head i is a head of s, and s without it is in the level below.
+fn base_at(level: &[u8; 1024], s: usize, i: usize, n: usize) -> bool
+    requires { ⌜ (n ≤ 10) × ((s < 2 ^ n) × (i < n)) ⌝ }
+    ensures { λ r. ⌜ r ≡ (inSet s i && stands (now (level .entry)) (withoutHead n s i)) ⌝ }
+{
+    if s & 1 << i == 0 {
+        return false;
+    }
+    level[s & !(1 << i)] == 1
+}
+
+// Whether each head of s overlaps all others.
+fn all_pairs(overlapping: [usize; 10], s: usize, n: usize) -> bool
+    requires { ⌜ (n ≤ 10) × (s < 2 ^ n) ⌝ }
+    ensures { λ r. ⌜ r ≡ every n (λ i. not (inSet s i) || subset n (withoutHead n s i) (getD overlapping i 0)) ⌝ }
+{
+    let mut i: usize = 0;
+    while i < n {
+        if !others_in_if(s, i, overlapping[i], n) {
+            return false;
+        }
+        i += 1;
+    }
+    true
+}
+
+// Whether one head of s is contained in all others.
+fn one_in_all(containing: [usize; 10], s: usize, n: usize) -> bool
+    requires { ⌜ (n ≤ 10) × (s < 2 ^ n) ⌝ }
+    ensures { λ r. ⌜ r ≡ some n (λ i. inSet s i && subset n (withoutHead n s i) (getD containing i 0)) ⌝ }
+{
+    let mut i: usize = 0;
+    while i < n {
+        if others_in(s, i, containing[i], n) {
+            return true;
+        }
+        i += 1;
+    }
+    false
+}
+
+// Whether s is a mask of the level below and one head more.
+fn has_base(level: &[u8; 1024], s: usize, n: usize) -> bool
+    requires { ⌜ (n ≤ 10) × (s < 2 ^ n) ⌝ }
+    ensures { λ r. ⌜ r ≡ some n (λ i. inSet s i && stands (now (level .entry)) (withoutHead n s i)) ⌝ }
+{
+    let mut i: usize = 0;
+    while i < n {
+        if base_at(level, s, i, n) {
+            return true;
+        }
+        i += 1;
+    }
+    false
+}
+
+// The byte of s in its level, from those of smaller masks.
+fn level_byte(
+    found: &[u8; 1024],
+    level: &[u8; 1024],
+    overlapping: [usize; 10],
+    containing: [usize; 10],
+    s: usize,
+    n: usize,
+) -> u8
+    requires { ⌜ (n ≤ 10) × (s < 2 ^ n) ⌝ }
+    ensures { λ r. ⌜ r ≡ byte (levelFrom n (stands (now (found .entry)) s) (stands (now (level .entry))) (λ i. getD overlapping i 0) (λ i. getD containing i 0) s) ⌝ }
+{
+    let many = usize::count_ones(s);
+    if many <= 2 {
+        if many == 2 {
+            return if found[s] == 1 { 1 } else { 0 };
+        }
+        return 0;
+    }
+    if found[s] == 1 {
+        return 0;
+    }
+    if !all_pairs(overlapping, s, n) {
+        return 0;
+    }
+    if !one_in_all(containing, s, n) {
+        return 0;
+    }
+    if has_base(level, s, n) {
+        return 1;
+    }
+    0
+}
+
+// 5. Level by level: each mask once those with one head less, which are smaller numbers, have their byte.
+pub(crate) fn levels(
+    found: &[u8; 1024],
+    overlapping: [usize; 10],
+    containing: [usize; 10],
+    n: usize,
+) -> [u8; 1024]
+    requires { ⌜ n ≤ 10 ⌝ }
+    ensures { λ r. ⌜ r ≡ written (λ S. byte (joined n (stands (now (found .entry))) (λ i. getD overlapping i 0) (λ i. getD containing i 0) S)) (2 ^ n) (replicate 1024 0) ⌝ }
+{
+    let mut level = [0u8; 1024];
+    let masks = 1usize << n;
+    let mut s: usize = 0;
+    while s < masks {
+        let b = level_byte(found, &level, overlapping, containing, s, n);
+        level[s] = b;
+        s += 1;
+    }
+    level
+}

@@ -1,0 +1,4 @@
+pub mod Tests
+pub mod Writing
+pub mod Second
+pub mod Calls

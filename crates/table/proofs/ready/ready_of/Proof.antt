@@ -1,0 +1,40 @@
+use borrow.Author.Needs.{needs}
+use mathlib.Core.Path.{_≡_, refl, ap, _∙_}
+use lib.ListN.{take}
+use Rattle.drawn.specs.Drawn.{planCircles}
+use Rattle.geometry.specs.Rectangle.{bounds}
+use Rattle.intersections.specs.Points.{collected}
+use Rattle.table.proofs.ready.ready_of.Statement.{statement}
+use Rattle.table.proofs.ready.ready_of.Tie as tie
+
+circles-of-requires : tie.Need-circles-of-requires
+circles-of-requires c κs = search needs
+
+collect-intersections-requires : tie.Need-collect-intersections-requires
+collect-intersections-requires c κs = search needs
+
+box-of-requires : tie.Need-box-of-requires
+box-of-requires c κs = search needs
+
+bounds-requires : tie.Need-bounds-requires
+bounds-requires c κs = search needs
+
+-- the first n circles are the plan's
+circles : (c : tie.After-circles-of) → take (c .before .before .args .plan .n) (c .circles-of .result) ≡ planCircles (c .before .before .args .plan)
+unfolding planCircles
+circles c = ap (take (c .before .before .args .plan .n)) (c .circles-of .ensures)
+
+returns : tie.Need-returns
+returns c =
+    let cs = circles (c .before .before .before) in
+    record {
+      clipped = refl;
+      n = refl;
+      circles = cs;
+      points = c .before .before .collect-intersections .ensures .0 ∙ ap collected cs;
+      bounds = c .bounds .ensures ∙ ap bounds (c .before .box-of .ensures);
+    }
+
+pub ready-of-spec : {M : Type 1} → statement M
+ready-of-spec =
+    tie.close (tie.spec circles-of-requires collect-intersections-requires box-of-requires bounds-requires returns)

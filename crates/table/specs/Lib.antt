@@ -1,0 +1,5 @@
+pub mod Ready
+pub mod Rows
+pub mod Method
+pub mod Tables
+pub mod Demand
