@@ -4,7 +4,7 @@ ghost use mathlib.Core.Path.{_≡_};
 ghost use Rattle.masks.specs.Mask.{subset, strictSubset};
 
 // Whether every head of a is in b.
-fn is_subset(a: usize, b: usize) -> bool
+pub fn is_subset(a: usize, b: usize) -> bool
     ensures { λ r. ⌜ r ≡ subset 64 a b ⌝ }
 {
     a & b == a

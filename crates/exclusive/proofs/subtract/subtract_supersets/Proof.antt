@@ -18,7 +18,7 @@ use Rattle.exclusive.proofs.RowOrder.{every-row}
 use Rattle.exclusive.proofs.Places.{row-lt}
 use Rattle.exclusive.proofs.Unclamped.{above-every}
 use Rattle.exclusive.proofs.Sums.{strict-at}
-use Rattle.exclusive.proofs.Passing.{Pass, pass-start, pass-next, pass-end, all-above}
+use Rattle.exclusive.proofs.Passing.{Pass, pass-start, pass-next, pass-end, all-above, sums-due}
 use borrow.Author.Needs.{needs}
 use Rattle.exclusive.proofs.subtract.subtract_supersets.Statement.{statement}
 use Rattle.exclusive.proofs.subtract.subtract_supersets.Tie as tie
@@ -122,7 +122,8 @@ loop-again c =
     let t = c .before .before in let k = t .before .before .before in let m = k .before .before .before in let l = m .before .loop in let i = l .inv in
     let a = m .before .before .before .before .before .before .args in
     let e = k .collect-supersets .ensures in
-    let z : l .i ≡ at m + 1 = omega arith in (
+    let z : l .i ≡ at m + 1 = omega arith in
+    let p = subst (λ (j : ℕ). Pass (n m) (stands (bytes m)) (a .width) j (a .numbers .now) (l .numbers)) z (i .7) in (
       i .0,
       i .1,
       i .2,
@@ -130,9 +131,9 @@ loop-again c =
       i .4,
       omega arith,
       e .1 .1,
-      pass-next (n m) (stands (bytes m)) (a .width) (at m) (rows m (at m)) (own m) (inside m) (here m) (a .numbers .now) (l .numbers) _ _ (collected m _ (e .0))
-          (subst (λ (j : ℕ). Pass (n m) (stands (bytes m)) (a .width) j (a .numbers .now) (l .numbers)) z (i .7))
-          (t .subtract-row .ensures),
+      pass-next (n m) (stands (bytes m)) (a .width) (at m) (rows m (at m)) (own m) (inside m) (here m) (a .numbers .now) (l .numbers) _ _
+          (sums-due (n m) (stands (bytes m)) (a .width) (at m) (rows m (at m)) (own m) (inside m) (here m) (a .numbers .now) (l .numbers) _ (collected m _ (e .0)) p)
+          p (t .subtract-row .ensures),
     )
 
 same-length : tie.Need-same-length Inv-loop μ-loop
