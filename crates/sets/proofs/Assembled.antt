@@ -21,14 +21,11 @@ use Rattle.sets.specs.Sets.{paired, pair, pairsOf, isPair, witnessed, is
 use Rattle.sets.specs.Sets.{overlapping, containing, isSet}
 use lib.Pow.{pow-mono}
 use Rattle.sets.specs.Steps.{partBelow}
-use Rattle.sets.proofs.Marks.{length-marked, marked-at, marked-again}
+use Rattle.sets.proofs.Marks.{zeros, marks, marked-again}
 use Rattle.sets.proofs.Taken.{part-is, part-below}
 use Rattle.lists.proofs.Writing.{length-written, written-before, written-past, written-cong, written-again}
 use Rattle.lists.proofs.Somes.{some-cong, some-none}
 use Rattle.intersections.proofs.Masks.{every-cong}
-
-abbrev zeros : ℕ → List ℕ
-zeros m = replicate m 0
 
 -- ---- tests that agree on masks of n heads
 
@@ -67,25 +64,6 @@ module _ (n : ℕ) (f g : ℕ → Bool) (same : (T : ℕ) → T < 2 ^ n → f T 
 -- the bytes of a table say what was written
 says : (p : ℕ → Bool) (m S : ℕ) (l : List ℕ) → S < m → stands (written (λ T. byte (p T)) m l) S ≡ p S
 says p m S l h = ap (λ (x : ℕ). eqb x 1) (written-before (λ T. byte (p T)) m S l 0 h) ∙ byte-stands (p S)
-
--- marks of masks of n heads only
-marks : (p q : ℕ → Bool) (m : ℕ) → m ≤ 1024 → ((S : ℕ) → S < m → p S ≡ q S) → ((S : ℕ) → m ≤ S → p S ≡ false)
-    → marked p (zeros 1024) ≡ written (λ S. byte (q S)) m (zeros 1024)
-marks p q m h same beyond =
-    ext-getD 0 (marked p (zeros 1024)) (written (λ S. byte (q S)) m (zeros 1024))
-    (length-marked p (zeros 1024) ∙ sym (length-written (λ S. byte (q S)) m (zeros 1024) (omega (arith, length-replicate {A = ℕ} 1024 0))))
-    (λ S k.
-    let r : S < 1024 = omega (arith, length-marked p (zeros 1024), length-replicate {A = ℕ} 1024 0) in
-    marked-at p (zeros 1024) S (omega (arith, length-replicate {A = ℕ} 1024 0)) ∙ ap (λ (x : ℕ). cond (p S) 1 x) (getD-replicate 1024 S 0 0 r)
-    ∙ at S r (ltb S m) refl)
-  where
-    at : (S : ℕ) → S < 1024 → (b : Bool) → ltb S m ≡ b → cond (p S) 1 0 ≡ getD (written (λ T. byte (q T)) m (zeros 1024)) S 0
-    at S r true e =
-        let k = ltb-true S m e in
-        ap byte (same S k) ∙ sym (written-before (λ T. byte (q T)) m S (zeros 1024) 0 k)
-    at S r false e =
-        let k = ltb-false S m e in
-        ap byte (beyond S k) ∙ sym (written-past (λ T. byte (q T)) m S (zeros 1024) 0 k ∙ getD-replicate 1024 S 0 0 r)
 
 module _ (n : ℕ) (isSingle isAdopters : ℕ → Bool) (meets contains : ℕ → ℕ → Bool) (few : n ≤ 10)
     (beyond : (S : ℕ) → 2 ^ n ≤ S → isSingle S ≡ false) where

@@ -26,14 +26,14 @@ use Rattle.sets.proofs.Marks.{marked-at, marked-again, marked-same}
 
 -- ---- tests
 
-same-truth : (a b : Bool) → (a ≡ true → b ≡ true) → (b ≡ true → a ≡ true) → a ≡ b
+pub same-truth : (a b : Bool) → (a ≡ true → b ≡ true) → (b ≡ true → a ≡ true) → a ≡ b
 same-truth true true f g = refl
 same-truth true false f g = sym (f refl)
 same-truth false true f g = g refl
 same-truth false false f g = refl
 
 -- what follows from each number that passes follows from some
-some-then : (n : ℕ) (p : ℕ → Bool) (q : Bool) → ((i : ℕ) → i < n → p i ≡ true → q ≡ true) → some n p ≡ true → q ≡ true
+pub some-then : (n : ℕ) (p : ℕ → Bool) (q : Bool) → ((i : ℕ) → i < n → p i ≡ true → q ≡ true) → some n p ≡ true → q ≡ true
 unfolding some
 some-then zero p q f e = absurd (false≢true e)
 some-then (suc n) p q f e = go (p n) refl (some-then n p q (λ i h. f i (omega arith)))
@@ -46,26 +46,30 @@ pub and-no : (a b : Bool) → b ≡ false → (a && b) ≡ false
 and-no true b e = e
 and-no false b e = refl
 
+pub not-yes : (a : Bool) → not a ≡ true → a ≡ false
+not-yes true e = sym e
+not-yes false e = refl
+
 -- ---- one head taken away, and put back
 
-with-without : (n M i : ℕ) → M < 2 ^ n → i < n → inSet M i ≡ true → withHead n (withoutHead n M i) i ≡ M
+pub with-without : (n M i : ℕ) → M < 2 ^ n → i < n → inSet M i ≡ true → withHead n (withoutHead n M i) i ≡ M
 with-without n M i hm h e =
     sym (or-withHead n (withoutHead n M i) i (gather-lt n _) h)
     ∙ ap (λ (T : ℕ). bitOr T (shifted n i)) (sym (and-withoutHead n M i hm h))
     ∙ without-with n M i hm h (one-of-in M i e)
 
-lacks : (n M i : ℕ) → i < n → inSet (withoutHead n M i) i ≡ false
+pub lacks : (n M i : ℕ) → i < n → inSet (withoutHead n M i) i ≡ false
 lacks n M i h =
     in-gather n (λ j. inSet M j && not (eqb j i)) i h ∙ and-no (inSet M i) (not (eqb i i)) (ap not (eq-eqb i i refl))
 
-has : (n S i : ℕ) → i < n → inSet (withHead n S i) i ≡ true
+pub has : (n S i : ℕ) → i < n → inSet (withHead n S i) i ≡ true
 has n S i h = in-gather n (λ j. inSet S j || eqb j i) i h ∙ or-yes (inSet S i) (eqb i i) (eq-eqb i i refl)
   where
     or-yes : (a b : Bool) → b ≡ true → (a || b) ≡ true
     or-yes true b e = refl
     or-yes false b e = e
 
-without-with-it : (n S i : ℕ) → S < 2 ^ n → inSet S i ≡ false → S ≡ withoutHead n (withHead n S i) i
+pub without-with-it : (n S i : ℕ) → S < 2 ^ n → inSet S i ≡ false → S ≡ withoutHead n (withHead n S i) i
 without-with-it n S i hs e =
     gather-unique n S (λ j. inSet (withHead n S i) j && not (eqb j i)) hs
     (λ j k. at j (eqb j i) refl ∙ sym (ap (λ (b : Bool). b && not (eqb j i)) (in-gather n (λ m. inSet S m || eqb m i) j k)))
@@ -105,10 +109,6 @@ module _ (n : ℕ) (found : ℕ → Bool) (S : ℕ) (hs : S < 2 ^ n) where
       some-of (2 ^ n) (λ M. (found M && leb 3 (ones M)) && partOf n M S) M (gather-lt n _)
       (ap₂ _&&_ (ap₂ _&&_ f (le-leb 3 (ones M) (omega (arith, leb-true 2 (ones S) l, ones-less n M i (gather-lt n _) h (has n S i h), same))))
       (some-of n (λ j. eqb S (withoutHead n M j) && inSet M j) i h (ap₂ _&&_ (eq-eqb S (withoutHead n M i) back) (has n S i h))))
-    where
-      not-yes : (a : Bool) → not a ≡ true → a ≡ false
-      not-yes true e = sym e
-      not-yes false e = refl
 
   pub part-is : partBelow n found (2 ^ n) S ≡ isPart n found S
   unfolding isPart
