@@ -5,10 +5,10 @@ use Rattle.replay_tables.proofs.fed_all.Statement.{statement}
 use Rattle.replay_tables.proofs.fed_all.Tie as tie
 
 abbrev Inv-loop : tie.InvT-loop
-Inv-loop words₀ counts₀ bytes r₀ held₀ i₀ i-end words counts r held i = i ≤ i-end
+Inv-loop words₀ counts₀ clipped-gradients₀ open-gradients₀ bytes r₀ held₀ i₀ i-end words counts clipped-gradients open-gradients r held i = i ≤ i-end
 
 abbrev μ-loop : tie.MeasureT-loop
-μ-loop words₀ counts₀ bytes r₀ held₀ i₀ i-end words counts r held i = i-end - i
+μ-loop words₀ counts₀ clipped-gradients₀ open-gradients₀ bytes r₀ held₀ i₀ i-end words counts clipped-gradients open-gradients r held i = i-end - i
 
 loop-holds : tie.Need-loop-holds Inv-loop μ-loop
 loop-holds c = search needs

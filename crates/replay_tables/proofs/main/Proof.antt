@@ -4,10 +4,10 @@ use Rattle.replay_tables.proofs.main.Statement.{statement}
 use Rattle.replay_tables.proofs.main.Tie as tie
 
 abbrev Inv-loop : tie.InvT-loop
-Inv-loop words₀ counts₀ r₀ held₀ turns₀ words counts r held turns = Unit
+Inv-loop words₀ counts₀ r₀ clipped-gradients₀ open-gradients₀ held₀ turns₀ words counts r clipped-gradients open-gradients held turns = Unit
 
 abbrev μ-loop : tie.MeasureT-loop
-μ-loop words₀ counts₀ r₀ held₀ turns₀ words counts r held turns = turns
+μ-loop words₀ counts₀ r₀ clipped-gradients₀ open-gradients₀ held₀ turns₀ words counts r clipped-gradients open-gradients held turns = turns
 
 nothing-requires : tie.Need-nothing-requires Inv-loop μ-loop
 nothing-requires c κs = search needs
