@@ -60,19 +60,26 @@ def tree(folder):
 
 
 def different(a, b):
-    return ', '.join(sorted(str(key) for key in set(a) | set(b) if a.get(key) != b.get(key)))
+    """The keys of which two dictionaries have different values, or that only one of them has."""
+    return ', '.join(sorted(str(key) for key in set(a) | set(b) if key not in a or key not in b or a[key] != b[key]))
+
+
+def others(a, b):
+    """What only one of two lists has."""
+    return ', '.join(sorted(set(a) ^ set(b)))
 
 
 # ---- installing
 
-see('the stored output is what ground.py works out', different(dict(enumerate(expected.lines())), dict(enumerate(WANT.splitlines()))))
+lines = dict(enumerate([line + '\n' for line in expected.lines()], 1))
+see('the stored output is what ground.py works out; lines that are not', different(lines, dict(enumerate(WANT.splitlines(True), 1))))
 must(INSTALL, PREFIX, cwd='/')
 first = tree(PREFIX)
 listed = must(INSTALL, '--list', PREFIX).splitlines()
 there = [str(PREFIX / name) for name, (_, inner) in first.items() if inner != 'folder']
-see('--list says what is there, %d files' % len(listed), different(dict.fromkeys(listed), dict.fromkeys(there)))
+see('--list says what is there, %d files' % len(listed), others(listed, there))
 NEEDED = 'include/watered.h lib/libwatered.a lib/libwatered.so lib/libwatered.so.1 lib/pkgconfig/watered.pc bin/rows bin/watered-plan'.split()
-NEEDED += ['share/doc/watered/examples/' + name for name in ('window.c', 'window.rs', 'window.py', 'README.md')]
+NEEDED += ['share/doc/watered/' + name for name in ('NOTICE', 'examples/window.c', 'examples/window.rs', 'examples/window.py', 'examples/README.md')]
 see('every file that others rely on is there', ', '.join(name for name in NEEDED if name not in first))
 modes = {name: '0o120777' if name == 'lib/libwatered.so' else '0o40755' if inner == 'folder' else
          '0o100755' if name.startswith('bin/') or name == 'lib/libwatered.so.1' else '0o100644' for name, (_, inner) in first.items()}
@@ -92,23 +99,23 @@ see('watered.pc under DESTDIR says PREFIX', '' if pc.startswith('prefix=/opt/wat
 SHARED = PREFIX / 'lib' / 'libwatered.so.1'
 header = calls.of_header((PREFIX / 'include' / 'watered.h').read_text())
 mentioned = set(re.findall(r'\b(watered_\w+)\(', re.sub(r'/\*.*?\*/', '', (PREFIX / 'include' / 'watered.h').read_text(), flags=re.S)))
-see('the header: %d calls' % len(header), different(dict.fromkeys(header), dict.fromkeys(mentioned)) or ('' if header else 'none'))
+see('the header: %d calls' % len(header), others(header, mentioned) or ('' if header else 'none'))
 crate = {}
 for path in (ROOT / 'crates' / 'watered' / 'src').glob('*.rt'):
     crate.update(calls.of_crate(path.read_text()))
 see('the crate exports these, with these types', different(header, crate))
 exported = [line.split()[-1] for line in must('nm', '-D', '--defined-only', SHARED).splitlines()]
-see('the shared library has these and no other', different(dict.fromkeys(header), dict.fromkeys(exported)))
+see('the shared library has these and no other', others(header, exported))
 see('window.py sets the types of all', different(header, calls.of_python(ROOT / 'examples' / 'window.py', SHARED)))
 rust = calls.of_rust((ROOT / 'examples' / 'window.rs').read_text())
 see('window.rs: %d of them, with these types' % len(rust), different({name: header.get(name) for name in rust}, rust) or ('' if rust else 'none'))
 told = set(re.findall(r'`(watered_\w+)`', (ROOT / 'README.md').read_text()))
-see("README's table has them", different(dict.fromkeys(header), dict.fromkeys(told)))
+see("README's table has them", others(header, told))
 
 dynamic = must('readelf', '-d', SHARED)
 see('the soname is the name of the file', '' if '[%s]' % SHARED.name in re.search(r'.*SONAME.*', dynamic).group() else dynamic)
 needs = set(re.findall(r'NEEDED.*\[([a-z]+)', dynamic))
-see('it needs the C library and no other', different(dict.fromkeys(needs), dict.fromkeys(['libc', 'libm'])))
+see('it needs the C library and no other', others(needs, ['libc', 'libm']))
 sections = re.findall(r'^(\.\S+) +(\d+) ', must('size', '-A', PREFIX / 'lib' / 'libwatered.a'), re.M)
 state = [name for name, size in sections if re.match(r'\.(data|bss|tdata|tbss)\b(?!\.rel\.ro)', name) and int(size)]
 see('the archive has no place for state, of %d sections' % len(sections), ', '.join(state) or ('' if len(sections) > 10 else 'no sections'))
@@ -133,7 +140,7 @@ def flags(static):
 
 def prints(name, *command, **options):
     out = must(*command, **options)
-    see(name, different(dict(enumerate(WANT.splitlines())), dict(enumerate(out.splitlines()))) and 'it printed:\n' + out)
+    see(name, '' if out == WANT else 'it printed:\n' + out)
 
 
 def linked(program):
