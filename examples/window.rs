@@ -5,8 +5,8 @@ mod watered {
     //! Safe calls: slices in, `Result` out. What include/watered.h asks of a caller, the types give: a slice is never null and is whole, and
     //! two `&mut` never overlap. A table that is too short is refused by the library itself.
 
+    /// How many heads a plan may have.
     pub const HEADS: usize = 10;
-    pub const TABLES_TOO_SHORT: u32 = 7;
 
     /// A plan as the library takes it; numbers of `heads` past the first `n` heads change nothing.
     #[derive(Clone, Copy, PartialEq)]
@@ -43,13 +43,14 @@ mod watered {
                 4 => "x or y is outside -20000 to 20000",
                 5 => "a side is outside 1 to 40000 or a radius outside 1 to 20000",
                 6 => "there is no head of this number",
-                TABLES_TOO_SHORT => "the tables are too short",
+                7 => "the tables are too short",
                 _ => "a number that this program does not know",
             };
             write!(out, "refused {}, {words}", self.0)
         }
     }
 
+    /// The calls that this program needs, as the header declares them.
     mod raw {
         extern "C" {
             #[rustfmt::skip]
