@@ -30,10 +30,10 @@ class Checks:
         if wrong:
             self.failed += 1
             if self.failed <= 20:
-                print('fault: %s: %s' % (kind, wrong))
+                print('fault: %s: %s' % (kind, str(wrong)[:2000]))
 
     def same(self, kind, got, wanted):
-        self.see(kind, None if got == wanted else 'wanted %r, got %r' % (wanted, got))
+        self.see(kind, None if got == wanted else 'wanted %.900r, got %.900r' % (wanted, got))
 
     def end(self):
         for kind, number in self.kinds.items():
