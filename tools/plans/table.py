@@ -34,15 +34,16 @@ def program(chosen=None):
 
 
 def answer(data, chosen=None):
-    """What `rows` prints for the bytes of a plan file."""
+    """What `rows` prints for the bytes of a plan file: a table, or a refusal (status 0 of the program itself, 1 of tools/rows)."""
     path = program(chosen)
     try:
         done = subprocess.run([path], input=data, capture_output=True)
     except OSError as error:
         raise NoProgram('cannot run %s: %s' % (path, error.strerror))
-    if done.returncode or done.stderr:
+    printed = done.stdout.decode('utf-8', 'replace')
+    if done.stderr or done.returncode not in (0, 1) or (done.returncode == 1 and not REFUSED.match(printed)):
         raise NoProgram('%s failed (status %d): %s' % (path, done.returncode, done.stderr.decode('utf-8', 'replace').strip()))
-    return done.stdout.decode('utf-8', 'replace')
+    return printed
 
 
 def parsed(printed):
