@@ -76,9 +76,14 @@ def peak(command, pieces):
     return kilobytes, printed, total
 
 
+def times(size):
+    """How often EDITS stands in at least `size` bytes."""
+    return -(-size // len(EDITS))
+
+
 def long_input(first, size, last):
     yield first
-    for _ in range(size // len(EDITS)):
+    for _ in range(times(size)):
         yield EDITS
     yield last
 
@@ -87,7 +92,7 @@ def memory(size):
     """A plan of one head with edits for `size` bytes: taken; refused at the last edit; cut within it; refused at byte 0 and read on."""
     small = peak([PROGRAM], [START, LAST])
     CHECKS.same('answers over inputs of any length', small[1], at_once(START + LAST))
-    body = len(START) + size // len(EDITS) * len(EDITS)
+    body = len(START) + times(size) * len(EDITS)
     cases = [('taken', START, LAST, small[1]), ('refused at the end', START, b'\1', 'refused 6 at %d\n' % body),
              ('cut at the end', START, LAST[:7], 'refused 1 at %d\n' % (body + 7)), ('refused at the beginning', b'\13', LAST, 'refused 2 at 0\n')]
     for name, first, last, wanted in cases:

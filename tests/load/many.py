@@ -71,8 +71,8 @@ def with_failures(plans, source, tables, at_once):
     status, out, said = run([MANY, source, tables, str(at_once)])
     CHECKS.same('many: the status where plans failed', (status, out), (1, ''))
     CHECKS.same('many: a table for each plan taken, and no other file', files(tables), {table_name(n): a for n, a in answers.items() if n not in failed})
-    wanted = sorted('%s: %s' % (name, answers[name].decode()) for name in failed)
-    CHECKS.same('many: each failed plan is named with what rows said', ''.join(sorted(said.splitlines(True))), ''.join(sorted(''.join(wanted).splitlines(True))))
+    wanted = ''.join('%s: %s' % (name, answers[name].decode()) for name in failed)
+    CHECKS.same('many: each failed plan is named with what rows said', sorted(said.splitlines()), sorted(wanted.splitlines()))
     return failed
 
 

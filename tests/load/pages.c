@@ -343,7 +343,7 @@ int main(int count, char **words)
         if (calls[i].moves)
             refused_edits(&calls[i], &ten);
     }
-    printf("%7lu strays that must trap, and %lu answers and bytes of calls at protected pages\n", strays, checks - strays);
+    printf("%7lu checks that strays trap and nothing else does, %lu of calls at protected pages\n", strays, checks - strays);
     printf("pages: %lu checks, %lu failed\n", checks, faults);
     return faults != 0;
 }
