@@ -36,12 +36,15 @@ gather-same (suc w) p q h =
     ap₂ (λ (g : ℕ) (b : Bool). g + cond b (2 ^ w) 0) (gather-same w p q (λ i k. h i (omega arith))) (h w (omega arith))
 
 module _ (n : ℕ) (f g : ℕ → Bool) (same : (T : ℕ) → T < 2 ^ n → f T ≡ g T) where
-  pub parts-agree : (S : ℕ) → S < 2 ^ n → isPart n f S ≡ isPart n g S
+  part-agree : (S : ℕ) → isPart n f S ≡ isPart n g S
   unfolding isPart
-  parts-agree S hs =
+  part-agree S =
       ap (λ (t : Bool). leb 2 (ones S) && t)
       (some-cong n (λ i. not (inSet S i) && f (withHead n S i)) (λ i. not (inSet S i) && g (withHead n S i))
       (λ i k. ap (λ (b : Bool). not (inSet S i) && b) (same (withHead n S i) (gather-lt n _))))
+
+  pub parts-agree : (S : ℕ) → S < 2 ^ n → withParts n f S ≡ withParts n g S
+  parts-agree S hs = ap₂ _||_ (same S hs) (part-agree S)
 
   pub overlapping-agree : (i : ℕ) → overlapping n f i ≡ overlapping n g i
   overlapping-agree i = gather-same n (λ j. f (pair n i j)) (λ j. g (pair n i j)) (λ j k. same (pair n i j) (gather-lt n _))
@@ -129,7 +132,7 @@ module _ (n : ℕ) (isSingle isAdopters : ℕ → Bool) (meets contains : ℕ �
       let gotF : F ≡ written (λ S. byte (found S)) (2 ^ n) (zeros 1024) =
       eF ∙ ap (marked (partBelow n (stands W) (2 ^ n))) (gotW ∙ sym marked-w) ∙ marked-again w' (partBelow n (stands W) (2 ^ n)) (zeros 1024)
       ∙ marks (λ S. w' S || partBelow n (stands W) (2 ^ n) S) found (2 ^ n) rows
-      (λ S h. ap₂ _||_ (within S h) (part-is n (stands W) S h ∙ parts-agree n (stands W) w sayW S h))
+      (λ S h. ap₂ _||_ (within S h) (part-is n (stands W) S h ∙ part-agree n (stands W) w sayW S))
       (λ S h. ap₂ _||_ (without S h) (part-below n (stands W) (2 ^ n) S (le-refl (2 ^ n)) h)) in
       let sayF : (T : ℕ) → T < 2 ^ n → stands F T ≡ found T = λ T h. ap (λ (l : List ℕ). stands l T) gotF ∙ says found (2 ^ n) T (zeros 1024) h in
       let over : (i : ℕ) → i < n → getD O i 0 ≡ overlapping n found i =
