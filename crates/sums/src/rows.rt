@@ -31,7 +31,7 @@ fn row_area(
 }
 
 // How many rows of the first n_sets of ten circles a slice of so many numbers has a place for.
-fn row_count(n_sets: usize, places: usize) -> usize
+pub(crate) fn row_count(n_sets: usize, places: usize) -> usize
     ensures { λ r. ⌜ r ≡ min (rowsOf «n_sets») places ⌝ }
 {
     let rows = 1usize << at_most_ten(n_sets);

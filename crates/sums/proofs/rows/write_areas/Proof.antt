@@ -9,13 +9,13 @@ use native.Mathlib.Omega.{arith}
 use borrow.Author.Tests.{eq-eqb, ne-eqb}
 use lib.Ieee.{Float, nan}
 use lib.ListN.{getD, length, take}
-use lib.Pow.{pow-mono}
 use Rattle.lists.specs.Written.{written}
 use Rattle.lists.proofs.Writing.{written-none, length-written, write-next, written-keep}
 use Rattle.masks.specs.Presence.{stands}
 use Rattle.intersections.specs.Counted.{pointList}
 use Rattle.intersections.specs.Members.{membersOf}
 use Rattle.sums.specs.Rows.{areaOf, rowsOf, numberAt}
+use Rattle.sums.proofs.Counts.{row-below}
 use Rattle.sums.proofs.rows.write_areas.Statement.{statement}
 use Rattle.sums.proofs.rows.write_areas.Tie as tie
 
@@ -38,14 +38,9 @@ numberOf s =
     numberAt (stands (a .wanted .now)) (λ S. areaOf (a .clipped) (a .bounds) (membersOf (take (a .n-sets) (a .circles)) (pointList (a .points)) S))
     (a .areas .now)
 
--- there are no more than 1024 rows, and each has its place
-row-below : (c : tie.In-loop Inv-loop μ-loop)
+below : (c : tie.In-loop Inv-loop μ-loop)
     → (c .before .loop .mask < 1024) × (c .before .loop .mask < length (entry (c .before) .args .areas .now))
-row-below c =
-    let i = c .before .loop .inv in
-    let t = c .loop-test .taken in
-    let most = pow-mono {i = min (entry (c .before) .args .n-sets) 10} {j = 10} (omega arith) in
-    (omega (arith, i .1), omega (arith, i .1))
+below c = let l = c .before .loop in row-below (entry (c .before) .args .n-sets) _ _ (l .mask) (l .inv .1) (c .loop-test .taken)
 
 -- the length stays
 same : (c : tie.At-loop Inv-loop μ-loop) → length (c .loop .areas) ≡ length (entry c .args .areas .now)
@@ -60,19 +55,19 @@ loop-holds : tie.Need-loop-holds Inv-loop μ-loop
 loop-holds c = (omega arith, c .row-count .ensures, written-none _ _)
 
 element-copy-out-if1 : tie.Need-element-copy-out-if1 Inv-loop μ-loop
-element-copy-out-if1 c = let h = row-below c .0 in omega arith
+element-copy-out-if1 c = let h = below c .0 in omega arith
 
 row-area-requires : tie.Need-row-area-requires Inv-loop μ-loop
 row-area-requires c κs = search needs
 
 mul-areas : tie.Need-mul-areas Inv-loop μ-loop
-mul-areas c = let h = row-below (c .before .before .before) .0 in omega arith
+mul-areas c = let h = below (c .before .before .before) .0 in omega arith
 
 slice-write-areas : tie.Need-slice-write-areas Inv-loop μ-loop
-slice-write-areas c = let m = c .before .before .before in omega (arith, row-below m .1, same (m .before))
+slice-write-areas c = let m = c .before .before .before in omega (arith, below m .1, same (m .before))
 
 add-mask : tie.Need-add-mask Inv-loop μ-loop
-add-mask c = let h = row-below (c .before .before) .0 in omega arith
+add-mask c = let h = below (c .before .before) .0 in omega arith
 
 loop-less : tie.Need-loop-less Inv-loop μ-loop
 loop-less c = omega (arith, c .before .before .loop-test .taken)
@@ -88,9 +83,9 @@ loop-again c =
       omega (arith, m .loop-test .taken),
       l .inv .1,
       ⊎-elim
-          (λ w. w .2 ∙ rw (l .inv .2) (write-next f (l .mask) (a .areas .now) _ nan (row-below m .1)
+          (λ w. w .2 ∙ rw (l .inv .2) (write-next f (l .mask) (a .areas .now) _ nan (below m .1)
           (w .1 .ensures ∙ sym (ap (λ (b : Bool). cond b area stood) (eq-eqb _ 1 (w .0 .taken))))))
-          (λ w. w .1 ∙ l .inv .2 ∙ written-keep f (l .mask) (a .areas .now) nan (row-below m .1)
+          (λ w. w .1 ∙ l .inv .2 ∙ written-keep f (l .mask) (a .areas .now) nan (below m .1)
           (ap (λ (b : Bool). cond b area stood) (ne-eqb _ 1 (w .0 .left))))
           (c .if1 .came),
     )
