@@ -1,6 +1,5 @@
 // What the rows of a diagram are worked out from: circles, their meeting points, and the box where there is one.
 ghost use mathlib.Core.Path.{_≡_};
-ghost use lib.ListN.{take};
 ghost use Rattle.masks.specs.Presence.{stands};
 ghost use Rattle.clip.specs.Gradient.{with-gradient};
 ghost use Rattle.diagram.specs.Drawing as spec;

@@ -6,9 +6,7 @@ use lib.Ieee.{Float, nan}
 use lib.ListN.{getD, length}
 use Rattle.lists.specs.Written.{written}
 use Rattle.geometry.specs.declared.bounds.Bounds.{Bounds}
-use Rattle.geometry.specs.declared.circle.Circle.{Circle}
-use Rattle.intersections.specs.declared.points.IntersectionPoint.{IntersectionPoint}
-use Rattle.intersections.specs.Members.{Member, membersOf}
+use Rattle.intersections.specs.Members.{Member}
 use Rattle.outline.specs.Area.{openArea}
 use Rattle.clip.specs.Area.{clippedArea}
 

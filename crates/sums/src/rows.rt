@@ -7,7 +7,7 @@ use intersections::points::Intersections;
 use outline::area::region_area;
 ghost use mathlib.Core.Path.{_≡_};
 ghost use Prim.Native.Nat.{min};
-ghost use lib.ListN.{length, take};
+ghost use lib.ListN.{take};
 ghost use Rattle.masks.specs.Presence.{stands};
 ghost use Rattle.intersections.specs.Counted.{pointList};
 ghost use Rattle.intersections.specs.Members.{membersOf};

@@ -1,5 +1,5 @@
 -- `exclusives::write_exclusives` meets its contract.
-use mathlib.Core.Path.{_≡_, ap₂, _∙_}
+use mathlib.Core.Path.{ap₂, _∙_}
 use Rattle.masks.specs.Presence.{stands}
 use Rattle.exclusive.specs.Exclusive.{exclusivesInPlace}
 use Rattle.diagram.specs.Drawing.{rowsOf}

@@ -1,5 +1,5 @@
 -- `rows::write_rows` meets its contract: the areas of the sets, the box's area in row 0, and absent rows cleared.
-use mathlib.Core.Path.{_≡_, ap, _∙_}
+use mathlib.Core.Path.{ap, _∙_}
 use mathlib.Core.List.{List}
 use Prim.Native.Nat.{_^_}
 use native.Mathlib.Nat.{le-refl}

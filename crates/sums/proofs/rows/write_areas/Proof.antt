@@ -1,10 +1,9 @@
 -- `rows::write_areas` meets its contract. The invariant: the rows below mask are written.
 use borrow.Author.Needs.{needs}
-use mathlib.Core.Path.{_≡_, refl, sym, ap, _∙_}
+use mathlib.Core.Path.{_≡_, sym, ap, _∙_}
 use mathlib.Core.Bool.{Bool, cond}
-use mathlib.Core.List.{List}
 use mathlib.Core.Logic.{⊎-elim}
-use Prim.Native.Nat.{ℕ, min, _+_, _-_, _≤_, _<_}
+use Prim.Native.Nat.{ℕ, min, _-_, _≤_, _<_}
 use native.Mathlib.Omega.{arith}
 use borrow.Author.Tests.{eq-eqb, ne-eqb}
 use lib.Ieee.{Float, nan}
