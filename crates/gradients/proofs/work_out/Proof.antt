@@ -1,13 +1,14 @@
 -- `work_out` meets its contract.
-use mathlib.Core.Path.{_≡_, sym, ap, ap₂, _∙_}
+use mathlib.Core.Path.{_≡_, refl, sym, ap, ap₂, _∙_, subst}
 use mathlib.Core.List.{List}
 use lib.ListN.{length}
 use Rattle.lists.proofs.Arrays.{length-of-values}
 use Rattle.masks.specs.Presence.{stands}
 use Rattle.plan.specs.declared.Answer.the-variants.{Taken}
 use Rattle.plan.specs.Checks.{callAnswer}
+use Rattle.sets.specs.Regions.{setBytes}
 use Rattle.areas.specs.Sets.{planSets}
-use Rattle.gradients.specs.Step.{GradientSlices, gradientSlices, lentGradients, stepTo, planSlopes, whichOf, Room}
+use Rattle.gradients.specs.Step.{GradientSlices, gradientSlices, gradientsWritten, lentGradients, stepTo, planSlopes, whichOf, Room}
 use Rattle.gradients.proofs.Given.{sets-say, sets-alike, taken-room, step-taken, step-refused}
 use borrow.Author.Needs.{needs}
 use Rattle.gradients.proofs.work_out.Statement.{statement}
@@ -47,11 +48,20 @@ check-call-requires c κs = search needs
 enum-told : tie.Need-enum-told
 enum-told c = search needs
 
-sets-of-requires : tie.Need-sets-of-requires
-sets-of-requires c κs = search needs
+drawing-of-requires : tie.Need-drawing-of-requires
+drawing-of-requires c κs = search needs
+
+discover-regions-requires : tie.Need-discover-regions-requires
+discover-regions-requires c κs = search needs
 
 write-gradients-requires : tie.Need-write-gradients-requires
-write-gradients-requires c κs = room (c .before .before .before .before .before)
+write-gradients-requires c κs =
+    let k = c .before .before .before .before .before .before .before in
+    let s = entry (checked (k .before)) in
+    let of = k .drawing-of .ensures in (
+      subst (λ b. Room (s .args .plan) b (given s)) (sym (of .boxed)) (room (k .before)),
+      record { boxed = refl; n = of .n; circles = of .circles; points = of .points; container = of .container },
+    )
 
 enum-known-answer : tie.Need-enum-known-answer
 enum-known-answer c = search needs
@@ -67,12 +77,14 @@ same-length-3 c = search needs
 
 returns : tie.Need-returns
 returns c =
-    let w = c .before .before .before .before .before .before in let f = w .before .before .before .before .before in let t = f .before in
-    let s = entry (checked t) in let a = s .args in let p = a .plan in
+    let w = c .before .before .before .before .before .before in let f = w .before .before .before .before .before in let k = f .before .before .before in let t = k .before in
+    let s = entry (checked t) in let a = s .args in let p = a .plan in let of = k .drawing-of .ensures in let sets = f .discover-regions .result in
+    let found = f .discover-regions .ensures ∙ ap₂ setBytes (of .circles) (of .points) in
     let say = sets-say p (ten s) (room t .few) in
     ap (λ (l : GradientSlices). stepTo l Taken)
     (w .write-gradients .ensures
-    ∙ sets-alike p (λ q. stands (f .sets-of .result)) planSets (λ S h. ap (λ l. stands l S) (f .sets-of .ensures) ∙ say S h) (a .clipped) (given s))
+    ∙ ap (λ b. gradientsWritten (p .n) (planSlopes b (λ q. stands sets) p) (given s)) (of .boxed)
+    ∙ sets-alike p (λ q. stands sets) planSets (λ S h. ap (λ l. stands l S) found ∙ say S h) (a .clipped) (given s))
     ∙ step-taken (whichOf (a .clipped)) (planSlopes (a .clipped) planSets) p (given s) (sym (answered (checked t)) ∙ t .enum-told .given .1)
 
 returns-2 : tie.Need-returns-2
@@ -88,7 +100,8 @@ work-out-spec =
     which-requires
     check-call-requires
     enum-told
-    sets-of-requires
+    drawing-of-requires
+    discover-regions-requires
     write-gradients-requires
     enum-known-answer
     same-length

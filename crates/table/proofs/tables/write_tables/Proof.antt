@@ -7,7 +7,7 @@ use Rattle.regions.specs.Slices.{tablesOf, writtenBytes, writtenNumbers}
 use Rattle.regions.proofs.Slices.{settled-of}
 use Rattle.table.specs.Method.{clippedTable}
 use Rattle.table.specs.Rows.{rowsWritten}
-use Rattle.table.proofs.Second.{rows-count, rows-most}
+use Rattle.table.proofs.Second.{rows-count}
 use Rattle.table.proofs.tables.write_tables.Statement.{statement}
 use Rattle.table.proofs.tables.write_tables.Tie as tie
 
@@ -24,8 +24,7 @@ write-rows-requires : tie.Need-write-rows-requires
 write-rows-requires c κs =
     let s = c .before .before .before .before .before .before .before in
     let e = counted (c .before .before) in
-    let k = rows-most (s .args .ready .n) (s .pre .count) in
-    (omega arith, omega (arith, s .pre .bytes), omega (arith, s .pre .numbers))
+    (s .pre .count, e, omega (arith, s .pre .bytes), omega (arith, s .pre .numbers))
 
 write-exclusives-requires : tie.Need-write-exclusives-requires
 write-exclusives-requires c κs =

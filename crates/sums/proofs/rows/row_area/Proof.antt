@@ -1,21 +1,18 @@
 use borrow.Author.Needs.{needs}
 use mathlib.Core.Path.{_≡_}
-use Rattle.table.specs.Ready.{areaOf}
-use Rattle.table.proofs.ready.row_area.Statement.{statement}
-use Rattle.table.proofs.ready.row_area.Tie as tie
+use Rattle.sums.proofs.rows.row_area.Statement.{statement}
+use Rattle.sums.proofs.rows.row_area.Tie as tie
 
 clipped-region-area-requires : tie.Need-clipped-region-area-requires
 clipped-region-area-requires c κs = search needs
 
 returns : tie.Need-returns
-unfolding areaOf
-returns c = rw (c .before .before .if1 .taken) (c .clipped-region-area .ensures)
+returns c = rw (c .before .if1 .taken) (c .clipped-region-area .ensures)
 
 region-area-requires : tie.Need-region-area-requires
 region-area-requires c κs = search needs
 
 returns-2 : tie.Need-returns-2
-unfolding areaOf
 returns-2 c = rw (c .before .if1 .left) (c .region-area .ensures)
 
 pub row-area-spec : {M : Type 1} → statement M
