@@ -23,10 +23,10 @@ use Rattle.binary64.specs.Floats.{_+ᶠ_, _-ᶠ_}
 use Rattle.exclusive.specs.RowOrder.{rowOrder, Ordered}
 use Rattle.exclusive.specs.Exclusive.{sumOnto, above, unclamped}
 use Rattle.exclusive.specs.Entries.{entry, sumAll, LevelAdded, RowSubtracted}
-use Rattle.exclusive.proofs.RowOrder.{rows-ordered, all-later, earlier-other, every-row}
+use Rattle.exclusive.proofs.RowOrder.{rows-ordered, every-row}
 use Rattle.exclusive.proofs.Places.{row-lt}
 use Rattle.exclusive.proofs.Entries.{one-wide, row-start, row-next}
-use Rattle.exclusive.proofs.Sums.{from-here, cut, later}
+use Rattle.exclusive.proofs.Sums.{from-here, later, supersets-after}
 use Rattle.exclusive.proofs.Passing.{Pass, pass-next, due}
 use Rattle.exclusive.proofs.Zero.{Sound, zero-sound, add-zero, add-sound}
 
@@ -125,43 +125,17 @@ module _ (order : List ℕ) (lo hi : ℕ) (f : ℕ → Float) (rows : List ℕ) 
         many = r .many;
       }
 
--- ---- the rows from a place on
-
-every-drop : (P : ℕ → Type 0) (m : ℕ) (l : List ℕ) → Every P l → Every P (drop m l)
-every-drop P zero l e = e
-every-drop P (suc m) [] e = tt
-every-drop P (suc m) (x ∷ l) e = every-drop P m l (e .1)
-
-keep-same : (p q : ℕ → Bool) (l : List ℕ) → Every (λ x. p x ≡ q x) l → keep p l ≡ keep q l
-unfolding keep
-keep-same p q [] e = refl
-keep-same p q (x ∷ l) e =
-    ap₂ (λ (b : Bool) (r : List ℕ). cond b (x ∷ r) r) (e .0) (keep-same p q l (e .1))
-
 module _ (n : ℕ) (present : ℕ → Bool) where
   abbrev L : List ℕ
   L = rowOrder present n
 
   -- A row S at place i of a level that ends at place hi. Its supersets after the level are its strict supersets.
   module _ (i hi S : ℕ) (hs : S < 2 ^ n) (wide : S < 2 ^ 64) (under : i < hi) (inside : hi ≤ length L) (here : getD L i 0 ≡ S) (alike : ones (getD L (hi - 1) 0) ≡ ones S) where
-    others : Every (λ T. subset 64 S T ≡ strictSubset n S T) (drop hi L)
-    others =
-        let e : suc i + (hi - suc i) ≡ hi = omega arith in
-        subst (Every (λ T. subset 64 S T ≡ strictSubset n S T)) (drop-drop (hi - suc i) (suc i) L ∙ ap (λ (k : ℕ). drop k L) e)
-        (every-drop (λ T. subset 64 S T ≡ strictSubset n S T) (hi - suc i) (drop (suc i) L)
-        (every-map (drop (suc i) L) (λ T o. strict T (earlier-other S T o))
-        (all-later (take i L) (drop (suc i) L) S (subst Ordered (cut L i S (omega arith) here) (rows-ordered present n)))))
-      where
-        strict : (T : ℕ) → (S ≡ T → ⊥) → subset 64 S T ≡ strictSubset n S T
-        strict T o =
-            sym (and-test 64 S T wide) ∙ and-test n S T hs
-            ∙ sym (ap (λ (b : Bool). subset n S T && not b) (ne-eqb S T o) ∙ and-true (subset n S T))
-
     after-level : keep (subset 64 S) (drop hi L) ≡ above n present S
     unfolding above
     after-level =
         let e : hi - 1 + 1 ≡ hi = omega arith in
-        keep-same (subset 64 S) (strictSubset n S) (drop hi L) others
+        supersets-after L i S (omega arith) here hi n hs wide under (rows-ordered present n)
         ∙ sym (later L (hi - 1) (getD L (hi - 1) 0) (omega arith) refl n S hs (omega (arith, alike)) (rows-ordered present n)
         ∙ ap (λ (k : ℕ). keep (strictSubset n S) (drop k L)) e)
 

@@ -1,7 +1,7 @@
 // From the last row to the first: each number less the sum of what stands for its row's strict supersets, in place. The table has
 // `width` numbers a row, a gradient; levels.rt is for the areas. Rests on specs/Exclusive.antt and specs/Entries.antt.
 use crate::rows::row_order;
-use masks::is_strict_subset;
+use masks::is_subset;
 ghost use mathlib.Core.Path.{_≡_};
 ghost use Prim.Native.Nat.{suc, _+_, _*_, _≤_, _<_, _^_};
 ghost use lib.Ieee.{nan};
@@ -9,12 +9,13 @@ ghost use lib.ListN.{length, getD, take, drop};
 ghost use Rattle.lists.specs.Lists.{keep};
 ghost use Rattle.lists.specs.Every.{Every};
 ghost use Rattle.lists.specs.Written.{tab};
-ghost use Rattle.masks.specs.Mask.{strictSubset};
+ghost use Rattle.masks.specs.Mask.{subset};
 ghost use Rattle.masks.specs.Presence.{stands};
 ghost use Rattle.binary64.specs.Floats.{_+ᶠ_};
 ghost use Rattle.exclusive.specs.Entries.{rowSums, RowSubtracted, Subtracted};
 
-// The strict supersets of s from place `from` on, in row order: how many there are, and they stand first in `supersets`.
+// The supersets of s from place `from` on, in row order: how many there are, and they stand first in `supersets`. Each row is written, and the
+// next takes its place if it is none: nothing waits for the test.
 fn collect_supersets(
     s: usize,
     order: &[usize; 1024],
@@ -23,17 +24,16 @@ fn collect_supersets(
     supersets: &mut [usize; 1024],
 ) -> usize
     requires { ⌜ (count ≤ 1024) × (length (now order) ≡ 1024) × (length (now supersets) ≡ 1024) ⌝ }
-    ensures { λ r. ⌜ take r (now (supersets .exit)) ≡ keep (strictSubset 64 s) (drop from (take count (now (order .entry)))) ⌝ }
+    ensures { λ r. ⌜ take r (now (supersets .exit)) ≡ keep (subset 64 s) (drop from (take count (now (order .entry)))) ⌝ }
     ensures { λ r. ⌜ (r ≤ 1024) × (length (now (supersets .exit)) ≡ 1024) ⌝ }
 {
     let mut found: usize = 0;
     let mut j = from;
     while j < count {
         let t = order[j];
-        if is_strict_subset(s, t) {
-            supersets[found] = t;
-            found += 1;
-        }
+        supersets[found] = t;
+        let one: usize = if is_subset(s, t) { 1 } else { 0 };
+        found += one;
         j += 1;
     }
     found
