@@ -1,0 +1,35 @@
+-- An array filled place by place: the places below p that are asked for hold what they are to hold.
+use mathlib.Core.Path.{_≡_, refl, sym, ap, _∙_}
+use mathlib.Core.List.{List}
+use mathlib.Core.Logic.{⊎-elim}
+use Prim.Native.Nat.{ℕ, suc, _+_, _<_}
+use native.Mathlib.Nat.{eq-or-lt-of-le, le-of-suc-le-suc}
+use native.Mathlib.Numerals.{add-one}
+use native.Mathlib.Omega.{arith}
+use lib.ListN.{length, getD, set}
+use lib.Seq.{getD-set-same, getD-set-other}
+
+module _ {A : Type 0} (Asked : ℕ → Type 0) (f : ℕ → A) (d : A) where
+  abbrev pub HeldTo : List A → ℕ → Type 0
+  HeldTo l p = (i : ℕ) → i < p → Asked i → getD l i d ≡ f i
+
+  pub held-none : (l : List A) → HeldTo l 0
+  held-none l i h a = absurd (omega arith)
+
+  -- the next place is the last of those before, or it is new
+  next : (l : List A) (p : ℕ) → HeldTo l p → (Asked p → getD l p d ≡ f p) → HeldTo l (p + 1)
+  next l p held here i h a =
+      ⊎-elim (λ (e : i ≡ p). new i e a) (λ k. held i k a) (eq-or-lt-of-le (le-of-suc-le-suc (rw (add-one p) at h)))
+    where
+      new : (i : ℕ) → i ≡ p → Asked i → getD l i d ≡ f i
+      new i e a = rw e (here (rw e at a))
+
+  pub held-put : (l : List A) (p : ℕ) (x : A) → p < length l → x ≡ f p → HeldTo l p → HeldTo (set l p x) (p + 1)
+  held-put l p x h e held =
+      next (set l p x) p (λ i k a. getD-set-other l p i x d (λ s. less i s k) ∙ held i k a) (λ a. getD-set-same l p x d h ∙ e)
+    where
+      less : (i : ℕ) → i ≡ p → i < p → ⊥
+      less i s k = omega arith
+
+  pub held-skip : (l : List A) (p : ℕ) → (Asked p → ⊥) → HeldTo l p → HeldTo l (p + 1)
+  held-skip l p none held = next l p held (λ a. absurd (none a))
