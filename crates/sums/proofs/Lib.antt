@@ -1,0 +1,5 @@
+pub mod Sorting
+pub mod Ranks
+pub mod Gaps
+pub mod Members
+pub mod Collected
