@@ -3,3 +3,4 @@ pub mod Ranks
 pub mod Gaps
 pub mod Members
 pub mod Collected
+pub mod Carrying
