@@ -9,27 +9,27 @@ use native.Mathlib.Omega.{arith}
 use lib.ListN.{length, getD, set}
 use lib.Seq.{getD-set-same, getD-set-other}
 
-module _ {A : Type 0} (Asked : ℕ → Type 0) (f : ℕ → A) (d : A) where
-  abbrev pub HeldTo : List A → ℕ → Type 0
-  HeldTo l p = (i : ℕ) → i < p → Asked i → getD l i d ≡ f i
+pub record HeldTo {A : Type 0} (Asked : ℕ → Type 0) (f : ℕ → A) (d : A) (l : List A) (p : ℕ) : Type 0 where
+  pub at : (i : ℕ) → i < p → Asked i → getD l i d ≡ f i
 
-  pub held-none : (l : List A) → HeldTo l 0
-  held-none l i h a = absurd (omega arith)
+module _ {A : Type 0} {Asked : ℕ → Type 0} {f : ℕ → A} {d : A} where
+  pub held-none : (l : List A) → HeldTo Asked f d l 0
+  held-none l = record { at = λ i h a. absurd (omega arith) }
 
-  -- the next place is the last of those before, or it is new
-  next : (l : List A) (p : ℕ) → HeldTo l p → (Asked p → getD l p d ≡ f p) → HeldTo l (p + 1)
-  next l p held here i h a =
-      ⊎-elim (λ (e : i ≡ p). new i e a) (λ k. held i k a) (eq-or-lt-of-le (le-of-suc-le-suc (rw (add-one p) at h)))
+  -- the next place too
+  next : (l : List A) (p : ℕ) → ((i : ℕ) → i < p → Asked i → getD l i d ≡ f i) → (Asked p → getD l p d ≡ f p) → HeldTo Asked f d l (p + 1)
+  next l p held here =
+      record { at = λ i h a. ⊎-elim (λ (e : i ≡ p). new i e a) (λ k. held i k a) (eq-or-lt-of-le (le-of-suc-le-suc (rw (add-one p) at h))) }
     where
       new : (i : ℕ) → i ≡ p → Asked i → getD l i d ≡ f i
       new i e a = rw e (here (rw e at a))
 
-  pub held-put : (l : List A) (p : ℕ) (x : A) → p < length l → x ≡ f p → HeldTo l p → HeldTo (set l p x) (p + 1)
-  held-put l p x h e held =
-      next (set l p x) p (λ i k a. getD-set-other l p i x d (λ s. less i s k) ∙ held i k a) (λ a. getD-set-same l p x d h ∙ e)
+  pub held-put : {l : List A} {p : ℕ} (x : A) → p < length l → x ≡ f p → HeldTo Asked f d l p → HeldTo Asked f d (set l p x) (p + 1)
+  held-put {l} {p} x h e held =
+      next (set l p x) p (λ i k a. getD-set-other l p i x d (λ s. less i s k) ∙ held .at i k a) (λ a. getD-set-same l p x d h ∙ e)
     where
       less : (i : ℕ) → i ≡ p → i < p → ⊥
       less i s k = omega arith
 
-  pub held-skip : (l : List A) (p : ℕ) → (Asked p → ⊥) → HeldTo l p → HeldTo l (p + 1)
-  held-skip l p none held = next l p held (λ a. absurd (none a))
+  pub held-skip : {l : List A} {p : ℕ} → (Asked p → ⊥) → HeldTo Asked f d l p → HeldTo Asked f d l (p + 1)
+  held-skip {l} {p} none held = next l p (held .at) (λ a. absurd (none a))

@@ -1,2 +1,8 @@
+pub mod Sorting
+pub mod Ranks
+pub mod Gaps
+pub mod Members
+pub mod Collected
+pub mod Carrying
 pub mod Spans
 pub mod Filling

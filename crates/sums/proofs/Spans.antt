@@ -1,7 +1,7 @@
 -- The span of an edge for a set, from the chords of its heads.
 use mathlib.Core.Path.{_≡_, refl, sym, ap, _∙_}
 use mathlib.Core.Bool.{Bool, true, false, not, _&&_, _||_, cond}
-use mathlib.Core.List.{List, [], _∷_, _++_, map, map-append, map-map, append-nil}
+use mathlib.Core.List.{List, [], _∷_, _++_, map, map-append, map-map}
 use Prim.Native.Nat.{ℕ, zero, suc, _+_, _*_, _/_, _%_, _<_, _≤_, _^_}
 use native.Mathlib.Numerals.{add-one}
 use native.Mathlib.Omega.{arith}
@@ -21,17 +21,8 @@ use Rattle.intersections.proofs.Masks.{every-cong}
 use Rattle.inside.specs.Span.{Interval, misses, missed, halfChord, raised, lowered, lowEnd, highEnd, open-between, horizontalSpan, verticalSpan, seen}
 use Rattle.inside.proofs.Spanning.{seen-level, seen-upright}
 use Rattle.clip.specs.Area.{addSpan, addEdges}
+use Rattle.sums.proofs.Ranks.{heads-with, heads-without}
 use Rattle.sums.specs.Chords.{uprightEdge, lineOf, reachOf, lowOf, highOf, lowTo, highTo, spanFrom, Chorded}
-
--- ---- the heads of a set one after another
-
-heads-with : (S n : ℕ) → inSet S n ≡ true → headsOf (suc n) S ≡ headsOf n S ++ (n ∷ [])
-unfolding headsOf upTo
-heads-with S n e = rw e
-
-heads-without : (S n : ℕ) → inSet S n ≡ false → headsOf (suc n) S ≡ headsOf n S
-unfolding headsOf upTo
-heads-without S n e = rw e (append-nil (headsOf n S))
 
 module _ (y : Float) where
   missed-append : (a b : List Circle) → missed y (a ++ b) ≡ (missed y a || missed y b)
@@ -141,8 +132,8 @@ module _ (y : Float) where
 
 -- ---- the span of an edge, from what the arrays hold
 
-module _ (box : Bounds) (circles : List Circle) (S needed : ℕ) (reach : List ℕ) (low high : List Float)
-    (within : Subset S needed) (few : length circles ≤ 10) (held : Chorded box circles needed reach low high) where
+module _ (box : Bounds) (circles : List Circle) (S : ℕ) (reach : List ℕ) (low high : List Float)
+    (few : length circles ≤ 10) (held : Chorded box circles S reach low high) where
   abbrev own : List Circle
   own = map (circleAt circles) (headsOf (length circles) S)
 
@@ -174,14 +165,14 @@ module _ (box : Bounds) (circles : List Circle) (S needed : ℕ) (reach : List �
     low-is l h i =
         let q : (e * 10 + l) / 10 ≡ e = omega arith in
         let r : (e * 10 + l) % 10 ≡ l = omega arith in
-        rw (q, r) at (held .lows (e * 10 + l) (omega arith) (rw r (subset-head S needed within l i)))
+        rw (q, r) at (held .lows (e * 10 + l) (omega arith) (rw r i))
 
     high-is : (l : ℕ) → l < length circles → inSet S l ≡ true → highs l ≡ circ l .center .x +ᶠ halfChord y (circ l)
     unfolding highOf
     high-is l h i =
         let q : (e * 10 + l) / 10 ≡ e = omega arith in
         let r : (e * 10 + l) % 10 ≡ l = omega arith in
-        rw (q, r) at (held .highs (e * 10 + l) (omega arith) (rw r (subset-head S needed within l i)))
+        rw (q, r) at (held .highs (e * 10 + l) (omega arith) (rw r i))
 
     chosen : (m : Bool) (a b : List Interval) → cond m a b ≡ cond (not m) b a
     chosen true a b = refl
@@ -255,3 +246,26 @@ module _ (low high : ℕ → Float) (S : ℕ) (from to : Float) where
       → total ≡ addSpan factor total (spanFrom n reach low high S from to)
   unfolding spanFrom
   span-missed factor total n reach below e = rw (sym (and-test n S reach below) ∙ ne-eqb (bitAnd S reach) S e)
+
+-- ---- for the loops that fill
+
+-- one chord's ends, as code finds them
+module _ (box : Bounds) (circles : List Circle) (e l : ℕ) (c : Circle) (half : Float)
+    (ec : c ≡ seen (uprightEdge e) (circleAt circles l)) (eh : half ≡ halfChord (lineOf box e) c) where
+  pub low-end : c .center .x -ᶠ half ≡ lowOf box circles e l
+  unfolding lowOf
+  low-end = rw (eh, ec)
+
+  pub high-end : c .center .x +ᶠ half ≡ highOf box circles e l
+  unfolding highOf
+  high-end = rw (eh, ec)
+
+-- fewer heads are asked for
+pub chorded-less : {box : Bounds} {circles : List Circle} {needed : ℕ} {reach : List ℕ} {low high : List Float} (S : ℕ) → Subset S needed
+    → Chorded box circles needed reach low high → Chorded box circles S reach low high
+chorded-less {needed = needed} S within held =
+    record {
+      reaches = held .reaches;
+      lows = λ p h i. held .lows p h (subset-head S needed within (p % 10) i);
+      highs = λ p h i. held .highs p h (subset-head S needed within (p % 10) i);
+    }

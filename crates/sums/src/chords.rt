@@ -12,7 +12,7 @@ ghost use mathlib.Core.List.{List, map};
 ghost use Prim.Native.Nat.{ℕ, _+_, _*_, _/_, _%_, _^_, _<_, _≤_};
 ghost use lib.ListN.{take, length, getD};
 ghost use lib.Ieee.{nan};
-ghost use Rattle.masks.specs.Mask.{inSet, Subset};
+ghost use Rattle.masks.specs.Mask.{inSet};
 ghost use Rattle.geometry.specs.declared.circle.Circle.{Circle};
 ghost use Rattle.intersections.specs.Members.{headsOf, circleAt};
 ghost use Rattle.clip.specs.Area.{addSpan, addEdges};
@@ -155,7 +155,7 @@ pub(crate) fn add_edges(
     high: &[f64; 40],
 ) -> f64
     requires { ⌜ («n_sets» ≤ 10) × (mask < 2 ^ «n_sets») ⌝ }
-    ensures { λ r. ⌜ ((circles : List Circle) (needed : ℕ) → length circles ≡ «n_sets» → Subset mask needed → Chorded bounds circles needed (now (reach .entry)) (now (low .entry)) (now (high .entry)) → r ≡ addEdges bounds (map (circleAt circles) (headsOf (length circles) mask)) total) ⌝ }
+    ensures { λ r. ⌜ ((circles : List Circle) → length circles ≡ «n_sets» → Chorded bounds circles mask (now (reach .entry)) (now (low .entry)) (now (high .entry)) → r ≡ addEdges bounds (map (circleAt circles) (headsOf (length circles) mask)) total) ⌝ }
 {
     let b = bounds;
     let s = mask;

@@ -1,7 +1,7 @@
 -- `chords::fill_ends`: the places below p of the heads that are needed hold the ends of their chords.
 use borrow.Author.Needs.{needs}
 use mathlib.Core.Path.{_≡_, refl, sym, ap, _∙_}
-use mathlib.Core.Bool.{true, false, cond, not, _&&_, _||_}
+use mathlib.Core.Bool.{true, true≢false}
 use mathlib.Core.List.{List, [], _∷_, _++_, map}
 use mathlib.Core.Logic.{⊎-elim}
 use Prim.Native.Nat.{ℕ, zero, suc, _+_, _-_, _*_, _^_, _/_, _%_, _≤_, _<_}
@@ -18,6 +18,8 @@ use Rattle.masks.specs.Operations.{in-by-shift}
 use Rattle.intersections.specs.Members.{noCircle, circleAt}
 use Rattle.inside.specs.Span.{seen, halfChord}
 use Rattle.sums.specs.Chords.{uprightEdge, lineOf, lowOf, highOf}
+use Rattle.intersections.proofs.Masks.{head-below}
+use Rattle.sums.proofs.Spans.{low-end, high-end}
 use Rattle.sums.proofs.Filling.{HeldTo, held-none, held-put, held-skip}
 use Rattle.sums.proofs.chords.fill_ends.Statement.{statement}
 use Rattle.sums.proofs.chords.fill_ends.Tie as tie
@@ -32,9 +34,7 @@ abbrev μ-loop : tie.MeasureT-loop
 μ-loop n-sets bounds needed low₀ high₀ circles p₀ low high p = 40 - p
 
 loop-holds : tie.Need-loop-holds Inv-loop μ-loop
-loop-holds c =
-    let a = c .args in
-    (search length-of-values, c .pre .1 .0, c .pre .1 .1, omega arith, held-none _ _ _ _, held-none _ _ _ _)
+loop-holds c = (search length-of-values, c .pre .1 .0, c .pre .1 .1, omega arith, held-none _, held-none _)
 
 shr-if1 : tie.Need-shr-if1 Inv-loop μ-loop
 shr-if1 c = search needs
@@ -80,22 +80,29 @@ loop-again c =
     let d = c .before .before in
     let a = d .before .args in
     let l = d .loop in
+    let here = in-by-shift (a .needed) (l .p % 10) in
     ⊎-elim
-    (λ w. (
+    (λ w.
+    let own = head-below (a .needed) (a .n-sets) (l .p % 10) (d .before .pre .0 .1) (sym here ∙ eq-eqb _ _ (w .0 .taken)) in
+    let is = w .3 .ensures ∙ rw (w .1 .ensures, getD-take (a .n-sets) (a .t1) (l .p % 10) noCircle own) in
+    let half = w .5 .ensures ∙ rw (w .4 .ensures) in
+    (
       l .inv .0,
       rw (w .8) (simp length-set (l .inv .1)),
       rw (w .9) (simp length-set (l .inv .2)),
       omega arith,
-      rw (w .8) (held-put _ _ _ (l .low) (l .p) _ (omega arith) (search needs) (l .inv .4)),
-      rw (w .9) (held-put _ _ _ (l .high) (l .p) _ (omega arith) (search needs) (l .inv .5)),
+      rw (w .8) (held-put _ (omega arith) (low-end (a .bounds) (take (a .n-sets) (a .t1)) (l .p / 10) (l .p % 10) _ _ is half) (l .inv .4)),
+      rw (w .9) (held-put _ (omega arith) (high-end (a .bounds) (take (a .n-sets) (a .t1)) (l .p / 10) (l .p % 10) _ _ is half) (l .inv .5)),
     ))
-    (λ w. (
+    (λ w.
+    let out = λ (i : inSet (a .needed) (l .p % 10) ≡ true). true≢false (sym i ∙ sym here ∙ ne-eqb _ _ (w .0 .left)) in
+    (
       l .inv .0,
       rw (w .1) (l .inv .1),
       rw (w .2) (l .inv .2),
       omega arith,
-      rw (w .1) (held-skip _ _ _ (l .low) (l .p) (search needs) (l .inv .4)),
-      rw (w .2) (held-skip _ _ _ (l .high) (l .p) (search needs) (l .inv .5)),
+      rw (w .1) (held-skip out (l .inv .4)),
+      rw (w .2) (held-skip out (l .inv .5)),
     ))
     (c .if1 .came)
 
@@ -103,7 +110,7 @@ returns : tie.Need-returns Inv-loop μ-loop
 returns c =
     let l = c .before .loop in
     let e : l .p ≡ 40 = omega arith in
-    (rw e at (l .inv .4), rw e at (l .inv .5))
+    ((rw e at (l .inv .4)) .at, (rw e at (l .inv .5)) .at)
 
 pub fill-ends-spec : {M : Type 1} → statement M
 fill-ends-spec =

@@ -1,0 +1,76 @@
+-- The meeting points of a head, each by its angle and its adopters, in order of the angle.
+use Prim.Native.Nat.{ℕ, suc, _+_}
+use mathlib.Core.Bool.{Bool, _||_, cond}
+use mathlib.Core.List.{List, [], _∷_, map}
+use lib.Dec.{eqb}
+use lib.Ieee.{Float, nan}
+use lib.ListN.{getD, take}
+use Rattle.masks.specs.Mask.{subset}
+use Rattle.lists.specs.Lists.{keep}
+use Rattle.lists.specs.Written.{tab}
+use Rattle.binary64.specs.Floats.{_<ᶠ_}
+use Rattle.geometry.specs.declared.circle.Circle.{Circle}
+use Rattle.intersections.specs.declared.points.IntersectionPoint.{IntersectionPoint}
+use Rattle.boundary.specs.Outline.{angleAbout}
+use Rattle.sums.specs.declared.marks.Mark.{Mark}
+use Rattle.sums.specs.declared.marks.Marks.{Marks}
+
+-- an angle, and the adopters of the point there
+abbrev pub mark : Float → ℕ → Mark
+mark phi adopters = record { phi = phi; adopters = adopters }
+
+-- what stands for a mark that a list does not have
+abbrev pub noMark : Mark
+noMark = mark nan 0
+
+-- the first n of a list of marks
+abbrev pub markList : Marks → List Mark
+markList l = take (l .n) (l .all)
+
+-- the marks that two arrays hold, from a place on
+unfoldable pub marksFrom : List Float → List ℕ → ℕ → ℕ → List Mark
+unfolding tab
+marksFrom phi adopters at n = tab (λ i. mark (getD phi (at + i) nan) (getD adopters (at + i) 0)) n
+
+-- x before the first of a greater angle
+unfoldable pub insertMark : Mark → List Mark → List Mark
+insertMark x [] = x ∷ []
+insertMark x (y ∷ ys) = cond (x .phi <ᶠ y .phi) (x ∷ y ∷ ys) (y ∷ insertMark x ys)
+
+-- one after another of the list, put into those before it
+unfoldable pub sortMarksOnto : List Mark → List Mark → List Mark
+unfolding insertMark
+sortMarksOnto done [] = done
+sortMarksOnto done (x ∷ xs) = sortMarksOnto (insertMark x done) xs
+
+unfoldable pub sortMarks : List Mark → List Mark
+unfolding sortMarksOnto
+sortMarks l = sortMarksOnto [] l
+
+-- head j is a parent of the point
+unfoldable pub hasParent : ℕ → IntersectionPoint → Bool
+hasParent j q = eqb (q .first) j || eqb (q .second) j
+
+-- a point as its angle about a circle, and its adopters
+unfoldable pub markOf : Circle → IntersectionPoint → Mark
+unfolding angleAbout
+markOf c q = record { phi = angleAbout c (q .point); adopters = q .adopters }
+
+-- all meeting points of head j, by angle
+unfoldable pub marksAt : Circle → ℕ → List IntersectionPoint → List Mark
+unfolding sortMarks markOf hasParent keep
+marksAt c j points = sortMarks (map (markOf c) (keep (hasParent j) points))
+
+-- every head of S adopts the point
+unfoldable pub adoptedBy : ℕ → Mark → Bool
+adoptedBy S m = subset 64 S (m .adopters)
+
+-- the angles of the points counted for S
+unfoldable pub anglesIn : ℕ → List Mark → List Float
+unfolding keep adoptedBy
+anglesIn S l = map (λ m. m .phi) (keep (adoptedBy S) l)
+
+-- how many stand before the first of an angle greater than x
+unfoldable pub placeMark : Float → List Mark → ℕ
+placeMark x [] = 0
+placeMark x (y ∷ ys) = cond (x <ᶠ y .phi) 0 (suc (placeMark x ys))
