@@ -4,3 +4,5 @@ pub mod Gaps
 pub mod Members
 pub mod Collected
 pub mod Carrying
+pub mod Owning
+pub mod Walking
