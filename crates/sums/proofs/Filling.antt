@@ -2,10 +2,13 @@
 use mathlib.Core.Path.{_≡_, refl, sym, ap, _∙_}
 use mathlib.Core.List.{List}
 use mathlib.Core.Logic.{⊎-elim}
-use Prim.Native.Nat.{ℕ, suc, _+_, _<_}
+use mathlib.Core.Bool.{Bool, true, false}
+use Prim.Native.Nat.{ℕ, suc, _+_, _<_, _≤_}
 use native.Mathlib.Nat.{eq-or-lt-of-le, le-of-suc-le-suc}
 use native.Mathlib.Numerals.{add-one}
 use native.Mathlib.Omega.{arith}
+use borrow.Author.Tests.{ltb-true, ltb-false}
+use lib.Dec.{ltb}
 use lib.ListN.{length, getD, set}
 use lib.Seq.{getD-set-same, getD-set-other}
 
@@ -33,3 +36,11 @@ module _ {A : Type 0} {Asked : ℕ → Type 0} {f : ℕ → A} {d : A} where
 
   pub held-skip : {l : List A} {p : ℕ} → (Asked p → ⊥) → HeldTo Asked f d l p → HeldTo Asked f d l (p + 1)
   held-skip {l} {p} none held = next l p (held .at) (λ a. absurd (none a))
+
+  -- no place up to q is asked for
+  pub held-jump : {l : List A} {p q : ℕ} → ((i : ℕ) → p ≤ i → i < q → Asked i → ⊥) → HeldTo Asked f d l p → HeldTo Asked f d l q
+  held-jump {l} {p} {q} none held = record { at = λ i h a. by i (ltb i p) refl h a }
+    where
+      by : (i : ℕ) (b : Bool) → ltb i p ≡ b → i < q → Asked i → getD l i d ≡ f i
+      by i true e h a = held .at i (ltb-true i p e) a
+      by i false e h a = absurd (none i (ltb-false i p e) h a)

@@ -4,5 +4,8 @@ pub mod Gaps
 pub mod Members
 pub mod Collected
 pub mod Carrying
+pub mod Owning
+pub mod Walking
 pub mod Spans
 pub mod Filling
+pub mod Valuing

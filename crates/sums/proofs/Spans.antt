@@ -192,24 +192,32 @@ module _ (box : Bounds) (circles : List Circle) (S : ℕ) (reach : List ℕ) (lo
         ))
 
   -- the four of them, added one after another
-  pub edges-are : (total bottom right top left : Float)
-      → bottom ≡ addSpan (neg (box .«y_min»)) total (spanFrom (length circles) (getD reach 0 0) (λ l. getD low (0 + l) nan) (λ l. getD high (0 + l) nan) S (box .«x_min») (box .«x_max»))
-      → right ≡ addSpan (box .«x_max») bottom (spanFrom (length circles) (getD reach 1 0) (λ l. getD low (10 + l) nan) (λ l. getD high (10 + l) nan) S (box .«y_min») (box .«y_max»))
-      → top ≡ addSpan (box .«y_max») right (spanFrom (length circles) (getD reach 2 0) (λ l. getD low (20 + l) nan) (λ l. getD high (20 + l) nan) S (box .«x_min») (box .«x_max»))
-      → left ≡ addSpan (neg (box .«x_min»)) top (spanFrom (length circles) (getD reach 3 0) (λ l. getD low (30 + l) nan) (λ l. getD high (30 + l) nan) S (box .«y_min») (box .«y_max»))
-      → left ≡ addEdges box own total
-  unfolding addEdges uprightEdge lineOf
-  edges-are total bottom right top left eb er et el =
-      el
-      ∙ rw (
-        sym (span-is 3 (omega arith) (box .«y_min») (box .«y_max»)) ∙ seen-upright (box .«x_min») (box .«y_min») (box .«y_max») own,
-        et,
-        sym (span-is 2 (omega arith) (box .«x_min») (box .«x_max»)) ∙ ap (horizontalSpan (box .«y_max») (box .«x_min») (box .«x_max»)) (seen-level own),
-        er,
-        sym (span-is 1 (omega arith) (box .«y_min») (box .«y_max»)) ∙ seen-upright (box .«x_max») (box .«y_min») (box .«y_max») own,
-        eb,
-        sym (span-is 0 (omega arith) (box .«x_min») (box .«x_max»)) ∙ ap (horizontalSpan (box .«y_min») (box .«x_min») (box .«x_max»)) (seen-level own),
-      )
+  module _ (n : ℕ) (many : length circles ≡ n) (total : Float) {bottom right top left : Float}
+      (eb : bottom ≡ addSpan (neg (box .«y_min»)) total
+      (spanFrom n (getD reach 0 0) (λ l. getD low (0 + l) nan) (λ l. getD high (0 + l) nan) S (box .«x_min») (box .«x_max»)))
+      (er : right ≡ addSpan (box .«x_max») bottom
+      (spanFrom n (getD reach 1 0) (λ l. getD low (10 + l) nan) (λ l. getD high (10 + l) nan) S (box .«y_min») (box .«y_max»)))
+      (et : top ≡ addSpan (box .«y_max») right
+      (spanFrom n (getD reach 2 0) (λ l. getD low (20 + l) nan) (λ l. getD high (20 + l) nan) S (box .«x_min») (box .«x_max»)))
+      (el : left ≡ addSpan (neg (box .«x_min»)) top
+      (spanFrom n (getD reach 3 0) (λ l. getD low (30 + l) nan) (λ l. getD high (30 + l) nan) S (box .«y_min») (box .«y_max»))) where
+    pub edges-are : left ≡ addEdges box own total
+    unfolding addEdges uprightEdge lineOf
+    edges-are =
+        el
+        ∙ rw (
+          sym many,
+          sym (span-is 3 (omega arith) (box .«y_min») (box .«y_max»)) ∙ seen-upright (box .«x_min») (box .«y_min») (box .«y_max») own,
+          et,
+          sym many,
+          sym (span-is 2 (omega arith) (box .«x_min») (box .«x_max»)) ∙ ap (horizontalSpan (box .«y_max») (box .«x_min») (box .«x_max»)) (seen-level own),
+          er,
+          sym many,
+          sym (span-is 1 (omega arith) (box .«y_min») (box .«y_max»)) ∙ seen-upright (box .«x_max») (box .«y_min») (box .«y_max») own,
+          eb,
+          sym many,
+          sym (span-is 0 (omega arith) (box .«x_min») (box .«x_max»)) ∙ ap (horizontalSpan (box .«y_min») (box .«x_min») (box .«x_max»)) (seen-level own),
+        )
 
 -- ---- for the loop over the heads
 
@@ -250,15 +258,15 @@ module _ (low high : ℕ → Float) (S : ℕ) (from to : Float) where
 -- ---- for the loops that fill
 
 -- one chord's ends, as code finds them
-module _ (box : Bounds) (circles : List Circle) (e l : ℕ) (c : Circle) (half : Float)
-    (ec : c ≡ seen (uprightEdge e) (circleAt circles l)) (eh : half ≡ halfChord (lineOf box e) c) where
+module _ (box : Bounds) (circles : List Circle) (e l : ℕ) {upright : Bool} {own c : Circle} {at half : Float}
+    (eu : upright ≡ uprightEdge e) (eo : own ≡ circleAt circles l) (ec : c ≡ seen upright own) (ea : at ≡ lineOf box e) (eh : half ≡ halfChord at c) where
   pub low-end : c .center .x -ᶠ half ≡ lowOf box circles e l
   unfolding lowOf
-  low-end = rw (eh, ec)
+  low-end = rw (eh, ea, ec, eu, eo)
 
   pub high-end : c .center .x +ᶠ half ≡ highOf box circles e l
   unfolding highOf
-  high-end = rw (eh, ec)
+  high-end = rw (eh, ea, ec, eu, eo)
 
 -- fewer heads are asked for
 pub chorded-less : {box : Bounds} {circles : List Circle} {needed : ℕ} {reach : List ℕ} {low high : List Float} (S : ℕ) → Subset S needed

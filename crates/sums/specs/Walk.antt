@@ -1,13 +1,14 @@
 -- The arcs of a set's outline by head numbers, from the marks of its heads; and what the arrays hold from which code walks round them.
 use Prim.Native.Nat.{ℕ, _+_, _-_, _*_, _/_, _%_, _≤_, _<_}
 use mathlib.Core.Path.{_≡_}
-use mathlib.Core.Bool.{Bool, true, not, _&&_, _||_, cond}
-use mathlib.Core.List.{List, [], _∷_, _++_}
+use mathlib.Core.Bool.{Bool, true, false, not, _&&_, _||_, cond}
+use mathlib.Core.List.{List, [], _∷_, _++_, map}
 use lib.Dec.{eqb, ltb}
 use lib.Count.{ones, trailingZeros}
-use lib.ListN.{length, getD}
+use lib.ListN.{length, getD, take}
 use lib.Ieee.{Float, nan}
-use Rattle.masks.specs.Mask.{inSet, every, gather}
+use Rattle.masks.specs.Mask.{inSet, every, subset, gather}
+use Rattle.lists.specs.Every.{Every}
 use Rattle.lists.specs.Lists.{upTo, keep}
 use Rattle.lists.specs.Written.{tab}
 use Rattle.binary64.specs.Constants.{half64}
@@ -107,6 +108,13 @@ unfoldable pub headsIn : List Circle → (ℕ → List Mark) → ℕ → ℕ →
 unfolding upTo partIn
 headsIn circles marks S n = upTo (partIn circles marks S) n
 
+-- r is the first of the n places from `from` on whose point S adopts, or n
+pub record NextIn (S : ℕ) (adopters : List ℕ) (at from n r : ℕ) : Type 0 where
+  pub within : r ≤ n
+  pub past : from ≤ r
+  pub none : (i : ℕ) → from ≤ i → i < r → subset 64 S (getD adopters (at + i) 0) ≡ false
+  pub here : r < n → subset 64 S (getD adopters (at + r) 0) ≡ true
+
 -- the arcs of S. Of a single: its full circle, whatever meets it.
 unfoldable pub arcsBy : List Circle → (ℕ → List Mark) → ℕ → List BoundaryArc
 unfolding fullCircle headsIn
@@ -148,6 +156,12 @@ pub record Placed (n S : ℕ) (counts : List ℕ) (p : ℕ) : Type 0 where
   pub start : 330 ≤ p → Angled n S counts ((p - 330) / 320)
   pub end : 330 ≤ p → Angled n S counts ((p - 330) % 320)
   pub same : 330 ≤ p → (p - 330) / 320 / 32 ≡ (p - 330) % 320 / 32
+
+-- The first k of a list of 320 are numbers of arcs of S, and stand for these arcs.
+pub record Listing (circles : List Circle) (counts : List ℕ) (phi : List Float) (n S : ℕ) (arcs : List BoundaryArc) (k : ℕ) (list : List ℕ) : Type 0 where
+  pub long : length list ≡ 320
+  pub said : map (arcAt circles counts phi) (take k list) ≡ arcs
+  pub placed : Every (Placed n S counts) (take k list)
 
 -- ---- what is worked out once
 

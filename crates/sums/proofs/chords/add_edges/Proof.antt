@@ -32,15 +32,14 @@ add-chords-requires-4 c κs = search needs
 
 returns : tie.Need-returns
 returns c =
-    let four = c .add-chords4 in
     let d3 = c .before .before .before in
     let d2 = d3 .before .before in
     let d1 = d2 .before .before in
     let s = d1 .before .before .before in
     let a = s .args in
     λ circles many held.
-    edges-are (a .bounds) circles (a .mask) (a .reach .now) (a .low .now) (a .high .now) (omega (arith, s .pre .0, many)) held (a .total) _ _ _ _
-    (rw many (d1 .add-chords .ensures)) (rw many (d2 .add-chords2 .ensures)) (rw many (d3 .add-chords3 .ensures)) (rw many (four .ensures))
+    edges-are (a .bounds) circles (a .mask) (a .reach .now) (a .low .now) (a .high .now) (omega (arith, s .pre .0, many)) held (a .n-sets) many (a .total)
+    (d1 .add-chords .ensures) (d2 .add-chords2 .ensures) (d3 .add-chords3 .ensures) (c .add-chords4 .ensures)
 
 pub add-edges-spec : {M : Type 1} → statement M
 add-edges-spec =

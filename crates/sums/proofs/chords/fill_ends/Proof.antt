@@ -84,18 +84,17 @@ loop-again c =
     ⊎-elim
     (λ w.
     let own = head-below (a .needed) (a .n-sets) (l .p % 10) (d .before .pre .0 .1) (sym here ∙ eq-eqb _ _ (w .0 .taken)) in
-    let is = w .3 .ensures ∙ rw (w .1 .ensures, getD-take (a .n-sets) (a .t1) (l .p % 10) noCircle own) in
-    let half = w .5 .ensures ∙ rw (w .4 .ensures) in
+    let is = sym (getD-take (a .n-sets) (a .t1) (l .p % 10) noCircle own) in
     (
       l .inv .0,
       rw (w .8) (simp length-set (l .inv .1)),
       rw (w .9) (simp length-set (l .inv .2)),
       omega arith,
-      rw (w .8) (held-put _ (omega arith) (low-end (a .bounds) (take (a .n-sets) (a .t1)) (l .p / 10) (l .p % 10) _ _ is half) (l .inv .4)),
-      rw (w .9) (held-put _ (omega arith) (high-end (a .bounds) (take (a .n-sets) (a .t1)) (l .p / 10) (l .p % 10) _ _ is half) (l .inv .5)),
+      rw (w .8) (held-put _ (omega arith) (low-end (a .bounds) (take (a .n-sets) (a .t1)) (l .p / 10) (l .p % 10) (w .1 .ensures) is (w .3 .ensures) (w .4 .ensures) (w .5 .ensures)) (l .inv .4)),
+      rw (w .9) (held-put _ (omega arith) (high-end (a .bounds) (take (a .n-sets) (a .t1)) (l .p / 10) (l .p % 10) (w .1 .ensures) is (w .3 .ensures) (w .4 .ensures) (w .5 .ensures)) (l .inv .5)),
     ))
     (λ w.
-    let out = λ (i : inSet (a .needed) (l .p % 10) ≡ true). true≢false (sym i ∙ sym here ∙ ne-eqb _ _ (w .0 .left)) in
+    let out : inSet (a .needed) (l .p % 10) ≡ true → ⊥ = λ i. true≢false (sym i ∙ sym here ∙ ne-eqb _ _ (w .0 .left)) in
     (
       l .inv .0,
       rw (w .1) (l .inv .1),
