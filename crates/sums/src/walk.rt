@@ -7,15 +7,14 @@ use geometry::circle::Circle;
 use geometry::point::Point;
 ghost use mathlib.Core.Path.{_≡_};
 ghost use mathlib.Core.Bool.{true, false};
-ghost use mathlib.Core.List.{map, _++_};
+ghost use mathlib.Core.List.{[], _++_};
 ghost use Prim.Native.Nat.{ℕ, _+_, _*_, _%_, _^_, _<_, _≤_};
-ghost use lib.ListN.{length, getD, take};
+ghost use lib.ListN.{length, getD};
 ghost use lib.Ieee.{nan};
 ghost use Rattle.masks.specs.Mask.{inSet, Subset};
-ghost use Rattle.intersections.specs.declared.points.IntersectionPoint.{IntersectionPoint};
 ghost use Rattle.sums.specs.Marks.{anglesIn};
 ghost use Rattle.sums.specs.Walk.{circleIn, circlesIn, marksIn, ownedIn, gapLetters, isArc, gapIn, headIn, arcsBy};
-ghost use Rattle.sums.specs.Walk.{NextIn, arcAt, Listing, HeadMarked, Marked};
+ghost use Rattle.sums.specs.Walk.{NextIn, arcsOf, Listing, HeadReady, Ready};
 
 // The circle of head l, from its three numbers.
 pub(crate) fn circle_at(c: &[f64; 30], l: usize) -> Circle
@@ -112,9 +111,9 @@ fn list_gap(
     requires { ⌜ («n_sets» ≤ 10) × ((j < «n_sets») × ((mask < 2 ^ «n_sets») × (inSet mask j ≡ true))) ⌝ }
     requires { ⌜ (getD (now counts) j 0 ≤ 32) × ((a < getD (now counts) j 0) × (b < getD (now counts) j 0)) ⌝ }
     requires { ⌜ getD (now lets) (j * 32 + a) 0 ≡ gapLetters (circlesIn (now c) «n_sets») j (getD (now phi) (j * 32 + a) nan) (getD (now phi) (j * 32 + (a + 1) % getD (now counts) j 0) nan) ⌝ }
-    requires { ⌜ (k < 320) × Listing (circlesIn (now c) «n_sets») (now counts) (now phi) «n_sets» mask (map (arcAt (circlesIn (now c) «n_sets») (now counts) (now phi)) (take k (now list))) k (now list) ⌝ }
+    requires { ⌜ (k < 320) × Listing (circlesIn (now c) «n_sets») (now counts) (now phi) «n_sets» mask (arcsOf (circlesIn (now c) «n_sets») (now counts) (now phi) k (now list)) k (now list) ⌝ }
     ensures { λ r. ⌜ r ≤ k + 1 ⌝ }
-    ensures { λ r. ⌜ Listing (circlesIn (now (c .entry)) «n_sets») (now (counts .entry)) (now (phi .entry)) «n_sets» mask (map (arcAt (circlesIn (now (c .entry)) «n_sets») (now (counts .entry)) (now (phi .entry))) (take k (now (list .entry))) ++ gapIn (circlesIn (now (c .entry)) «n_sets») mask j (getD (now (phi .entry)) (j * 32 + a) nan) (getD (now (phi .entry)) (j * 32 + b) nan)) r (now (list .exit)) ⌝ }
+    ensures { λ r. ⌜ Listing (circlesIn (now (c .entry)) «n_sets») (now (counts .entry)) (now (phi .entry)) «n_sets» mask (arcsOf (circlesIn (now (c .entry)) «n_sets») (now (counts .entry)) (now (phi .entry)) k (now (list .entry)) ++ gapIn (circlesIn (now (c .entry)) «n_sets») mask j (getD (now (phi .entry)) (j * 32 + a) nan) (getD (now (phi .entry)) (j * 32 + b) nan)) r (now (list .exit)) ⌝ }
 {
     let at = j * 32 + a;
     if b == next(a, counts[j]) {
