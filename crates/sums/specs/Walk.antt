@@ -157,23 +157,30 @@ pub record Placed (n S : ℕ) (counts : List ℕ) (p : ℕ) : Type 0 where
   pub end : 330 ≤ p → Angled n S counts ((p - 330) % 320)
   pub same : 330 ≤ p → (p - 330) / 320 / 32 ≡ (p - 330) % 320 / 32
 
+-- the arcs that the first k of a list stand for
+abbrev pub arcsOf : List Circle → List ℕ → List Float → ℕ → List ℕ → List BoundaryArc
+arcsOf circles counts phi k list = map (arcAt circles counts phi) (take k list)
+
 -- The first k of a list of 320 are numbers of arcs of S, and stand for these arcs.
 pub record Listing (circles : List Circle) (counts : List ℕ) (phi : List Float) (n S : ℕ) (arcs : List BoundaryArc) (k : ℕ) (list : List ℕ) : Type 0 where
   pub long : length list ≡ 320
-  pub said : map (arcAt circles counts phi) (take k list) ≡ arcs
+  pub said : arcsOf circles counts phi k list ≡ arcs
   pub placed : Every (Placed n S counts) (take k list)
 
 -- ---- what is worked out once
 
--- What the arrays hold for head j: its marks, who lets it have each gap between neighbours, and who lets it have its probe.
-pub record HeadMarked (circles : List Circle) (points : List IntersectionPoint) (counts owners : List ℕ) (phi : List Float) (adopters lets : List ℕ) (j : ℕ) : Type 0 where
+-- The arrays of head j: who lets it have each gap between neighbours, and who lets it have its probe.
+pub record HeadReady (circles : List Circle) (counts owners : List ℕ) (phi : List Float) (lets : List ℕ) (j : ℕ) : Type 0 where
   pub few : getD counts j 0 ≤ 32
-  pub marks : marksIn counts phi adopters j ≡ marksAt (circleAt circles j) j points
   pub gaps : (i : ℕ) → i < getD counts j 0
       → getD lets (j * 32 + i) 0 ≡ gapLetters circles j (getD phi (j * 32 + i) nan) (getD phi (j * 32 + (i + 1) % getD counts j 0) nan)
   pub probed : getD owners j 0 ≡ letters circles j (probe (circleAt circles j))
 
--- They hold that for every head of `needed`.
-abbrev pub Marked : List Circle → List IntersectionPoint → ℕ → List ℕ → List ℕ → List Float → List ℕ → List ℕ → Type 0
-Marked circles points needed counts owners phi adopters lets =
-    (j : ℕ) → j < length circles → inSet needed j ≡ true → HeadMarked circles points counts owners phi adopters lets j
+-- The arrays of every head of S: what the walk round S asks.
+abbrev pub Ready : List Circle → ℕ → List ℕ → List ℕ → List Float → List ℕ → Type 0
+Ready circles S counts owners phi lets = (j : ℕ) → j < length circles → inSet S j ≡ true → HeadReady circles counts owners phi lets j
+
+-- They are ready for every head of `needed`, and the angles and adopters are those of its meeting points.
+pub record Marked (circles : List Circle) (points : List IntersectionPoint) (needed : ℕ) (counts owners : List ℕ) (phi : List Float) (adopters lets : List ℕ) : Type 0 where
+  pub ready : Ready circles needed counts owners phi lets
+  pub marks : (j : ℕ) → j < length circles → inSet needed j ≡ true → marksIn counts phi adopters j ≡ marksAt (circleAt circles j) j points

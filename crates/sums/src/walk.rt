@@ -7,15 +7,14 @@ use geometry::circle::Circle;
 use geometry::point::Point;
 ghost use mathlib.Core.Path.{_≡_};
 ghost use mathlib.Core.Bool.{true, false};
-ghost use mathlib.Core.List.{map, _++_};
+ghost use mathlib.Core.List.{[], _++_};
 ghost use Prim.Native.Nat.{ℕ, _+_, _*_, _%_, _^_, _<_, _≤_};
-ghost use lib.ListN.{length, getD, take};
+ghost use lib.ListN.{length, getD};
 ghost use lib.Ieee.{nan};
 ghost use Rattle.masks.specs.Mask.{inSet, Subset};
-ghost use Rattle.intersections.specs.declared.points.IntersectionPoint.{IntersectionPoint};
 ghost use Rattle.sums.specs.Marks.{anglesIn};
 ghost use Rattle.sums.specs.Walk.{circleIn, circlesIn, marksIn, ownedIn, gapLetters, isArc, gapIn, headIn, arcsBy};
-ghost use Rattle.sums.specs.Walk.{NextIn, arcAt, Listing, HeadMarked, Marked};
+ghost use Rattle.sums.specs.Walk.{NextIn, arcsOf, Listing, HeadReady, Ready};
 
 // The circle of head l, from its three numbers.
 pub(crate) fn circle_at(c: &[f64; 30], l: usize) -> Circle
@@ -60,13 +59,7 @@ fn is_arc(c: &[f64; 30], n_sets: usize, mask: usize, j: usize, phi_a: f64, phi_b
         return false;
     }
     let circle = circle_at(c, j);
-    owned_in(
-        c,
-        n_sets,
-        mask,
-        j,
-        point_at(circle, phi_a + delta * 0.5),
-    )
+    owned_in(c, n_sets, mask, j, point_at(circle, phi_a + delta * 0.5))
 }
 
 // The next place of n, round a circle.
@@ -112,9 +105,9 @@ fn list_gap(
     requires { ⌜ («n_sets» ≤ 10) × ((j < «n_sets») × ((mask < 2 ^ «n_sets») × (inSet mask j ≡ true))) ⌝ }
     requires { ⌜ (getD (now counts) j 0 ≤ 32) × ((a < getD (now counts) j 0) × (b < getD (now counts) j 0)) ⌝ }
     requires { ⌜ getD (now lets) (j * 32 + a) 0 ≡ gapLetters (circlesIn (now c) «n_sets») j (getD (now phi) (j * 32 + a) nan) (getD (now phi) (j * 32 + (a + 1) % getD (now counts) j 0) nan) ⌝ }
-    requires { ⌜ (k < 320) × Listing (circlesIn (now c) «n_sets») (now counts) (now phi) «n_sets» mask (map (arcAt (circlesIn (now c) «n_sets») (now counts) (now phi)) (take k (now list))) k (now list) ⌝ }
+    requires { ⌜ (k < 320) × Listing (circlesIn (now c) «n_sets») (now counts) (now phi) «n_sets» mask (arcsOf (circlesIn (now c) «n_sets») (now counts) (now phi) k (now list)) k (now list) ⌝ }
     ensures { λ r. ⌜ r ≤ k + 1 ⌝ }
-    ensures { λ r. ⌜ Listing (circlesIn (now (c .entry)) «n_sets») (now (counts .entry)) (now (phi .entry)) «n_sets» mask (map (arcAt (circlesIn (now (c .entry)) «n_sets») (now (counts .entry)) (now (phi .entry))) (take k (now (list .entry))) ++ gapIn (circlesIn (now (c .entry)) «n_sets») mask j (getD (now (phi .entry)) (j * 32 + a) nan) (getD (now (phi .entry)) (j * 32 + b) nan)) r (now (list .exit)) ⌝ }
+    ensures { λ r. ⌜ Listing (circlesIn (now (c .entry)) «n_sets») (now (counts .entry)) (now (phi .entry)) «n_sets» mask (arcsOf (circlesIn (now (c .entry)) «n_sets») (now (counts .entry)) (now (phi .entry)) k (now (list .entry)) ++ gapIn (circlesIn (now (c .entry)) «n_sets») mask j (getD (now (phi .entry)) (j * 32 + a) nan) (getD (now (phi .entry)) (j * 32 + b) nan)) r (now (list .exit)) ⌝ }
 {
     let at = j * 32 + a;
     if b == next(a, counts[j]) {
@@ -130,4 +123,89 @@ fn list_gap(
         return k + 1;
     }
     k
+}
+
+// The arcs of head j in the set, listed: gap by gap round the circle, or the whole of it where no point is counted for the set there.
+fn list_head(
+    mask: usize,
+    c: &[f64; 30],
+    n_sets: usize,
+    j: usize,
+    counts: &[usize; 10],
+    owners: &[usize; 10],
+    phi: &[f64; 320],
+    adopters: &[usize; 320],
+    lets: &[usize; 320],
+    list: &mut [usize; 320],
+    k: usize,
+) -> usize
+    requires { ⌜ («n_sets» ≤ 10) × ((j < «n_sets») × ((mask < 2 ^ «n_sets») × (inSet mask j ≡ true))) ⌝ }
+    requires { ⌜ HeadReady (circlesIn (now c) «n_sets») (now counts) (now owners) (now phi) (now lets) j ⌝ }
+    requires { ⌜ (k ≤ j * 32) × Listing (circlesIn (now c) «n_sets») (now counts) (now phi) «n_sets» mask (arcsOf (circlesIn (now c) «n_sets») (now counts) (now phi) k (now list)) k (now list) ⌝ }
+    ensures { λ r. ⌜ r ≤ j * 32 + 32 ⌝ }
+    ensures { λ r. ⌜ Listing (circlesIn (now (c .entry)) «n_sets») (now (counts .entry)) (now (phi .entry)) «n_sets» mask (arcsOf (circlesIn (now (c .entry)) «n_sets») (now (counts .entry)) (now (phi .entry)) k (now (list .entry)) ++ headIn (circlesIn (now (c .entry)) «n_sets») mask j (anglesIn mask (marksIn (now (counts .entry)) (now (phi .entry)) (now (adopters .entry)) j))) r (now (list .exit)) ⌝ }
+{
+    let at = j * 32;
+    let n = counts[j];
+    let first = next_in(mask, adopters, at, 0, n);
+    if n <= first {
+        if mask & owners[j] == mask {
+            list[k] = 320 + j;
+            return k + 1;
+        }
+        return k;
+    }
+    let mut r = k;
+    let mut last = first;
+    let mut b = next_in(mask, adopters, at, first + 1, n);
+    while b < n {
+        r = list_gap(mask, c, n_sets, j, counts, last, b, phi, lets, list, r);
+        last = b;
+        b = next_in(mask, adopters, at, b + 1, n);
+    }
+    list_gap(mask, c, n_sets, j, counts, last, first, phi, lets, list, r)
+}
+
+// The arcs of a set's outline, listed from the first place on; how many there are. Of a single: its full circle, whatever meets it.
+pub(crate) fn walk(
+    mask: usize,
+    c: &[f64; 30],
+    n_sets: usize,
+    counts: &[usize; 10],
+    owners: &[usize; 10],
+    phi: &[f64; 320],
+    adopters: &[usize; 320],
+    lets: &[usize; 320],
+    list: &mut [usize; 320],
+) -> usize
+    requires { ⌜ («n_sets» ≤ 10) × ((mask < 2 ^ «n_sets») × (length (now list) ≡ 320)) ⌝ }
+    requires { ⌜ Ready (circlesIn (now c) «n_sets») mask (now counts) (now owners) (now phi) (now lets) ⌝ }
+    ensures { λ r. ⌜ r ≤ 320 ⌝ }
+    ensures { λ r. ⌜ Listing (circlesIn (now (c .entry)) «n_sets») (now (counts .entry)) (now (phi .entry)) «n_sets» mask (arcsBy (circlesIn (now (c .entry)) «n_sets») (marksIn (now (counts .entry)) (now (phi .entry)) (now (adopters .entry))) mask) r (now (list .exit)) ⌝ }
+{
+    if usize::count_ones(mask) == 1 {
+        list[0] = 320 + usize::trailing_zeros(mask) as usize;
+        return 1;
+    }
+    let mut r: usize = 0;
+    let mut j: usize = 0;
+    while j < n_sets {
+        if mask >> j & 1 == 1 {
+            r = list_head(
+                mask,
+                c,
+                n_sets,
+                j,
+                counts,
+                owners,
+                phi,
+                adopters,
+                lets,
+                list,
+                r,
+            );
+        }
+        j += 1;
+    }
+    r
 }

@@ -60,12 +60,11 @@ returns c =
     let s = t .before .before .before in
     let a = s .args in
     let cs = circlesIn (a .c .now) (a .n-sets) in
-    let p = s .pre in
-    (
+    let p = s .pre in (
       omega arith,
       neighbour-listed cs (a .counts .now) (a .phi .now) (a .n-sets) (a .mask) (a .j) (a .a) (a .b) (map (arcAt cs (a .counts .now) (a .phi .now)) (take (a .k) (a .list .now))) (a .k) (a .list .now)
-    (p .0 .0) (p .0 .1 .0) (p .0 .1 .1 .1) (p .1 .0 .0) (p .1 .0 .1 .0) (p .1 .0 .1 .1) (p .1 .1 .1 .1)
-    (getD (a .lets .now) (a .j * 32 + a .a) 0) (rw (circles-many (a .c .now) (a .n-sets)) (p .0 .1 .1 .0)) (t .if1 .taken ∙ t .before .next .ensures) (p .1 .1 .0) (c .if2 .taken) (p .1 .1 .1 .0),
+          (p .0 .0) (p .0 .1 .0) (p .0 .1 .1 .1) (p .1 .0 .0) (p .1 .0 .1 .0) (p .1 .0 .1 .1) (p .1 .1 .1 .1)
+          (getD (a .lets .now) (a .j * 32 + a .a) 0) (rw (circles-many (a .c .now) (a .n-sets)) (p .0 .1 .1 .0)) (t .if1 .taken ∙ t .before .next .ensures) (p .1 .1 .0) (c .if2 .taken) (p .1 .1 .1 .0),
     )
 
 -- src/walk.rt:125:9
@@ -75,12 +74,11 @@ returns-2 c =
     let s = t .before .before .before in
     let a = s .args in
     let cs = circlesIn (a .c .now) (a .n-sets) in
-    let p = s .pre in
-    (
+    let p = s .pre in (
       omega arith,
       neighbour-left cs (a .counts .now) (a .phi .now) (a .n-sets) (a .mask) (a .j) (a .a) (a .b) (map (arcAt cs (a .counts .now) (a .phi .now)) (take (a .k) (a .list .now))) (a .k) (a .list .now)
-    (p .0 .0) (p .0 .1 .0) (p .0 .1 .1 .1) (p .1 .0 .0) (p .1 .0 .1 .0) (p .1 .0 .1 .1) (p .1 .1 .1 .1)
-    (getD (a .lets .now) (a .j * 32 + a .a) 0) (rw (circles-many (a .c .now) (a .n-sets)) (p .0 .1 .1 .0)) (t .if1 .taken ∙ t .before .next .ensures) (p .1 .1 .0) (c .if2 .left),
+          (p .0 .0) (p .0 .1 .0) (p .0 .1 .1 .1) (p .1 .0 .0) (p .1 .0 .1 .0) (p .1 .0 .1 .1) (p .1 .1 .1 .1)
+          (getD (a .lets .now) (a .j * 32 + a .a) 0) (rw (circles-many (a .c .now) (a .n-sets)) (p .0 .1 .1 .0)) (t .if1 .taken ∙ t .before .next .ensures) (p .1 .1 .0) (c .if2 .left),
     )
 
 -- src/walk.rt:127:14
@@ -141,11 +139,10 @@ returns-3 c =
     let s = c .before .before .before .before .before .before .before in
     let a = s .args in
     let cs = circlesIn (a .c .now) (a .n-sets) in
-    let p = s .pre in
-    (
+    let p = s .pre in (
       omega arith,
       other-listed cs (a .counts .now) (a .phi .now) (a .n-sets) (a .mask) (a .j) (a .a) (a .b) (map (arcAt cs (a .counts .now) (a .phi .now)) (take (a .k) (a .list .now))) (a .k) (a .list .now)
-    (p .0 .0) (p .0 .1 .0) (p .0 .1 .1 .1) (p .1 .0 .0) (p .1 .0 .1 .0) (p .1 .0 .1 .1) (p .1 .1 .1 .1) (sym (c .before .is-arc .ensures) ∙ c .if3 .taken) (p .1 .1 .1 .0),
+          (p .0 .0) (p .0 .1 .0) (p .0 .1 .1 .1) (p .1 .0 .0) (p .1 .0 .1 .0) (p .1 .0 .1 .1) (p .1 .1 .1 .1) (sym (c .before .is-arc .ensures) ∙ c .if3 .taken) (p .1 .1 .1 .0),
     )
 
 -- src/walk.rt:99:1
@@ -154,11 +151,10 @@ returns-4 c =
     let s = c .before .before .before .before .before .before .before in
     let a = s .args in
     let cs = circlesIn (a .c .now) (a .n-sets) in
-    let p = s .pre in
-    (
+    let p = s .pre in (
       omega arith,
       other-left cs (a .counts .now) (a .phi .now) (a .n-sets) (a .mask) (a .j) (a .a) (a .b) (map (arcAt cs (a .counts .now) (a .phi .now)) (take (a .k) (a .list .now))) (a .k) (a .list .now)
-    (p .0 .0) (p .0 .1 .0) (p .0 .1 .1 .1) (p .1 .0 .0) (p .1 .0 .1 .0) (p .1 .0 .1 .1) (p .1 .1 .1 .1) (sym (c .before .is-arc .ensures) ∙ c .if3 .left),
+          (p .0 .0) (p .0 .1 .0) (p .0 .1 .1 .1) (p .1 .0 .0) (p .1 .0 .1 .0) (p .1 .0 .1 .1) (p .1 .1 .1 .1) (sym (c .before .is-arc .ensures) ∙ c .if3 .left),
     )
 
 pub list-gap-spec : {M : Type 1} → statement M
