@@ -29,8 +29,9 @@ use Rattle.outline.proofs.Walking.{circles-of-members, members-many}
 use Rattle.clip.specs.Area.{emptyBox, addClippedArc, addClippedArcs, addEdges, clippedAreaOf, clippedArea}
 use Rattle.clip.proofs.Naming.{Below, outline-named}
 use Rattle.clip.proofs.Summing.{arcs-sum, clipped-sum}
-use Rattle.sums.specs.Walk.{circleIn, circlesIn, nextPlace, gapArc, arcAt, Angled, Placed, Listing}
-use Rattle.sums.specs.Values.{headOf, Readable, termX, termY, termR, termOf, addOne, addThree, Roomy, standing, Valued, Known}
+use Rattle.sums.specs.Walk.{circleIn, circlesIn, marksIn, Few, arcsBy, nextPlace, gapArc, arcAt, Angled, Placed, Listing, Marked}
+use Rattle.sums.proofs.Members.{marksOf, arcs-are, arcs-same}
+use Rattle.sums.specs.Values.{headOf, Readable, termX, termY, termR, termOf, addOne, Roomy, standing, Valued, Known, addTerms, TermsValued, TermsKnown}
 use Rattle.sums.proofs.Walking.{circle-of}
 
 -- ---- the arc of a number
@@ -141,11 +142,23 @@ standing-past needed counts p h none q l u =
 
 -- ---- the arcs of a set are known
 
+-- every arc of a set is one of a head of the set
+head-placed : (n S : ℕ) (counts : List ℕ) (p : ℕ) → Placed n S counts p → headOf p < n
+head-placed n S counts p placed = by (ltb p 320) (ltb p 330) refl refl
+  where
+    by : (s t : Bool) → ltb p 320 ≡ s → ltb p 330 ≡ t → headOf p < n
+    by true t e e' = let h = ltb-true p 320 e in rw (head-near p h) (placed .neighbours h .below)
+    by false true e e' = let h = ltb-false p 320 e in let k = ltb-true p 330 e' in rw (head-whole p h k) (placed .whole h k .0)
+    by false false e e' = let h = ltb-false p 330 e' in rw (head-far p h) (placed .start h .below)
+
+pub heads-placed : (n S : ℕ) (counts : List ℕ) (list : List ℕ) → Every (Placed n S counts) list → Every (λ p. headOf p < n) list
+heads-placed n S counts list placed = every-map list (head-placed n S counts) placed
+
 module _ (n S : ℕ) (counts : List ℕ) (most : n ≤ 10) (roomy : Roomy n S counts) (f : ℕ → Float) (value : List Float) (valued : Valued S counts f value) where
   placed-known : (p : ℕ) → Placed n S counts p → Known n counts f value p
   placed-known p placed =
       record {
-        below = by (ltb p 320) (ltb p 330) refl refl;
+        below = head-placed n S counts p placed;
         readable =
             record {
               next = λ h. placed .neighbours h .held;
@@ -155,11 +168,6 @@ module _ (n S : ℕ) (counts : List ℕ) (most : n ≤ 10) (roomy : Roomy n S co
         held = λ h. valued .here p h (is (ltb p 320) refl h);
       }
     where
-      by : (s t : Bool) → ltb p 320 ≡ s → ltb p 330 ≡ t → headOf p < n
-      by true t e e' = let h = ltb-true p 320 e in rw (head-near p h) (placed .neighbours h .below)
-      by false true e e' = let h = ltb-false p 320 e in let k = ltb-true p 330 e' in rw (head-whole p h k) (placed .whole h k .0)
-      by false false e e' = let h = ltb-false p 330 e' in rw (head-far p h) (placed .start h .below)
-
       is : (s : Bool) → ltb p 320 ≡ s → p < 330 → standing S counts p ≡ true
       is true e k =
           let h = ltb-true p 320 e in
@@ -168,6 +176,16 @@ module _ (n S : ℕ) (counts : List ℕ) (most : n ≤ 10) (roomy : Roomy n S co
 
   pub all-known : (list : List ℕ) → Every (Placed n S counts) list → Every (Known n counts f value) list
   all-known list placed = every-map list placed-known placed
+
+-- the three terms of them
+pub terms-known : (n S : ℕ) (circles : List Circle) (counts : List ℕ) (phi xs ys rs : List Float) → n ≤ 10 → Roomy n S counts → TermsValued S circles counts phi xs ys rs
+    → (list : List ℕ) → Every (Placed n S counts) list → Every (TermsKnown n circles counts phi xs ys rs) list
+terms-known n S circles counts phi xs ys rs most roomy held list placed =
+    every-map list (λ p h. record {
+      x = placed-known n S counts most roomy (termOf termX circles counts phi) xs (held .x) p h;
+      y = placed-known n S counts most roomy (termOf termY circles counts phi) ys (held .y) p h;
+      r = placed-known n S counts most roomy (termOf termR circles counts phi) rs (held .r) p h;
+    }) placed
 
 -- fewer heads are asked for
 pub valued-less : {needed : ℕ} {counts : List ℕ} {f : ℕ → Float} {value : List Float} (S : ℕ) → Subset S needed → Valued needed counts f value → Valued S counts f value
@@ -181,6 +199,10 @@ valued-less {needed = needed} {counts = counts} S within held = record { here = 
     by p false e i =
         let h = ltb-false p 320 e in
         standing-whole needed counts p h ∙ subset-head S needed within (p - 320) (sym (standing-whole S counts p h) ∙ i)
+
+pub terms-less : {needed : ℕ} {circles : List Circle} {counts : List ℕ} {phi xs ys rs : List Float} (S : ℕ) → Subset S needed
+    → TermsValued needed circles counts phi xs ys rs → TermsValued S circles counts phi xs ys rs
+terms-less S within held = record { x = valued-less S within (held .x); y = valued-less S within (held .y); r = valued-less S within (held .r) }
 
 pub roomy-less : (n needed : ℕ) (counts : List ℕ) (S : ℕ) → Subset S needed → Roomy n needed counts → Roomy n S counts
 roomy-less n needed counts S within roomy j h i = roomy j h (subset-head S needed within j i)
@@ -202,6 +224,17 @@ module _ (circles : List Circle) (counts : List ℕ) (phi : List Float) where
     sum-in-box l h =
         fold-related _≡_ (λ p. headOf p < length circles) (arcAt circles counts phi) (addOne (termOf (clippedArcIntegral box) circles counts phi))
         (addClippedArc box circles) (λ a b p k e. rw e (add-in-box b p k)) l h zero64 zero64 refl
+
+  -- without a box
+  add-open : (total : Float) (p : ℕ) → headOf p < length circles → addTerms circles counts phi total p ≡ addArc circles total (arcAt circles counts phi p)
+  unfolding addArc arcTerms termOf termX termY termR
+  add-open total p h = rw (arc-head circles counts phi p, lt-ltb (headOf p) (length circles) h)
+
+  pub sum-open : (l : List ℕ) → Every (λ p. headOf p < length circles) l
+      → foldl (addTerms circles counts phi) zero64 l ≡ addArcs circles zero64 (arcs l)
+  sum-open l h =
+      fold-related _≡_ (λ p. headOf p < length circles) (arcAt circles counts phi) (addTerms circles counts phi)
+      (addArc circles) (λ a b p k e. rw e (add-open b p k)) l h zero64 zero64 refl
 
 -- ---- the area of a set
 
@@ -230,7 +263,29 @@ module _ (circles : List Circle) (points : List IntersectionPoint) (S : ℕ) (co
         sym ee,
       )
 
+  pub area-open : {sum : Float} → sum ≡ foldl (addTerms circles counts phi) zero64 (take k list)
+      → half64 *ᶠ sum ≡ openArea (membersOf circles points S)
+  unfolding areaOf openArea
+  area-open es =
+      rw (
+        circles-of-members circles points S,
+        arcs-sum circles heads (heads-below (length circles) S) (outline (membersOf circles points S)) named zero64,
+        sym said,
+        sym (sum-open circles counts phi (take k list) below),
+        sym es,
+      )
+
 pub area-of-none : (box : Bounds) (circles : List Circle) (points : List IntersectionPoint) (S : ℕ) → emptyBox box ≡ true
     → zero64 ≡ clippedArea box (membersOf circles points S)
 unfolding clippedAreaOf clippedArea
 area-of-none box circles points S e = rw e
+
+-- ---- the arcs that the walk round a set lists
+
+module _ (circles : List Circle) (points : List IntersectionPoint) (S : ℕ) (counts owners : List ℕ) (phi : List Float) (adopters lets : List ℕ)
+    (most : length circles ≤ 10) (below : S < 2 ^ length circles) (few : Few circles points) (marked : Marked circles points S counts owners phi adopters lets) where
+  pub walk-said : {k : ℕ} {list : List ℕ} → Listing circles counts phi (length circles) S (arcsBy circles (marksIn counts phi adopters) S) k list
+      → map (arcAt circles counts phi) (take k list) ≡ map (numbered (headsOf (length circles) S)) (outline (membersOf circles points S))
+  walk-said listing =
+      listing .said ∙ arcs-same circles (marksIn counts phi adopters) (marksOf circles points) S (marked .marks)
+      ∙ arcs-are circles points S below few (omega arith)

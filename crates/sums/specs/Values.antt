@@ -70,3 +70,18 @@ pub record Known (n : ℕ) (counts : List ℕ) (f : ℕ → Float) (value : List
   pub below : headOf p < n
   pub readable : Readable counts p
   pub held : p < 330 → getD value p nan ≡ f p
+
+-- ---- the three terms together
+
+abbrev pub addTerms : List Circle → List ℕ → List Float → Float → ℕ → Float
+addTerms circles counts phi = addThree (termOf termX circles counts phi) (termOf termY circles counts phi) (termOf termR circles counts phi)
+
+pub record TermsValued (needed : ℕ) (circles : List Circle) (counts : List ℕ) (phi xs ys rs : List Float) : Type 0 where
+  pub x : Valued needed counts (termOf termX circles counts phi) xs
+  pub y : Valued needed counts (termOf termY circles counts phi) ys
+  pub r : Valued needed counts (termOf termR circles counts phi) rs
+
+pub record TermsKnown (n : ℕ) (circles : List Circle) (counts : List ℕ) (phi xs ys rs : List Float) (p : ℕ) : Type 0 where
+  pub x : Known n counts (termOf termX circles counts phi) xs p
+  pub y : Known n counts (termOf termY circles counts phi) ys p
+  pub r : Known n counts (termOf termR circles counts phi) rs p

@@ -2,5 +2,7 @@
 // area of any set from the integral of each gap and the chords of each head, worked out once too.
 mod chords;
 mod marks;
+mod row;
+mod terms;
 mod values;
 mod walk;
