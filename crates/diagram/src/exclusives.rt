@@ -30,7 +30,7 @@ fn write_exclusives(
     ensures { λ r. ⌜ now (exclusives .exit) ≡ exclusivesWritten (drawing .n) (rowsOf drawing (stands (now (sets .entry)))) (now (exclusives .entry)) ⌝ }
 {
     let n = drawing.n;
-    write_rows(drawing, sets, 1usize << n, presence, exclusives);
+    write_rows(drawing, sets, presence, exclusives);
     to_exclusive_areas_in_place(presence, exclusives, n);
 }
 

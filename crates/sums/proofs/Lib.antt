@@ -9,3 +9,6 @@ pub mod Walking
 pub mod Spans
 pub mod Filling
 pub mod Valuing
+pub mod Counts
+pub mod Bytes
+pub mod Passes

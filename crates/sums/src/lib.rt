@@ -1,8 +1,11 @@
-// The arcs of any set's outline from what is worked out once a head: its meeting points by angle, and who lets it have each gap; and the
-// area of any set from the integral of each gap and the chords of each head, worked out once too.
+// The areas of all rows of a pass, worked out together, so that what rows share is worked out once: of each head its meeting points by angle,
+// who lets it have each gap between them, what each gap adds to a sum, and its chords with the edges of the box. And which rows of a table
+// are there.
 mod chords;
 mod marks;
+pub mod presence;
 mod row;
+pub mod rows;
 mod terms;
 mod values;
 mod walk;

@@ -16,7 +16,8 @@ use Rattle.exclusive.proofs.TableRows.{byRow, row-written}
 use Rattle.diagram.specs.declared.drawing.Drawing.{Drawing}
 use Rattle.diagram.specs.Rows.{isThere, areaAt, slopesAt}
 use Rattle.diagram.specs.Drawing.{rowsOf, slopesBy, boxAreaOf, setOnto, rowWith}
-use Rattle.diagram.proofs.Laying.{byte-own, row-own}
+use Rattle.sums.proofs.Bytes.{byte-own}
+use Rattle.diagram.proofs.Laying.{row-own}
 use borrow.Author.Needs.{needs}
 use Rattle.diagram.proofs.rows.write_rows_with_gradients.Statement.{statement}
 use Rattle.diagram.proofs.rows.write_rows_with_gradients.Tie as tie
