@@ -12,3 +12,4 @@ pub mod Valuing
 pub mod Counts
 pub mod Bytes
 pub mod Passes
+pub mod Passing

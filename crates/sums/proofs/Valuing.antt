@@ -29,10 +29,10 @@ use Rattle.outline.proofs.Walking.{circles-of-members, members-many}
 use Rattle.clip.specs.Area.{emptyBox, addClippedArc, addClippedArcs, addEdges, clippedAreaOf, clippedArea}
 use Rattle.clip.proofs.Naming.{Below, outline-named}
 use Rattle.clip.proofs.Summing.{arcs-sum, clipped-sum}
-use Rattle.sums.specs.Walk.{circleIn, circlesIn, marksIn, Few, arcsBy, nextPlace, gapArc, arcAt, Angled, Placed, Listing, Marked}
+use Rattle.sums.specs.Walk.{circleIn, circlesIn, marksIn, Few, arcsBy, nextPlace, gapArc, arcAt, Angled, Placed, Listing, Ready}
 use Rattle.sums.proofs.Members.{marksOf, arcs-are, arcs-same}
-use Rattle.sums.specs.Values.{headOf, Readable, termX, termY, termR, termOf, addOne, Roomy, standing, Valued, Known, addTerms, TermsValued, TermsKnown}
-use Rattle.sums.proofs.Walking.{circle-of}
+use Rattle.sums.specs.Values.{headOf, Readable, termX, termY, termR, termOf, addOne, Roomy, standing, Valued, Known, addTerms, TermsValued, TermsKnown, MarksOf}
+use Rattle.sums.proofs.Walking.{circles-many, circle-of}
 
 -- ---- the arc of a number
 
@@ -174,18 +174,19 @@ module _ (n S : ℕ) (counts : List ℕ) (most : n ≤ 10) (roomy : Roomy n S co
           standing-near S counts p h ∙ rw (placed .neighbours h .member, lt-ltb (p % 32) (getD counts (p / 32) 0) (placed .neighbours h .held))
       is false e k = let h = ltb-false p 320 e in standing-whole S counts p h ∙ placed .whole h k .1
 
-  pub all-known : (list : List ℕ) → Every (Placed n S counts) list → Every (Known n counts f value) list
-  all-known list placed = every-map list placed-known placed
+  pub all-known : {circles : List Circle} {phi : List Float} {arcs : List BoundaryArc} {k : ℕ} {list : List ℕ} → Listing circles counts phi n S arcs k list
+      → Every (Known n counts f value) (take k list)
+  all-known {k = k} {list = list} listing = every-map (take k list) placed-known (listing .placed)
 
 -- the three terms of them
 pub terms-known : (n S : ℕ) (circles : List Circle) (counts : List ℕ) (phi xs ys rs : List Float) → n ≤ 10 → Roomy n S counts → TermsValued S circles counts phi xs ys rs
-    → (list : List ℕ) → Every (Placed n S counts) list → Every (TermsKnown n circles counts phi xs ys rs) list
-terms-known n S circles counts phi xs ys rs most roomy held list placed =
-    every-map list (λ p h. record {
+    → {arcs : List BoundaryArc} {k : ℕ} {list : List ℕ} → Listing circles counts phi n S arcs k list → Every (TermsKnown n circles counts phi xs ys rs) (take k list)
+terms-known n S circles counts phi xs ys rs most roomy held {k = k} {list = list} listing =
+    every-map (take k list) (λ p h. record {
       x = placed-known n S counts most roomy (termOf termX circles counts phi) xs (held .x) p h;
       y = placed-known n S counts most roomy (termOf termY circles counts phi) ys (held .y) p h;
       r = placed-known n S counts most roomy (termOf termR circles counts phi) rs (held .r) p h;
-    }) placed
+    }) (listing .placed)
 
 -- fewer heads are asked for
 pub valued-less : {needed : ℕ} {counts : List ℕ} {f : ℕ → Float} {value : List Float} (S : ℕ) → Subset S needed → Valued needed counts f value → Valued S counts f value
@@ -280,12 +281,31 @@ pub area-of-none : (box : Bounds) (circles : List Circle) (points : List Interse
 unfolding clippedAreaOf clippedArea
 area-of-none box circles points S e = rw e
 
--- ---- the arcs that the walk round a set lists
+-- ---- the area of a set whose arcs the walk has listed
 
-module _ (circles : List Circle) (points : List IntersectionPoint) (S : ℕ) (counts owners : List ℕ) (phi : List Float) (adopters lets : List ℕ)
-    (most : length circles ≤ 10) (below : S < 2 ^ length circles) (few : Few circles points) (marked : Marked circles points S counts owners phi adopters lets) where
-  pub walk-said : {k : ℕ} {list : List ℕ} → Listing circles counts phi (length circles) S (arcsBy circles (marksIn counts phi adopters) S) k list
-      → map (arcAt circles counts phi) (take k list) ≡ map (numbered (headsOf (length circles) S)) (outline (membersOf circles points S))
-  walk-said listing =
-      listing .said ∙ arcs-same circles (marksIn counts phi adopters) (marksOf circles points) S (marked .marks)
-      ∙ arcs-are circles points S below few (omega arith)
+-- the arrays are ready for the heads of S, so the angles of these have places
+pub ready-roomy : (c : List Float) (n S : ℕ) (counts owners : List ℕ) (phi : List Float) (lets : List ℕ) → Ready (circlesIn c n) S counts owners phi lets → Roomy n S counts
+ready-roomy c n S counts owners phi lets ready j h i = ready j (rw (circles-many c n) h) i .few
+
+module _ (c : List Float) (n : ℕ) (points : List IntersectionPoint) (S : ℕ) (counts : List ℕ) (phi : List Float) (adopters : List ℕ)
+    (most : n ≤ 10) (below : S < 2 ^ n) (few : Few (circlesIn c n) points) (marks : MarksOf (circlesIn c n) points S counts phi adopters) {k : ℕ} {list : List ℕ}
+    (listing : Listing (circlesIn c n) counts phi n S (arcsBy (circlesIn c n) (marksIn counts phi adopters) S) k list) where
+  abbrev cs : List Circle
+  cs = circlesIn c n
+
+  said : map (arcAt cs counts phi) (take k list) ≡ map (numbered (headsOf (length cs) S)) (outline (membersOf cs points S))
+  said =
+      listing .said ∙ arcs-same cs (marksIn counts phi adopters) (marksOf cs points) S marks
+      ∙ arcs-are cs points S (rw (circles-many c n) below) few (omega (arith, circles-many c n))
+
+  heads-in : Every (λ p. headOf p < length cs) (take k list)
+  heads-in = every-map (take k list) (λ p h. omega (arith, h, circles-many c n)) (heads-placed n S counts (take k list) (listing .placed))
+
+  pub row-in-box : (box : Bounds) {sum edges : Float} → emptyBox box ≡ false
+      → sum ≡ foldl (addOne (termOf (clippedArcIntegral box) cs counts phi)) zero64 (take k list)
+      → edges ≡ addEdges box (map (circleAt cs) (headsOf (length cs) S)) sum
+      → half64 *ᶠ edges ≡ clippedArea box (membersOf cs points S)
+  row-in-box box = area-in-box cs points S counts phi k list said heads-in box
+
+  pub row-open : {sum : Float} → sum ≡ foldl (addTerms cs counts phi) zero64 (take k list) → half64 *ᶠ sum ≡ openArea (membersOf cs points S)
+  row-open = area-open cs points S counts phi k list said heads-in

@@ -5,15 +5,17 @@ use mathlib.Core.Path.{_≡_}
 use mathlib.Core.Bool.{Bool, true, _&&_, cond}
 use mathlib.Core.List.{List}
 use lib.Dec.{ltb}
-use lib.ListN.{getD}
+use lib.ListN.{length, getD}
 use lib.Ieee.{Float, nan}
 use Rattle.masks.specs.Mask.{inSet}
 use Rattle.elementary.specs.Sine.{sine as sin, cosine as cos}
 use Rattle.binary64.specs.Floats.{_+ᶠ_, _-ᶠ_, _*ᶠ_}
 use Rattle.geometry.specs.declared.circle.Circle.{Circle}
+use Rattle.intersections.specs.declared.points.IntersectionPoint.{IntersectionPoint}
 use Rattle.intersections.specs.Members.{circleAt}
 use Rattle.boundary.specs.declared.arcs.BoundaryArc.{BoundaryArc}
-use Rattle.sums.specs.Walk.{arcAt}
+use Rattle.sums.specs.Marks.{marksAt}
+use Rattle.sums.specs.Walk.{marksIn, arcAt}
 
 -- the head of the arc of a number
 unfoldable pub headOf : ℕ → ℕ
@@ -85,3 +87,10 @@ pub record TermsKnown (n : ℕ) (circles : List Circle) (counts : List ℕ) (phi
   pub x : Known n counts (termOf termX circles counts phi) xs p
   pub y : Known n counts (termOf termY circles counts phi) ys p
   pub r : Known n counts (termOf termR circles counts phi) rs p
+
+-- ---- what a row asks of the points
+
+-- the angles and adopters of the heads of S are those of their meeting points
+abbrev pub MarksOf : List Circle → List IntersectionPoint → ℕ → List ℕ → List Float → List ℕ → Type 0
+MarksOf circles points S counts phi adopters =
+    (j : ℕ) → j < length circles → inSet S j ≡ true → marksIn counts phi adopters j ≡ marksAt (circleAt circles j) j points

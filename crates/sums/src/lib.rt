@@ -2,6 +2,7 @@
 // who lets it have each gap between them, what each gap adds to a sum, and its chords with the edges of the box. And which rows of a table
 // are there.
 mod chords;
+mod fast;
 mod marks;
 pub mod presence;
 mod row;

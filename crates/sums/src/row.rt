@@ -14,9 +14,9 @@ ghost use Rattle.intersections.specs.Members.{membersOf};
 ghost use Rattle.inside.specs.Parts.{clippedArcIntegral};
 ghost use Rattle.outline.specs.Area.{openArea};
 ghost use Rattle.clip.specs.Area.{clippedArea};
-ghost use Rattle.sums.specs.Walk.{circlesIn, Few, Ready, Marked};
+ghost use Rattle.sums.specs.Walk.{circlesIn, Few, Ready};
 ghost use Rattle.sums.specs.Chords.{Chorded};
-ghost use Rattle.sums.specs.Values.{termOf, Valued, TermsValued};
+ghost use Rattle.sums.specs.Values.{termOf, Valued, TermsValued, MarksOf};
 
 // The area of a set in the box. Its arcs are listed in `list`.
 pub(crate) fn clipped_row(
@@ -40,7 +40,7 @@ pub(crate) fn clipped_row(
     requires { ⌜ Valued mask (now counts) (termOf (clippedArcIntegral bounds) (circlesIn (now c) «n_sets») (now counts) (now phi)) (now value) ⌝ }
     requires { ⌜ Chorded bounds (circlesIn (now c) «n_sets») mask (now reach) (now low) (now high) ⌝ }
     ensures { λ r. ⌜ length (now (list .exit)) ≡ 320 ⌝ }
-    ensures { λ r. ⌜ ((points : List IntersectionPoint) → Few (circlesIn (now (c .entry)) «n_sets») points → Marked (circlesIn (now (c .entry)) «n_sets») points mask (now (counts .entry)) (now (owners .entry)) (now (phi .entry)) (now (adopters .entry)) (now (lets .entry)) → r ≡ clippedArea bounds (membersOf (circlesIn (now (c .entry)) «n_sets») points mask)) ⌝ }
+    ensures { λ r. ⌜ ((points : List IntersectionPoint) → Few (circlesIn (now (c .entry)) «n_sets») points → MarksOf (circlesIn (now (c .entry)) «n_sets») points mask (now (counts .entry)) (now (phi .entry)) (now (adopters .entry)) → r ≡ clippedArea bounds (membersOf (circlesIn (now (c .entry)) «n_sets») points mask)) ⌝ }
 {
     if empty_box(bounds) {
         return 0.0;
@@ -69,7 +69,7 @@ pub(crate) fn open_row(
     requires { ⌜ Ready (circlesIn (now c) «n_sets») mask (now counts) (now owners) (now phi) (now lets) ⌝ }
     requires { ⌜ TermsValued mask (circlesIn (now c) «n_sets») (now counts) (now phi) (now xs) (now ys) (now rs) ⌝ }
     ensures { λ r. ⌜ length (now (list .exit)) ≡ 320 ⌝ }
-    ensures { λ r. ⌜ ((points : List IntersectionPoint) → Few (circlesIn (now (c .entry)) «n_sets») points → Marked (circlesIn (now (c .entry)) «n_sets») points mask (now (counts .entry)) (now (owners .entry)) (now (phi .entry)) (now (adopters .entry)) (now (lets .entry)) → r ≡ openArea (membersOf (circlesIn (now (c .entry)) «n_sets») points mask)) ⌝ }
+    ensures { λ r. ⌜ ((points : List IntersectionPoint) → Few (circlesIn (now (c .entry)) «n_sets») points → MarksOf (circlesIn (now (c .entry)) «n_sets») points mask (now (counts .entry)) (now (phi .entry)) (now (adopters .entry)) → r ≡ openArea (membersOf (circlesIn (now (c .entry)) «n_sets») points mask)) ⌝ }
 {
     let k = walk(mask, c, n_sets, counts, owners, phi, adopters, lets, list);
     0.5 * add_terms(list, k, c, n_sets, counts, phi, xs, ys, rs)
