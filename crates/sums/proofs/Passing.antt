@@ -50,21 +50,21 @@ module _ (c : List Float) (circles : List Circle) (held : HeldTo (λ p. Unit) (�
 -- ---- the heads of the wanted rows
 
 -- the next row too
-pub wanted-next : {wanted : List ℕ} {P : ℕ → Type 0} (m : ℕ) → OfWanted wanted m P → (stands wanted m ≡ true → P m) → OfWanted wanted (m + 1) P
-wanted-next {wanted} {P} m held here S h is =
+pub wanted-next : (wanted : List ℕ) (P : ℕ → Type 0) (m : ℕ) → OfWanted wanted m P → (stands wanted m ≡ true → P m) → OfWanted wanted (m + 1) P
+wanted-next wanted P m held here S h is =
     ⊎-elim (λ (e : S ≡ m). new S e is) (λ k. held S k is) (eq-or-lt-of-le (le-of-suc-le-suc (rw (add-one m) at h)))
   where
     new : (S : ℕ) → S ≡ m → stands wanted S ≡ true → P S
     new S e is = rw e (here (rw e at is))
 
 -- its heads are added
-pub wanted-with : {wanted : List ℕ} (heads m : ℕ) → OfWanted wanted m (λ S. Subset S heads) → OfWanted wanted (m + 1) (λ S. Subset S (bitOr heads m))
-wanted-with heads m held =
-    wanted-next {P = λ S. Subset S (bitOr heads m)} m (λ S h is. subset-trans S heads (bitOr heads m) (held S h is) (or-subset-left heads m)) (λ is. or-subset-right heads m)
+pub wanted-with : (wanted : List ℕ) (heads m : ℕ) → OfWanted wanted m (λ S. Subset S heads) → OfWanted wanted (m + 1) (λ S. Subset S (bitOr heads m))
+wanted-with wanted heads m held =
+    wanted-next wanted (λ S. Subset S (bitOr heads m)) m (λ S h is. subset-trans S heads (bitOr heads m) (held S h is) (or-subset-left heads m)) (λ is. or-subset-right heads m)
 
 -- it is not wanted
-pub wanted-without : {wanted : List ℕ} (heads m : ℕ) → stands wanted m ≡ false → OfWanted wanted m (λ S. Subset S heads) → OfWanted wanted (m + 1) (λ S. Subset S heads)
-wanted-without heads m none held = wanted-next {P = λ S. Subset S heads} m held (λ is. absurd (true≢false (sym is ∙ none)))
+pub wanted-without : (wanted : List ℕ) (heads m : ℕ) → stands wanted m ≡ false → OfWanted wanted m (λ S. Subset S heads) → OfWanted wanted (m + 1) (λ S. Subset S heads)
+wanted-without wanted heads m none held = wanted-next wanted (λ S. Subset S heads) m held (λ is. absurd (true≢false (sym is ∙ none)))
 
 -- heads below n stay so
 pub or-below : (n S T : ℕ) → S < 2 ^ n → T < 2 ^ n → bitOr S T < 2 ^ n

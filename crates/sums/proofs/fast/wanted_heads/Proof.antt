@@ -44,12 +44,12 @@ loop-again c =
     ⊎-elim
     (λ w. (
       omega arith,
-      rw (w .1) (wanted-with {wanted = a .wanted .now} (l .heads) (l .mask) (l .inv .1)),
+      rw (w .1) (wanted-with (a .wanted .now) (l .heads) (l .mask) (l .inv .1)),
       λ n h. rw (w .1) (or-below n (l .heads) (l .mask) (l .inv .2 n h) (omega (arith, h))),
     ))
     (λ w. (
       omega arith,
-      rw (w .1) (wanted-without {wanted = a .wanted .now} (l .heads) (l .mask) (ne-eqb _ 1 (w .0 .left)) (l .inv .1)),
+      rw (w .1) (wanted-without (a .wanted .now) (l .heads) (l .mask) (ne-eqb _ 1 (w .0 .left)) (l .inv .1)),
       λ n h. rw (w .1) (l .inv .2 n h),
     ))
     (c .if1 .came)
