@@ -6,3 +6,4 @@ pub mod Collected
 pub mod Carrying
 pub mod Owning
 pub mod Walking
+pub mod Laying
