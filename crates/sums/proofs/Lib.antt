@@ -6,10 +6,11 @@ pub mod Collected
 pub mod Carrying
 pub mod Owning
 pub mod Walking
+pub mod Laying
 pub mod Spans
 pub mod Filling
 pub mod Valuing
+pub mod Passing
 pub mod Counts
 pub mod Bytes
 pub mod Passes
-pub mod Passing

@@ -10,9 +10,11 @@ use borrow.Author.Tests.{eqb-true, eqb-false}
 use lib.Dec.{eqb, ltb}
 use lib.Count.{ones, trailingZeros}
 use lib.ListN.{length, getD, length-append, length-map}
-use Rattle.masks.specs.Mask.{inSet, bit, size}
+use lib.Ieee.{Float}
+use Rattle.masks.specs.Mask.{inSet, bit, size, Subset}
 use Rattle.masks.specs.Operations.{one-of-in, zero-of-in}
 use Rattle.masks.specs.Size.{ones-size}
+use Rattle.masks.specs.Subset.{subset-head}
 use Rattle.lists.specs.Lists.{upTo}
 use Rattle.lists.proofs.Lists.{upTo-cong}
 use Rattle.geometry.specs.declared.circle.Circle.{Circle}
@@ -23,9 +25,8 @@ use Rattle.boundary.specs.declared.arcs.BoundaryArc.{BoundaryArc}
 use Rattle.boundary.specs.Outline.{anglesOf, arcsAt, fullCircle, outlineFrom, outline}
 use Rattle.boundary.specs.Set.{numbered}
 use Rattle.outline.proofs.Walking.{circles-of-members, members-many, outline-one, outline-other}
-use Rattle.sums.specs.declared.marks.Mark.{Mark}
-use Rattle.sums.specs.Marks.{marksAt, anglesIn}
-use Rattle.sums.specs.Walk.{rank, Few, headIn, partIn, headsIn, arcsBy}
+use Rattle.sums.specs.Marks.{Mark, marksAt, anglesIn}
+use Rattle.sums.specs.Walk.{rank, Few, marksIn, headIn, partIn, headsIn, arcsBy, Ready, Marked}
 use Rattle.sums.proofs.Sorting.{angles-in}
 use Rattle.sums.proofs.Ranks.{heads-with, heads-without}
 use Rattle.sums.proofs.Gaps.{head-numbered, numbered-whole}
@@ -173,3 +174,16 @@ unfolding arcsBy headsIn
 arcs-same circles f g S h =
     ap (cond (eqb (ones S) 1) (fullCircle (trailingZeros 64 S) (circleAt circles (trailingZeros 64 S)) ∷ []))
     (upTo-cong (partIn circles f S) (partIn circles g S) (length circles) (λ j k. part-same circles f g S j (h j k)))
+
+-- what the walk round S asks, of arrays filled for more heads
+pub ready-within : (circles : List Circle) (points : List IntersectionPoint) (needed S : ℕ) (counts owners : List ℕ) (phi : List Float) (adopters lets : List ℕ)
+    → Marked circles points needed (length circles) counts owners phi adopters lets → Subset S needed → Ready circles S counts owners phi lets
+ready-within circles points needed S counts owners phi adopters lets m sub j h i = m .ready j h (subset-head S needed sub j i)
+
+-- and the arcs that it gives are those of the outline
+pub marked-arcs : (circles : List Circle) (points : List IntersectionPoint) (needed S : ℕ) (counts owners : List ℕ) (phi : List Float) (adopters lets : List ℕ)
+    → Marked circles points needed (length circles) counts owners phi adopters lets → Subset S needed → S < 2 ^ length circles → Few circles points → length circles ≤ 64
+    → arcsBy circles (marksIn counts phi adopters) S ≡ map (numbered (headsOf (length circles) S)) (outline (membersOf circles points S))
+marked-arcs circles points needed S counts owners phi adopters lets m sub below few most =
+    arcs-same circles (marksIn counts phi adopters) (marksOf circles points) S (λ j h i. m .marks j h (subset-head S needed sub j i))
+    ∙ arcs-are circles points S below few most

@@ -36,7 +36,7 @@ pub every-suc : (p : ℕ → Bool) (n : ℕ) → every n p ≡ true → p n ≡ 
 unfolding every
 every-suc p n h e = rw (add-one n, h, e)
 
-every-fails : (p : ℕ → Bool) (n i : ℕ) → i < n → p i ≡ false → every n p ≡ false
+pub every-fails : (p : ℕ → Bool) (n i : ℕ) → i < n → p i ≡ false → every n p ≡ false
 unfolding every
 every-fails p zero i h e = absurd (omega arith)
 every-fails p (suc n) i h e =
@@ -51,7 +51,11 @@ module _ (circles : List Circle) (S j : ℕ) (p : Point) where
   unfolding ownedIn
   owned-fails l h e f = sym (every-fails (λ l. not (inSet S l) || lets j p l (circleAt circles l)) (length circles) l h (rw (e, f)))
 
--- a mask gathered from all heads
+-- a mask gathered from no head, and from all
+pub gather-start : (p : ℕ → Bool) → 0 ≡ gather 0 p
+unfolding gather
+gather-start p = refl
+
 pub letters-are : (circles : List Circle) (j : ℕ) (p : Point) (l mask : ℕ) → length circles ≡ l → mask ≡ gather l (λ i. lets j p i (circleAt circles i))
     → mask ≡ letters circles j p
 unfolding letters

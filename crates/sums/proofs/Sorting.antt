@@ -20,8 +20,7 @@ use Rattle.boundary.specs.Outline.{angleAbout}
 use Rattle.intersections.specs.Members.{countedFor, pointsFor, pointsHeld}
 use Rattle.elementary.proofs.arctangent.Promise.{atan2-promise}
 use Rattle.lists.proofs.Lists.{keep-length}
-use Rattle.sums.specs.declared.marks.Mark.{Mark}
-use Rattle.sums.specs.Marks.{insertMark, sortMarksOnto, sortMarks, hasParent, markOf, marksAt, adoptedBy, anglesIn}
+use Rattle.sums.specs.Marks.{Mark, insertMark, sortMarksOnto, sortMarks, hasParent, markOf, marksAt, adoptedBy, anglesIn}
 
 -- an angle about a centre is finite, whatever the circle and the point
 pub angle-finite : (c : Circle) (q : IntersectionPoint) → Finite (angleAbout c (q .point))

@@ -28,8 +28,7 @@ use Rattle.intersections.specs.Members.{noCircle, circleAt}
 use Rattle.boundary.specs.declared.arcs.BoundaryArc.{BoundaryArc}
 use Rattle.boundary.specs.Outline.{gap, between, fullCircle, probe}
 use Rattle.boundary.proofs.Gaps.{next-below}
-use Rattle.sums.specs.declared.marks.Mark.{Mark}
-use Rattle.sums.specs.Marks.{mark, noMark, marksFrom, adoptedBy, anglesIn}
+use Rattle.sums.specs.Marks.{Mark, mark, noMark, marksFrom, adoptedBy, anglesIn}
 use Rattle.sums.specs.Walk.{circleIn, circlesIn, letters, ownedIn, gapLetters, isArc, gapIn, wholeIn, gapsIn, headIn, partIn, headsIn, arcsBy}
 use Rattle.sums.specs.Walk.{marksIn, NextIn, nextPlace, gapArc, arcAt, arcsOf, Angled, Placed, Listing}
 use Rattle.sums.proofs.Ranks.{lt-or-eq, owned-by-mask}

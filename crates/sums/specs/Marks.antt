@@ -1,10 +1,10 @@
 -- The meeting points of a head, each by its angle and its adopters, in order of the angle.
-use Prim.Native.Nat.{ℕ, suc, _+_}
+use Prim.Native.Nat.{ℕ, _+_}
 use mathlib.Core.Bool.{Bool, _||_, cond}
 use mathlib.Core.List.{List, [], _∷_, map}
 use lib.Dec.{eqb}
 use lib.Ieee.{Float, nan}
-use lib.ListN.{getD, take}
+use lib.ListN.{getD}
 use Rattle.masks.specs.Mask.{subset}
 use Rattle.lists.specs.Lists.{keep}
 use Rattle.lists.specs.Written.{tab}
@@ -12,20 +12,18 @@ use Rattle.binary64.specs.Floats.{_<ᶠ_}
 use Rattle.geometry.specs.declared.circle.Circle.{Circle}
 use Rattle.intersections.specs.declared.points.IntersectionPoint.{IntersectionPoint}
 use Rattle.boundary.specs.Outline.{angleAbout}
-use Rattle.sums.specs.declared.marks.Mark.{Mark}
-use Rattle.sums.specs.declared.marks.Marks.{Marks}
 
--- an angle, and the adopters of the point there
+-- the angle of a meeting point, and its adopters
+pub record Mark : Type 0 where
+  pub phi : Float
+  pub adopters : ℕ
+
 abbrev pub mark : Float → ℕ → Mark
 mark phi adopters = record { phi = phi; adopters = adopters }
 
 -- what stands for a mark that a list does not have
 abbrev pub noMark : Mark
 noMark = mark nan 0
-
--- the first n of a list of marks
-abbrev pub markList : Marks → List Mark
-markList l = take (l .n) (l .all)
 
 -- the marks that two arrays hold, from a place on
 unfoldable pub marksFrom : List Float → List ℕ → ℕ → ℕ → List Mark
@@ -54,7 +52,7 @@ hasParent j q = eqb (q .first) j || eqb (q .second) j
 -- a point as its angle about a circle, and its adopters
 unfoldable pub markOf : Circle → IntersectionPoint → Mark
 unfolding angleAbout
-markOf c q = record { phi = angleAbout c (q .point); adopters = q .adopters }
+markOf c q = mark (angleAbout c (q .point)) (q .adopters)
 
 -- all meeting points of head j, by angle
 unfoldable pub marksAt : Circle → ℕ → List IntersectionPoint → List Mark
@@ -69,8 +67,3 @@ adoptedBy S m = subset 64 S (m .adopters)
 unfoldable pub anglesIn : ℕ → List Mark → List Float
 unfolding keep adoptedBy
 anglesIn S l = map (λ m. m .phi) (keep (adoptedBy S) l)
-
--- how many stand before the first of an angle greater than x
-unfoldable pub placeMark : Float → List Mark → ℕ
-placeMark x [] = 0
-placeMark x (y ∷ ys) = cond (x <ᶠ y .phi) 0 (suc (placeMark x ys))

@@ -19,8 +19,7 @@ use Rattle.intersections.specs.declared.points.IntersectionPoint.{IntersectionP
 use Rattle.intersections.specs.Members.{headsOf, circleAt, pointsHeld}
 use Rattle.boundary.specs.declared.arcs.BoundaryArc.{BoundaryArc}
 use Rattle.boundary.specs.Outline.{lets, gap, collapsed, pointAt, probe, between, fullCircle}
-use Rattle.sums.specs.declared.marks.Mark.{Mark}
-use Rattle.sums.specs.Marks.{marksFrom, hasParent, marksAt, anglesIn}
+use Rattle.sums.specs.Marks.{Mark, marksFrom, hasParent, marksAt, anglesIn}
 
 -- ---- circles and marks, as arrays hold them
 
@@ -40,6 +39,11 @@ marksIn counts phi adopters j = marksFrom phi adopters (j * 32) (getD counts j 0
 -- No head has more points than there are places.
 abbrev pub Few : List Circle → List IntersectionPoint → Type 0
 Few circles points = (j : ℕ) → j < length circles → length (keep (hasParent j) points) ≤ pointsHeld
+
+-- the same as a test of the heads below n
+unfoldable pub fewPoints : ℕ → List IntersectionPoint → Bool
+unfolding every keep hasParent
+fewPoints n points = every n (λ j. not (ltb pointsHeld (length (keep (hasParent j) points))))
 
 -- ---- who lets a head have a point
 
@@ -180,7 +184,8 @@ pub record HeadReady (circles : List Circle) (counts owners : List ℕ) (phi : L
 abbrev pub Ready : List Circle → ℕ → List ℕ → List ℕ → List Float → List ℕ → Type 0
 Ready circles S counts owners phi lets = (j : ℕ) → j < length circles → inSet S j ≡ true → HeadReady circles counts owners phi lets j
 
--- They are ready for every head of `needed`, and the angles and adopters are those of its meeting points.
-pub record Marked (circles : List Circle) (points : List IntersectionPoint) (needed : ℕ) (counts owners : List ℕ) (phi : List Float) (adopters lets : List ℕ) : Type 0 where
-  pub ready : Ready circles needed counts owners phi lets
-  pub marks : (j : ℕ) → j < length circles → inSet needed j ≡ true → marksIn counts phi adopters j ≡ marksAt (circleAt circles j) j points
+-- The arrays of the heads below n: ready for every head of `needed`, with the angles and adopters of its meeting points; the others have none.
+pub record Marked (circles : List Circle) (points : List IntersectionPoint) (needed n : ℕ) (counts owners : List ℕ) (phi : List Float) (adopters lets : List ℕ) : Type 0 where
+  pub ready : (j : ℕ) → j < n → inSet needed j ≡ true → HeadReady circles counts owners phi lets j
+  pub marks : (j : ℕ) → j < n → inSet needed j ≡ true → marksIn counts phi adopters j ≡ marksAt (circleAt circles j) j points
+  pub left : (j : ℕ) → j < n → inSet needed j ≡ false → getD counts j 0 ≡ 0

@@ -1,11 +1,14 @@
 // All wanted rows of a pass from what is worked out once a head. Rests on specs/Fast.antt.
 use crate::chords::fill_chords;
+use crate::fill::fill_heads;
 use crate::row::clipped_row;
 use crate::row::open_row;
+use crate::rows::row_count;
 use crate::terms::fill_terms;
 use crate::values::fill_integrals;
 use geometry::bounds::Bounds;
 use geometry::circle::Circle;
+use intersections::points::Intersections;
 ghost use mathlib.Core.Path.{_≡_};
 ghost use mathlib.Core.List.{List};
 ghost use Prim.Native.Nat.{ℕ, _^_, _<_, _≤_};
@@ -14,9 +17,10 @@ ghost use Rattle.lists.specs.Written.{written};
 ghost use Rattle.masks.specs.Mask.{Subset};
 ghost use Rattle.masks.specs.Presence.{stands};
 ghost use Rattle.intersections.specs.declared.points.IntersectionPoint.{IntersectionPoint};
+ghost use Rattle.intersections.specs.Counted.{pointList};
 ghost use Rattle.intersections.specs.Members.{membersOf};
-ghost use Rattle.sums.specs.Rows.{areaOf, numberAt};
-ghost use Rattle.sums.specs.Walk.{circlesIn, Few};
+ghost use Rattle.sums.specs.Rows.{areaOf, numberAt, areasWritten};
+ghost use Rattle.sums.specs.Walk.{circlesIn, Few, Ready};
 ghost use Rattle.sums.specs.Values.{Roomy, MarksOf};
 ghost use Rattle.sums.specs.Fast.{numberOf, OfWanted, Worth, RowReady};
 
@@ -191,4 +195,73 @@ fn write_rows(
         }
         mask += 1;
     }
+}
+
+// The same, where the arrays of marks are filled for the heads of all these sets.
+fn write_marked(
+    clipped: bool,
+    wanted: &[u8; 1024],
+    count: usize,
+    areas: &mut [f64],
+    circles: [Circle; 10],
+    c: &[f64; 30],
+    n_sets: usize,
+    bounds: Bounds,
+    needed: usize,
+    counts: &[usize; 10],
+    owners: &[usize; 10],
+    phi: &[f64; 320],
+    adopters: &[usize; 320],
+    lets: &[usize; 320],
+)
+    requires { ⌜ («n_sets» ≤ 10) × ((count ≤ 2 ^ «n_sets») × (count ≤ length (now areas))) ⌝ }
+    requires { ⌜ (needed < 2 ^ «n_sets») × (OfWanted (now wanted) count (λ S. Subset S needed) × (circlesIn (now c) «n_sets» ≡ take «n_sets» circles)) ⌝ }
+    requires { ⌜ Ready (circlesIn (now c) «n_sets») needed (now counts) (now owners) (now phi) (now lets) ⌝ }
+    ensures { λ r. ⌜ ((points : List IntersectionPoint) → Few (circlesIn (now (c .entry)) «n_sets») points → MarksOf (circlesIn (now (c .entry)) «n_sets») points needed (now (counts .entry)) (now (phi .entry)) (now (adopters .entry)) → now (areas .exit) ≡ written (numberAt (stands (now (wanted .entry))) (λ S. areaOf clipped bounds (membersOf (circlesIn (now (c .entry)) «n_sets») points S)) (now (areas .entry))) count (now (areas .entry))) ⌝ }
+{
+    let mut xs = [0.0f64; 330];
+    let mut ys = [0.0f64; 330];
+    let mut rs = [0.0f64; 330];
+    let mut reach = [0usize; 4];
+    let mut low = [0.0f64; 40];
+    let mut high = [0.0f64; 40];
+    fill_worth(
+        clipped, circles, c, n_sets, bounds, needed, counts, phi, &mut xs, &mut ys, &mut rs, &mut reach, &mut low, &mut high,
+    );
+    write_rows(
+        clipped, wanted, count, areas, c, n_sets, bounds, counts, owners, phi, adopters, lets, &xs, &ys, &rs, &reach, &low, &high,
+    );
+}
+
+// The areas of the sets whose byte in `wanted` is 1, where no head has more points than there are places.
+pub(crate) fn write_fast(
+    clipped: bool,
+    circles: [Circle; 10],
+    points: Intersections,
+    n_sets: usize,
+    bounds: Bounds,
+    wanted: &[u8; 1024],
+    areas: &mut [f64],
+)
+    requires { ⌜ («n_sets» ≤ 10) × Few (take «n_sets» circles) (pointList points) ⌝ }
+    ensures { λ r. ⌜
+        now (areas .exit)
+        ≡ areasWritten «n_sets» (stands (now (wanted .entry)))
+        (λ S. areaOf clipped bounds (membersOf (take «n_sets» circles) (pointList points) S)) (now (areas .entry))
+        ⌝ }
+{
+    let c = numbers_of(circles, n_sets);
+    let count = row_count(n_sets, areas.len());
+    let needed = wanted_heads(wanted, count);
+    let mut counts = [0usize; 10];
+    let mut owners = [0usize; 10];
+    let mut phi = [0.0f64; 320];
+    let mut adopters = [0usize; 320];
+    let mut lets = [0usize; 320];
+    fill_heads(
+        &c, n_sets, points, needed, &mut counts, &mut owners, &mut phi, &mut adopters, &mut lets,
+    );
+    write_marked(
+        clipped, wanted, count, areas, circles, &c, n_sets, bounds, needed, &counts, &owners, &phi, &adopters, &lets,
+    );
 }

@@ -3,7 +3,7 @@
 // are there.
 mod chords;
 mod fast;
-mod marks;
+mod fill;
 pub mod presence;
 mod row;
 pub mod rows;
