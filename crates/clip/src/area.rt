@@ -24,7 +24,7 @@ ghost use Rattle.inside.specs.Span.{spans};
 ghost use Rattle.clip.specs.Area.{emptyBox, addClippedArc, addClippedArcs, addSpan, addEdges, clippedAreaOf, clippedArea};
 
 // Whether the box has no inside.
-pub(crate) fn empty_box(bounds: Bounds) -> bool
+pub fn empty_box(bounds: Bounds) -> bool
     ensures { λ r. ⌜ r ≡ emptyBox bounds ⌝ }
 {
     bounds.x_max <= bounds.x_min || bounds.y_max <= bounds.y_min

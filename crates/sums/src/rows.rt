@@ -1,4 +1,6 @@
 // The areas of the rows that a pass works out, in a lent slice. Rests on specs/Rows.antt.
+use crate::fast::write_fast;
+use crate::fill::few;
 use clip::area::clipped_region_area;
 use geometry::bounds::Bounds;
 use geometry::circle::Circle;
@@ -38,8 +40,8 @@ pub(crate) fn row_count(n_sets: usize, places: usize) -> usize
     if rows < places { rows } else { places }
 }
 
-// The areas of the sets whose byte in `wanted` is 1, in the box or without it, each at the place of its mask. Every other number stays.
-pub fn write_areas(
+// One row after another, each worked out by itself.
+fn write_plain(
     clipped: bool,
     circles: [Circle; 10],
     points: Intersections,
@@ -62,4 +64,28 @@ pub fn write_areas(
         }
         mask += 1;
     }
+}
+
+// The areas of the sets whose byte in `wanted` is 1, in the box or without it, each at the place of its mask. Every other number stays.
+pub fn write_areas(
+    clipped: bool,
+    circles: [Circle; 10],
+    points: Intersections,
+    n_sets: usize,
+    bounds: Bounds,
+    wanted: &[u8; 1024],
+    areas: &mut [f64],
+)
+    ensures { λ r. ⌜
+        now (areas .exit)
+        ≡ areasWritten «n_sets» (stands (now (wanted .entry)))
+        (λ S. areaOf clipped bounds (membersOf (take «n_sets» circles) (pointList points) S)) (now (areas .entry))
+        ⌝ }
+{
+    let n = at_most_ten(n_sets);
+    if few(points, n) {
+        write_fast(clipped, circles, points, n, bounds, wanted, areas);
+        return;
+    }
+    write_plain(clipped, circles, points, n_sets, bounds, wanted, areas);
 }

@@ -12,8 +12,8 @@ use Rattle.outline.specs.Area.{arcTerms, addArc, addArcs}
 use Rattle.boundary.specs.Set.{numbered}
 use Rattle.inside.specs.Breaks.{breaks}
 use Rattle.inside.specs.Parts.{clippedArcIntegral}
 use Rattle.clip.specs.Area.{addClippedArc}
-use Rattle.areas.proofs.Naming.{own, Below, has-own, has-head, same-circle}
+use Rattle.clip.proofs.Naming.{own, Below, has-own, has-head, same-circle}
 use Rattle.lists.proofs.Folds.{fold-related}
 
 module _ (circles : List Circle) (heads : List ℕ) (below : Every (λ j. j < length circles) heads) where

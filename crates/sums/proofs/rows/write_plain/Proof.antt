@@ -1,4 +1,4 @@
--- `rows::write_areas` meets its contract. The invariant: the rows below mask are written.
+-- `rows::write_plain` meets its contract. The invariant: the rows below mask are written.
 use borrow.Author.Needs.{needs}
 use mathlib.Core.Path.{_≡_, sym, ap, _∙_}
 use mathlib.Core.Bool.{Bool, cond}
@@ -15,8 +15,8 @@ use Rattle.intersections.specs.Counted.{pointList}
 use Rattle.intersections.specs.Members.{membersOf}
 use Rattle.sums.specs.Rows.{areaOf, rowsOf, numberAt}
 use Rattle.sums.proofs.Counts.{row-below}
-use Rattle.sums.proofs.rows.write_areas.Statement.{statement}
-use Rattle.sums.proofs.rows.write_areas.Tie as tie
+use Rattle.sums.proofs.rows.write_plain.Statement.{statement}
+use Rattle.sums.proofs.rows.write_plain.Tie as tie
 
 abbrev Inv-loop : tie.InvT-loop
 Inv-loop clipped circles points n-sets bounds wanted areas₀ count mask₀ areas mask =
@@ -99,8 +99,8 @@ returns c =
     let all : l .mask ≡ min (rowsOf (s .args .n-sets)) (length (s .args .areas .now)) = omega (arith, l .inv .0, l .inv .1, c .loop-test .left) in
     l .inv .2 ∙ ap (λ (m : ℕ). written (numberOf s) m (s .args .areas .now)) all
 
-pub write-areas-spec : {M : Type 1} → statement M
-write-areas-spec =
+pub write-plain-spec : {M : Type 1} → statement M
+write-plain-spec =
     tie.close
     (tie.spec
     Inv-loop

@@ -1,0 +1,106 @@
+use borrow.Author.Needs.{needs}
+use mathlib.Core.Path.{_≡_, refl, sym, ap, _∙_}
+use mathlib.Core.Bool.{true, false, cond, not, _&&_, _||_}
+use mathlib.Core.List.{List, [], _∷_, _++_, map}
+use mathlib.Core.Logic.{⊎-elim}
+use Prim.Native.Nat.{ℕ, zero, suc, _+_, _-_, _*_, _^_, _%_, _≤_, _<_}
+use native.Mathlib.Nat.{zero-add, le-trans}
+use native.Mathlib.Omega.{arith}
+use native.Mathlib.Numerals.{add-one}
+use borrow.Author.Tests.{eq-eqb, ne-eqb, lt-ltb, le-ltb, not-true, not-false}
+use lib.Dec.{eqb, ltb}
+use lib.ListN.{length, drop, take, getD, set, length-take, length-set, length-drop}
+use lib.Seq.{getD-take, slice, length-take-le, take-all, drop-cons}
+use lib.Ieee.{Float, nan}
+use Rattle.lists.proofs.Arrays.{length-of-values}
+use Rattle.masks.specs.Mask.{subset}
+use Rattle.masks.specs.Subset.{and-test}
+use Rattle.sums.proofs.Walking.{next-start, next-on}
+use Rattle.sums.proofs.walk.next_in.Statement.{statement}
+use Rattle.sums.proofs.walk.next_in.Tie as tie
+use Rattle.sums.proofs.walk.next_in.Reads as reads
+use Rattle.sums.proofs.walk.next_in.Lts as lts
+
+abbrev Inv-loop : tie.InvT-loop
+Inv-loop mask adopters at from n i₀ i = (i ≤ n) × (from ≤ i) × ((k : ℕ) → from ≤ k → k < i → subset 64 mask (getD adopters (at + k) 0) ≡ false)
+
+abbrev μ-loop : tie.MeasureT-loop
+μ-loop mask adopters at from n i₀ i = n - i
+
+-- src/walk.rt:135:5
+loop-holds : tie.Need-loop-holds Inv-loop μ-loop
+loop-holds c =
+    let a = c .args in
+    (c .pre .1, omega arith, next-start (a .mask) (a .adopters .now) (a .at) (a .from) (a .from) refl)
+
+-- src/walk.rt:136:28
+add-if1 : tie.Need-add-if1 Inv-loop μ-loop
+add-if1 c = search needs
+
+-- src/walk.rt:136:19
+mul-if1 : tie.Need-mul-if1 Inv-loop μ-loop
+mul-if1 c = search needs
+
+-- src/walk.rt:136:19
+element-copy-out-if1 : tie.Need-element-copy-out-if1 Inv-loop μ-loop
+element-copy-out-if1 c = search needs
+
+-- src/walk.rt:137:13
+returns : tie.Need-returns Inv-loop μ-loop
+returns c =
+    let d = c .before .before .before in
+    let a = d .before .args in
+    record {
+      within = omega arith;
+      past = d .loop .inv .1;
+      none = d .loop .inv .2;
+      here = λ _. sym (and-test 64 (a .mask) (getD (a .adopters .now) (a .at + d .loop .i) 0) (d .before .fits .mask .fits)) ∙ eq-eqb _ _ (c .if1 .taken);
+    }
+
+-- src/walk.rt:139:9
+add-i : tie.Need-add-i Inv-loop μ-loop
+add-i c = search needs
+
+-- src/walk.rt:135:5
+loop-less : tie.Need-loop-less Inv-loop μ-loop
+loop-less c = search needs
+
+-- src/walk.rt:135:5
+loop-again : tie.Need-loop-again Inv-loop μ-loop
+loop-again c =
+    let d = c .before .before .before in
+    let a = d .before .args in (
+      omega arith,
+      omega arith,
+      next-on (a .mask) (a .adopters .now) (a .at) (a .from) (d .loop .i) (d .loop .inv .2)
+          (sym (and-test 64 (a .mask) (getD (a .adopters .now) (a .at + d .loop .i) 0) (d .before .fits .mask .fits)) ∙ ne-eqb _ _ (c .if1 .left)),
+    )
+
+-- src/walk.rt:130:1
+returns-2 : tie.Need-returns-2 Inv-loop μ-loop
+returns-2 c =
+    let d = c .before in
+    let a = d .before .args in
+    let e : d .loop .i ≡ a .n = omega arith in
+    record {
+      within = omega arith;
+      past = omega arith;
+      none = λ k p q. d .loop .inv .2 k p (omega arith);
+      here = λ q. absurd (omega arith);
+    }
+
+pub next-in-spec : {M : Type 1} → statement M
+next-in-spec =
+    tie.close
+    (tie.spec
+    Inv-loop
+    μ-loop
+    loop-holds
+    add-if1
+    mul-if1
+    element-copy-out-if1
+    returns
+    add-i
+    loop-less
+    loop-again
+    returns-2)
