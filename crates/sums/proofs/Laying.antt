@@ -57,7 +57,8 @@ module _ {A : Type 0} (at : ℕ) (f : ℕ → A) (d : A) (before : List A) where
 -- ---- head by head
 
 module _ (counts owners : List ℕ) (phi : List Float) (adopters lets : List ℕ) (l : Long counts owners phi adopters lets) (j n : ℕ) where
-  pub long-in : (o : ℕ) (phi' : List Float) (adopters' lets' : List ℕ) → Kept (j * 32) nan phi phi' → Kept (j * 32) 0 adopters adopters' → Kept (j * 32) 0 lets lets'
+  pub long-in : (o : ℕ) (phi' : List Float) (adopters' lets' : List ℕ) → Kept (j * 32) nan phi phi' → Kept (j * 32) 0 adopters adopters'
+      → Kept (j * 32) 0 lets lets'
       → Long (set counts j n) (set owners j o) phi' adopters' lets'
   long-in o phi' adopters' lets' kp ka kl =
       record {

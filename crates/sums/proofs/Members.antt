@@ -87,7 +87,8 @@ module _ (circles : List Circle) (points : List IntersectionPoint) (S : ℕ) (fe
       ≡ headIn circles S n (anglesIn S (marksOf circles points n))
   unfolding heads theirs
   next-listed n h e =
-      ap (λ phis. map (numbered (headsOf (length circles) S)) (arcsAt (map (circleAt circles) (headsOf (length circles) S)) (rank S n) (circleAt circles n) phis))
+      ap (λ phis. map (numbered (headsOf (length circles) S))
+      (arcsAt (map (circleAt circles) (headsOf (length circles) S)) (rank S n) (circleAt circles n) phis))
       (member-angles n h)
       ∙ head-numbered circles S n e h (anglesIn S (marksOf circles points n))
 
@@ -101,7 +102,8 @@ module _ (circles : List Circle) (points : List IntersectionPoint) (S : ℕ) (fe
           ≡ upTo (partIn circles (marksOf circles points) S) n ++ cond b (headIn circles S n (anglesIn S (marksOf circles points n))) []
       by true e r =
           ap (map (numbered heads)) (outline-next n e)
-          ∙ map-append (numbered heads) (outlineFrom theirs 0 (members-to n)) (arcsAt theirs (rank S n) (circleAt circles n) (anglesOf (memberAt circles points S n)))
+          ∙ map-append (numbered heads) (outlineFrom theirs 0 (members-to n))
+          (arcsAt theirs (rank S n) (circleAt circles n) (anglesOf (memberAt circles points S n)))
           ∙ ap₂ _++_ r (next-listed n h e)
       by false e r =
           ap (λ t. map (numbered heads) (outlineFrom theirs 0 (map (memberAt circles points S) t))) (heads-without S n e)
@@ -182,7 +184,8 @@ ready-within circles points needed S counts owners phi adopters lets m sub j h i
 
 -- and the arcs that it gives are those of the outline
 pub marked-arcs : (circles : List Circle) (points : List IntersectionPoint) (needed S : ℕ) (counts owners : List ℕ) (phi : List Float) (adopters lets : List ℕ)
-    → Marked circles points needed (length circles) counts owners phi adopters lets → Subset S needed → S < 2 ^ length circles → Few circles points → length circles ≤ 64
+    → Marked circles points needed (length circles) counts owners phi adopters lets → Subset S needed → S < 2 ^ length circles → Few circles points
+    → length circles ≤ 64
     → arcsBy circles (marksIn counts phi adopters) S ≡ map (numbered (headsOf (length circles) S)) (outline (membersOf circles points S))
 marked-arcs circles points needed S counts owners phi adopters lets m sub below few most =
     arcs-same circles (marksIn counts phi adopters) (marksOf circles points) S (λ j h i. m .marks j h (subset-head S needed sub j i))

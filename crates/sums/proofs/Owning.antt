@@ -97,6 +97,7 @@ module _ (circles : List Circle) (S j : ℕ) (below : S < 2 ^ length circles) (i
   unfolding gapLetters isArc
   arc-by-mask a b = by (collapsed (gap a b))
     where
-      by : (t : Bool) → eqb (bitAnd S (cond t 0 (letters circles j (midpoint (circleAt circles j) a b)))) S ≡ (not t && ownedIn circles S j (midpoint (circleAt circles j) a b))
+      by : (t : Bool) → eqb (bitAnd S (cond t 0 (letters circles j (midpoint (circleAt circles j) a b)))) S
+          ≡ (not t && ownedIn circles S j (midpoint (circleAt circles j) a b))
       by true = nobody
       by false = owned-by-mask circles S j (midpoint (circleAt circles j) a b) below

@@ -59,7 +59,8 @@ returns c =
     let below : l < a .n-sets = omega arith in
     owned-fails (circlesIn (a .c .now) (a .n-sets)) (a .mask) (a .j) (a .p) l (omega (arith, circles-many (a .c .now) (a .n-sets)))
     (sym (in-by-shift (a .mask) l) ∙ eq-eqb _ _ (c .before .before .before .if1 .taken))
-    (ap (lets (a .j) (a .p) l) (circle-of (a .c .now) (a .n-sets) l below ∙ sym (c .before .before .circle-at .ensures)) ∙ sym (c .before .lets .ensures) ∙ not-true _ (c .if2 .taken))
+    (ap (lets (a .j) (a .p) l) (circle-of (a .c .now) (a .n-sets) l below ∙ sym (c .before .before .circle-at .ensures)) ∙ sym (c .before .lets .ensures)
+    ∙ not-true _ (c .if2 .taken))
 
 -- src/walk.rt:51:9
 add-l : tie.Need-add-l Inv-loop μ-loop
@@ -87,7 +88,8 @@ loop-again c =
     (λ w. (
       omega arith,
       every-suc f l (d .loop .inv .1)
-          (not-in (inSet (a .mask) l) (lets (a .j) (a .p) l (circleAt (circlesIn (a .c .now) (a .n-sets)) l)) (sym (in-by-shift (a .mask) l) ∙ ne-eqb _ _ (w .left))),
+          (not-in (inSet (a .mask) l) (lets (a .j) (a .p) l (circleAt (circlesIn (a .c .now) (a .n-sets)) l))
+          (sym (in-by-shift (a .mask) l) ∙ ne-eqb _ _ (w .left))),
     ))
     (c .if1 .came)
 
