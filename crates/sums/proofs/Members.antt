@@ -9,7 +9,7 @@ use lib.Pow.{pow-mono}
 use borrow.Author.Tests.{eqb-true, eqb-false}
 use lib.Dec.{eqb, ltb}
 use lib.Count.{ones, trailingZeros}
-use lib.ListN.{length, getD, length-append, length-map}
+use lib.ListN.{length, length-append, length-map}
 use lib.Ieee.{Float}
 use Rattle.masks.specs.Mask.{inSet, bit, size, Subset}
 use Rattle.masks.specs.Operations.{one-of-in, zero-of-in}
@@ -19,9 +19,8 @@ use Rattle.lists.specs.Lists.{upTo}
 use Rattle.lists.proofs.Lists.{upTo-cong}
 use Rattle.geometry.specs.declared.circle.Circle.{Circle}
 use Rattle.intersections.specs.declared.points.IntersectionPoint.{IntersectionPoint}
-use Rattle.intersections.specs.Members.{Member, circlesOf, headsOf, circleAt, memberAt, membersOf}
+use Rattle.intersections.specs.Members.{Member, headsOf, circleAt, memberAt, membersOf}
 use Rattle.intersections.proofs.Gathering.{single-heads}
-use Rattle.boundary.specs.declared.arcs.BoundaryArc.{BoundaryArc}
 use Rattle.boundary.specs.Outline.{anglesOf, arcsAt, fullCircle, outlineFrom, outline}
 use Rattle.boundary.specs.Set.{numbered}
 use Rattle.outline.proofs.Walking.{circles-of-members, members-many, outline-one, outline-other}

@@ -11,8 +11,7 @@ use lib.Dec.{eqb, ltb}
 use lib.Bits.{bitAnd}
 use lib.ListN.{length, getD, length-append, length-map, List·getD-append}
 use lib.Seq.{getD-append-seam}
-use lib.Ieee.{Float}
-use Rattle.masks.specs.Mask.{inSet, every, gather, subset}
+use Rattle.masks.specs.Mask.{inSet, every}
 use Rattle.masks.specs.Gather.{in-gather}
 use Rattle.masks.specs.Subset.{and-test}
 use Rattle.lists.specs.Lists.{upTo}

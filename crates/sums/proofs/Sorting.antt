@@ -1,23 +1,22 @@
 -- Law 1: the points of a head sorted once and filtered for a set are the set's points sorted.
 use mathlib.Core.Path.{_≡_, refl, sym, ap, _∙_}
 use mathlib.Core.Bool.{Bool, true, false, _&&_, cond}
-use mathlib.Core.List.{List, [], _∷_, map, map-map}
+use mathlib.Core.List.{List, [], _∷_, map}
 use Prim.Native.Nat.{ℕ, _≤_}
 use native.Mathlib.Omega.{arith}
-use lib.ListN.{length, take, length-map}
+use lib.ListN.{length, length-map}
 use lib.Seq.{take-all}
 use lib.Ieee.{Float, lt, binary64}
 use lib.Ieee.Fits.{sub-fits}
 use Rattle.binary64.specs.Units.{Finite}
 use Rattle.binary64.proofs.Units.{units-of-lt, units-of-not-lt, lt-of-units, not-lt-of-units}
-use Rattle.masks.specs.Mask.{subset}
 use Rattle.lists.specs.Lists.{keep}
 use Rattle.geometry.specs.declared.circle.Circle.{Circle}
 use Rattle.intersections.specs.declared.points.IntersectionPoint.{IntersectionPoint}
 use Rattle.lists.specs.Every.{Every, every-both, every-keep}
 use Rattle.boundary.specs.Sort.{insert, sortOnto, sorted}
 use Rattle.boundary.specs.Outline.{angleAbout}
-use Rattle.intersections.specs.Members.{countedFor, pointsFor, pointsHeld}
+use Rattle.intersections.specs.Members.{countedFor, pointsFor}
 use Rattle.elementary.proofs.arctangent.Promise.{atan2-promise}
 use Rattle.lists.proofs.Lists.{keep-length}
 use Rattle.sums.specs.Marks.{Mark, insertMark, sortMarksOnto, sortMarks, hasParent, markOf, marksAt, adoptedBy, anglesIn}

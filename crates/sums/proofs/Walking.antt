@@ -1,6 +1,6 @@
 -- Laws of the walk round the heads of a set.
 use mathlib.Core.Path.{_≡_, refl, sym, ap, ap₂, _∙_}
-use mathlib.Core.Bool.{Bool, true, false, not, _&&_, _||_, cond}
+use mathlib.Core.Bool.{Bool, true, false}
 use mathlib.Core.List.{List, [], _∷_, _++_, map, map-append, append-nil, append-assoc}
 use mathlib.Core.Logic.{⊎-elim}
 use Prim.Native.Nat.{ℕ, zero, suc, _+_, _-_, _*_, _/_, _%_, _^_, _≤_, _<_}
@@ -19,15 +19,13 @@ use Rattle.masks.specs.Mask.{bit, inSet, subset}
 use Rattle.masks.specs.Lowest.{trailing-in, trailing-lt}
 use Rattle.masks.specs.Operations.{in-of-one, bit-beyond}
 use Rattle.masks.specs.Size.{ones-of-zero}
-use Rattle.lists.specs.Every.{Every, every-append}
+use Rattle.lists.specs.Every.{every-append}
 use Rattle.lists.specs.Lists.{upTo, keep}
-use Rattle.lists.specs.Written.{tab}
 use Rattle.lists.proofs.Writing.{length-tab, getD-tab}
 use Rattle.geometry.specs.declared.circle.Circle.{Circle}
 use Rattle.intersections.specs.Members.{noCircle, circleAt}
 use Rattle.boundary.specs.declared.arcs.BoundaryArc.{BoundaryArc}
 use Rattle.boundary.specs.Outline.{gap, between, fullCircle, probe}
-use Rattle.boundary.proofs.Gaps.{next-below}
 use Rattle.sums.specs.Marks.{Mark, mark, noMark, marksFrom, adoptedBy, anglesIn}
 use Rattle.sums.specs.Walk.{circleIn, circlesIn, letters, ownedIn, gapLetters, isArc, gapIn, wholeIn, gapsIn, headIn, partIn, headsIn, arcsBy}
 use Rattle.sums.specs.Walk.{marksIn, NextIn, nextPlace, gapArc, arcAt, arcsOf, Angled, Placed, Listing}

@@ -2,13 +2,10 @@ use borrow.Author.Needs.{needs}
 use borrow.Author.Tests.{eq-eqb, ne-eqb}
 use mathlib.Core.Path.{_≡_, refl, sym, ap, _∙_}
 use mathlib.Core.Logic.{⊎-elim}
-use Prim.Native.Nat.{ℕ, _+_, _-_, _*_, _≤_, _<_}
+use Prim.Native.Nat.{_-_, _≤_}
 use native.Mathlib.Omega.{arith}
-use lib.ListN.{length}
-use lib.Ieee.{nan}
 use Rattle.masks.specs.Operations.{in-by-shift}
 use Rattle.intersections.specs.Counted.{pointList}
-use Rattle.intersections.specs.Members.{circleAt}
 use Rattle.boundary.specs.Outline.{probe}
 use Rattle.sums.specs.Marks.{marksAt}
 use Rattle.sums.specs.Walk.{circlesIn, letters, Marked}

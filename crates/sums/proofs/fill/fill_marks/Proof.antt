@@ -1,9 +1,9 @@
 use borrow.Author.Needs.{needs}
 use mathlib.Core.Path.{_≡_, refl, sym, ap, _∙_}
 use mathlib.Core.Logic.{⊎-elim}
-use Prim.Native.Nat.{ℕ, _+_, _-_, _*_, _≤_, _<_}
+use Prim.Native.Nat.{_+_, _-_, _*_, _≤_, _<_}
 use native.Mathlib.Omega.{arith}
-use lib.ListN.{length, take, length-take}
+use lib.ListN.{length, length-take}
 use lib.Seq.{getD-take}
 use lib.Ieee.{nan}
 use Rattle.lists.proofs.Arrays.{length-of-values}

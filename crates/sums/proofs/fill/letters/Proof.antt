@@ -1,9 +1,9 @@
-use mathlib.Core.Path.{_≡_, refl, sym, ap, _∙_}
-use mathlib.Core.Bool.{Bool, true, false}
+use mathlib.Core.Path.{_≡_, sym, ap, _∙_}
+use mathlib.Core.Bool.{Bool}
 use mathlib.Core.Logic.{⊎-elim}
-use Prim.Native.Nat.{ℕ, _+_, _-_, _≤_, _<_}
+use Prim.Native.Nat.{ℕ, _-_, _≤_, _<_}
 use native.Mathlib.Omega.{arith}
-use Rattle.masks.specs.Mask.{gather, shifted}
+use Rattle.masks.specs.Mask.{gather}
 use Rattle.intersections.specs.Members.{circleAt}
 use Rattle.intersections.proofs.Adopting.{gather-with, gather-without}
 use Rattle.boundary.specs.Outline.{lets}

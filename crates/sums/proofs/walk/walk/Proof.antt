@@ -1,10 +1,9 @@
 use borrow.Author.Needs.{needs}
 use borrow.Author.Tests.{eq-eqb, ne-eqb}
-use mathlib.Core.Path.{_≡_, refl, sym, ap, _∙_}
+use mathlib.Core.Path.{sym, _∙_}
 use mathlib.Core.Logic.{⊎-elim}
-use Prim.Native.Nat.{_+_, _-_, _*_, _≤_, _<_}
+use Prim.Native.Nat.{_-_, _*_, _≤_}
 use native.Mathlib.Omega.{arith}
-use lib.ListN.{getD, length}
 use Rattle.masks.specs.Operations.{in-by-shift}
 use Rattle.sums.specs.Walk.{circlesIn, marksIn, headsIn, Listing}
 use Rattle.sums.proofs.Walking.{circles-many, listing-self, single-below, single-in, heads-none, heads-in, heads-out, arcs-many, arcs-one}
