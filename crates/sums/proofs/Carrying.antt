@@ -1,6 +1,6 @@
 -- Laws for the loops that lay the marks of a head into two arrays: a mark carried to its place, and the points one after another.
 use mathlib.Core.Path.{_≡_, refl, sym, ap, ap₂, _∙_}
-use mathlib.Core.Bool.{Bool, true, false, cond}
+use mathlib.Core.Bool.{Bool, true, false}
 use mathlib.Core.List.{List, [], _∷_, _++_, append-assoc, map, map-append}
 use Prim.Native.Nat.{ℕ, zero, suc, _+_, _≤_, _<_}
 use native.Mathlib.Nat.{le-trans, le-of-eq}
@@ -9,7 +9,8 @@ use native.Mathlib.Omega.{arith}
 use borrow.Author.Tests.{eqb-true, eqb-false}
 use lib.Dec.{eqb}
 use lib.ListN.{length, getD, take, drop, set, drop-of-length-le, length-map, length-set}
-use lib.Seq.{drop-cons, slice, slice-cons, slice-empty, take-take, take-suc-set, take-set-lt, drop-set-lt, length-take-le, getD-set-same, getD-set-other, ext-getD}
+use lib.Seq.{drop-cons, slice, slice-cons, slice-empty, take-take, take-suc-set, take-set-lt, drop-set-lt, length-take-le}
+use lib.Seq.{getD-set-same, getD-set-other, ext-getD}
 use lib.Ieee.{Float, nan, lt}
 use Rattle.lists.specs.Lists.{keep}
 use Rattle.lists.specs.Written.{tab}
@@ -50,13 +51,20 @@ phis-many l = length-map l (λ m. m .phi)
 carried-start : (x : Mark) (all : List Mark) (n : ℕ) → n ≤ length all
     → take (place (x .phi) (phis (take n all))) all ++ (x ∷ slice (place (x .phi) (phis (take n all))) n all) ≡ insertMark x (take n all)
 carried-start x all n fits =
-    rw (sym (take-take (place (x .phi) (phis (take n all))) n all (omega (arith, place-le (x .phi) (phis (take n all)), phis-many (take n all), length-take-le n all fits))))
+    rw (sym (take-take (place (x .phi) (phis (take n all))) n all
+    (omega (arith, place-le (x .phi) (phis (take n all)), phis-many (take n all), length-take-le n all fits))))
     (insert-place x (take n all))
 
 carried-on : {A : Type 0} (all : List A) (n i : ℕ) (carry d : A) → i < n → n ≤ length all
     → take (i + 1) (set all i carry) ++ (getD all i d ∷ slice (i + 1) n (set all i carry)) ≡ take i all ++ (carry ∷ slice i n all)
 carried-on all n i carry d below fits =
-    rw (add-one i, take-suc-set all i carry (le-trans below fits), take-set-lt n all i carry below, drop-set-lt (suc i) (take n all) i carry (omega arith), slice-cons i n all d below fits)
+    rw (
+      add-one i,
+      take-suc-set all i carry (le-trans below fits),
+      take-set-lt n all i carry below,
+      drop-set-lt (suc i) (take n all) i carry (omega arith),
+      slice-cons i n all d below fits,
+    )
     (append-assoc (take i all) (carry ∷ []) (getD all i d ∷ slice (suc i) n all))
 
 carried-end : {A : Type 0} (all : List A) (n : ℕ) (carry : A) → n < length all
@@ -85,26 +93,30 @@ module _ (phi : List Float) (adopters : List ℕ) (at : ℕ) where
       map-append (λ m. m .phi) (marksFrom phi adopters at n) (mark (getD phi (at + n) nan) (getD adopters (at + n) 0) ∷ [])
       ∙ ap (λ t. t ++ (getD phi (at + n) nan ∷ [])) (marks-phis n)
 
-module _ (phi : List Float) (adopters : List ℕ) (at n i : ℕ) (x : Float) (who : ℕ) (below : i < n) (fits : at + n ≤ length phi) (room : at + n ≤ length adopters) where
+module _ (phi : List Float) (adopters : List ℕ) (at n i : ℕ) (x : Float) (who : ℕ) (below : i < n) (fits : at + n ≤ length phi)
+    (room : at + n ≤ length adopters) where
   set-here : (k : ℕ) → k ≡ i → mark (getD (set phi (at + i) x) (at + k) nan) (getD (set adopters (at + i) who) (at + k) 0) ≡ mark x who
   set-here k e = rw e (ap₂ mark (getD-set-same phi (at + i) x nan (omega arith)) (getD-set-same adopters (at + i) who 0 (omega arith)))
 
   set-other : (k : ℕ) → (k ≡ i → ⊥)
       → mark (getD (set phi (at + i) x) (at + k) nan) (getD (set adopters (at + i) who) (at + k) 0) ≡ mark (getD phi (at + k) nan) (getD adopters (at + k) 0)
   set-other k e =
-      ap₂ mark (getD-set-other phi (at + i) (at + k) x nan (λ s. e (omega (arith, s)))) (getD-set-other adopters (at + i) (at + k) who 0 (λ s. e (omega (arith, s))))
+      ap₂ mark (getD-set-other phi (at + i) (at + k) x nan (λ s. e (omega (arith, s))))
+      (getD-set-other adopters (at + i) (at + k) who 0 (λ s. e (omega (arith, s))))
 
   -- a mark written
   marks-set : marksFrom (set phi (at + i) x) (set adopters (at + i) who) at n ≡ set (marksFrom phi adopters at n) i (mark x who)
   marks-set =
       ext-getD noMark (marksFrom (set phi (at + i) x) (set adopters (at + i) who) at n) (set (marksFrom phi adopters at n) i (mark x who))
-      (marks-many (set phi (at + i) x) (set adopters (at + i) who) at n ∙ sym (length-set (marksFrom phi adopters at n) i (mark x who) ∙ marks-many phi adopters at n))
+      (marks-many (set phi (at + i) x) (set adopters (at + i) who) at n
+      ∙ sym (length-set (marksFrom phi adopters at n) i (mark x who) ∙ marks-many phi adopters at n))
       (λ k h.
       let q : k < n = le-trans h (le-of-eq (marks-many (set phi (at + i) x) (set adopters (at + i) who) at n)) in
       mark-at (set phi (at + i) x) (set adopters (at + i) who) at n k q ∙ by k q (eqb k i) refl)
     where
       by : (k : ℕ) → k < n → (b : Bool) → eqb k i ≡ b
-          → mark (getD (set phi (at + i) x) (at + k) nan) (getD (set adopters (at + i) who) (at + k) 0) ≡ getD (set (marksFrom phi adopters at n) i (mark x who)) k noMark
+          → mark (getD (set phi (at + i) x) (at + k) nan) (getD (set adopters (at + i) who) (at + k) 0)
+          ≡ getD (set (marksFrom phi adopters at n) i (mark x who)) k noMark
       by k q true e =
           let s = eqb-true k i e in
           set-here k s
@@ -116,10 +128,12 @@ module _ (phi : List Float) (adopters : List ℕ) (at n i : ℕ) (x : Float) (wh
           ∙ sym (getD-set-other (marksFrom phi adopters at n) i k (mark x who) noMark s ∙ mark-at phi adopters at n k q)
 
 -- Into the 32 places from `at` on a mark is carried: it goes in at i or later, those before i stand as they are to be.
-pub record Carried (phi₀ : List Float) (adopters₀ : List ℕ) (at n : ℕ) (x : Float) (who : ℕ) (phi : List Float) (adopters : List ℕ) (i : ℕ) (carry : Float) (carried : ℕ) : Type 0 where
+pub record Carried (phi₀ : List Float) (adopters₀ : List ℕ) (at n : ℕ) (x : Float) (who : ℕ) (phi : List Float) (adopters : List ℕ) (i : ℕ) (carry : Float)
+    (carried : ℕ) : Type 0 where
   pub within : i ≤ n
   pub whole :
-      take i (marksFrom phi adopters at 32) ++ (mark carry carried ∷ slice i n (marksFrom phi adopters at 32)) ≡ insertMark (mark x who) (marksFrom phi₀ adopters₀ at n)
+      take i (marksFrom phi adopters at 32) ++ (mark carry carried ∷ slice i n (marksFrom phi adopters at 32))
+      ≡ insertMark (mark x who) (marksFrom phi₀ adopters₀ at n)
 
 module _ (phi₀ : List Float) (adopters₀ : List ℕ) (at n : ℕ) (x : Float) (who : ℕ) (few : n < 32) where
   pub carry-start : (i : ℕ) → i ≡ place x (tab (λ k. getD phi₀ (at + k) nan) n) → Carried phi₀ adopters₀ at n x who phi₀ adopters₀ i x who
@@ -155,7 +169,8 @@ module _ (phi₀ : List Float) (adopters₀ : List ℕ) (at n : ℕ) (x : Float)
               ∙ c .whole;
         }
 
-    pub carry-end : n ≤ i → marksFrom (set phi (at + n) carry) (set adopters (at + n) carried) at (n + 1) ≡ insertMark (mark x who) (marksFrom phi₀ adopters₀ at n)
+    pub carry-end : n ≤ i → marksFrom (set phi (at + n) carry) (set adopters (at + n) carried) at (n + 1)
+        ≡ insertMark (mark x who) (marksFrom phi₀ adopters₀ at n)
     carry-end h =
         let e : i ≡ n = omega (arith, c .within) in
         sym (marks-take (set phi (at + n) carry) (set adopters (at + n) carried) at 32 (n + 1) (omega arith))
@@ -179,12 +194,14 @@ module _ (c : Circle) (j : ℕ) (points : List IntersectionPoint) where
   unfolding marksAt sortMarks
   sorted-start h = record { many = omega (arith, h); rest = refl }
 
-  pub laid-start : (phi : List Float) (adopters : List ℕ) (at : ℕ) → length (keep (hasParent j) points) ≤ 32 → Sorted c j points 0 0 (marksFrom phi adopters at 0)
+  pub laid-start : (phi : List Float) (adopters : List ℕ) (at : ℕ) → length (keep (hasParent j) points) ≤ 32
+      → Sorted c j points 0 0 (marksFrom phi adopters at 0)
   unfolding marksFrom tab
   laid-start phi adopters at h = sorted-start h
 
   module _ (i n : ℕ) (done : List Mark) (below : i < length points) (s : Sorted c j points i n done) where
-    with-one : hasParent j (getD points i noPoint) ≡ true → keep (hasParent j) (drop i points) ≡ getD points i noPoint ∷ keep (hasParent j) (drop (i + 1) points)
+    with-one : hasParent j (getD points i noPoint) ≡ true → keep (hasParent j) (drop i points)
+        ≡ getD points i noPoint ∷ keep (hasParent j) (drop (i + 1) points)
     unfolding keep
     with-one e = rw (drop-cons points i noPoint below, e, add-one i)
 
@@ -195,7 +212,8 @@ module _ (c : Circle) (j : ℕ) (points : List IntersectionPoint) where
     pub sorted-room : hasParent j (getD points i noPoint) ≡ true → n < 32
     sorted-room e = omega (arith, s .many, ap length (with-one e))
 
-    pub sorted-with : hasParent j (getD points i noPoint) ≡ true → (x : Mark) (n' : ℕ) (done' : List Mark) → x ≡ markOf c (getD points i noPoint) → n' ≡ n + 1 → done' ≡ insertMark x done
+    pub sorted-with : hasParent j (getD points i noPoint) ≡ true → (x : Mark) (n' : ℕ) (done' : List Mark) → x ≡ markOf c (getD points i noPoint) → n' ≡ n + 1
+        → done' ≡ insertMark x done
         → Sorted c j points (i + 1) n' done'
     unfolding sortMarksOnto
     sorted-with e x n' done' ex en ed =

@@ -1,8 +1,8 @@
--- The meeting points that are collected are few enough: what `work_out` asks.
+-- The meeting points that are collected are few enough for the places of a head, and any points can be tested for that.
 use mathlib.Core.Path.{_≡_, refl, sym, ap, _∙_}
 use mathlib.Core.Bool.{Bool, true, false, not, _&&_, cond}
 use mathlib.Core.List.{List, [], _∷_, _++_, append-nil}
-use Prim.Native.Nat.{ℕ, _+_, _^_, _≤_, _<_}
+use Prim.Native.Nat.{ℕ, _+_, _≤_, _<_}
 use native.Mathlib.Numerals.{add-one}
 use native.Mathlib.Omega.{arith}
 use borrow.Author.Tests.{lt-ltb, le-ltb, ltb-false, not-true}
@@ -10,7 +10,7 @@ use lib.Dec.{ltb}
 use lib.ListN.{length, getD, take, length-append}
 use lib.Seq.{take-suc, take-all}
 use lib.Pow.{pow-pos}
-use Rattle.masks.specs.Mask.{bit, every, subset}
+use Rattle.masks.specs.Mask.{every, subset}
 use Rattle.masks.specs.Operations.{bit-of-zero}
 use Rattle.masks.specs.Subset.{every-below, subset-yes}
 use Rattle.lists.specs.Lists.{keep}
@@ -45,7 +45,8 @@ few-collected cs h j k = omega (arith, counted-few cs 0 j h k, ap length (keep-s
 pub few-means : (cs : List Circle) (points : List IntersectionPoint) → fewPoints (length cs) points ≡ true → Few cs points
 unfolding fewPoints
 few-means cs points e j h =
-    ltb-false pointsHeld (length (keep (hasParent j) points)) (not-true _ (every-below (length cs) (λ j. not (ltb pointsHeld (length (keep (hasParent j) points)))) e j h))
+    ltb-false pointsHeld (length (keep (hasParent j) points))
+    (not-true _ (every-below (length cs) (λ j. not (ltb pointsHeld (length (keep (hasParent j) points)))) e j h))
 
 module _ (n : ℕ) (points : List IntersectionPoint) where
   pub few-start : every 0 (λ j. not (ltb pointsHeld (length (keep (hasParent j) points)))) ≡ true
@@ -74,7 +75,8 @@ module _ (j : ℕ) (points : List IntersectionPoint) where
   count-none = refl
 
   module _ (i count : ℕ) (below : i < length points) (e : count ≡ length (keep (hasParent j) (take i points))) where
-    counted : keep (hasParent j) (take (i + 1) points) ≡ keep (hasParent j) (take i points) ++ cond (hasParent j (getD points i noPoint)) (getD points i noPoint ∷ []) []
+    counted : keep (hasParent j) (take (i + 1) points)
+        ≡ keep (hasParent j) (take i points) ++ cond (hasParent j (getD points i noPoint)) (getD points i noPoint ∷ []) []
     counted = rw (add-one i, take-suc points i noPoint below) (keep-push (hasParent j) (take i points) (getD points i noPoint))
 
     pub count-with : hasParent j (getD points i noPoint) ≡ true → count + 1 ≡ length (keep (hasParent j) (take (i + 1) points))

@@ -111,7 +111,8 @@ module _ (circles : List Circle) (S j : ℕ) (in-S : inSet S j ≡ true) (below 
   unfolding wholeIn theirs
   whole-numbered =
       rw (owned-is circles S j (probe (circleAt circles j)) in-S)
-      (map-one (numbered heads) (fullCircle (rank S j) (circleAt circles j)) (fullCircle j (circleAt circles j)) (ownedIn circles S j (probe (circleAt circles j)))
+      (map-one (numbered heads) (fullCircle (rank S j) (circleAt circles j)) (fullCircle j (circleAt circles j))
+      (ownedIn circles S j (probe (circleAt circles j)))
       (numbered-whole heads (rank S j) (circleAt circles j) ∙ ap (λ k. fullCircle k (circleAt circles j)) at-rank))
 
   member-numbered : (phis : List Float) → map (numbered heads) (arcsAt theirs (rank S j) (circleAt circles j) phis) ≡ headIn circles S j phis

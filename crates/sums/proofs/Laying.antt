@@ -3,7 +3,7 @@ use mathlib.Core.Path.{_≡_, refl, sym, ap, ap₂, _∙_, subst}
 use mathlib.Core.Bool.{Bool, true, false}
 use mathlib.Core.List.{List}
 use mathlib.Core.Logic.{⊎-elim}
-use Prim.Native.Nat.{ℕ, zero, suc, _+_, _*_, _%_, _≤_, _<_}
+use Prim.Native.Nat.{ℕ, _+_, _*_, _%_, _≤_, _<_}
 use native.Mathlib.Numerals.{add-one}
 use native.Mathlib.Omega.{arith}
 use lib.Dec.{T}
@@ -11,15 +11,13 @@ use lib.ListN.{length, getD, set, length-set}
 use lib.Seq.{getD-set-same, getD-set-other}
 use lib.Ieee.{Float, nan}
 use Rattle.masks.specs.Mask.{inSet}
-use Rattle.lists.specs.Written.{tab}
 use Rattle.lists.proofs.Writing.{tab-cong}
-use Rattle.geometry.specs.declared.point.Point.{Point}
 use Rattle.geometry.specs.declared.circle.Circle.{Circle}
 use Rattle.intersections.specs.declared.points.IntersectionPoint.{IntersectionPoint}
 use Rattle.intersections.specs.Members.{circleAt}
 use Rattle.boundary.specs.Outline.{probe}
 use Rattle.boundary.proofs.Gaps.{next-below}
-use Rattle.sums.specs.Marks.{Mark, mark, marksFrom, marksAt}
+use Rattle.sums.specs.Marks.{mark, marksFrom, marksAt}
 use Rattle.sums.specs.Walk.{marksIn, letters, gapLetters, HeadReady, Marked}
 use Rattle.sums.specs.Filled.{Kept, Filled, Long}
 use Rattle.sums.proofs.Ranks.{lt-or-eq}
@@ -57,7 +55,8 @@ module _ {A : Type 0} (at : ℕ) (f : ℕ → A) (d : A) (before : List A) where
 -- ---- head by head
 
 module _ (counts owners : List ℕ) (phi : List Float) (adopters lets : List ℕ) (l : Long counts owners phi adopters lets) (j n : ℕ) where
-  pub long-in : (o : ℕ) (phi' : List Float) (adopters' lets' : List ℕ) → Kept (j * 32) nan phi phi' → Kept (j * 32) 0 adopters adopters' → Kept (j * 32) 0 lets lets'
+  pub long-in : (o : ℕ) (phi' : List Float) (adopters' lets' : List ℕ) → Kept (j * 32) nan phi phi' → Kept (j * 32) 0 adopters adopters'
+      → Kept (j * 32) 0 lets lets'
       → Long (set counts j n) (set owners j o) phi' adopters' lets'
   long-in o phi' adopters' lets' kp ka kl =
       record {

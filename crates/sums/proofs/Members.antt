@@ -9,7 +9,7 @@ use lib.Pow.{pow-mono}
 use borrow.Author.Tests.{eqb-true, eqb-false}
 use lib.Dec.{eqb, ltb}
 use lib.Count.{ones, trailingZeros}
-use lib.ListN.{length, getD, length-append, length-map}
+use lib.ListN.{length, length-append, length-map}
 use lib.Ieee.{Float}
 use Rattle.masks.specs.Mask.{inSet, bit, size, Subset}
 use Rattle.masks.specs.Operations.{one-of-in, zero-of-in}
@@ -19,9 +19,8 @@ use Rattle.lists.specs.Lists.{upTo}
 use Rattle.lists.proofs.Lists.{upTo-cong}
 use Rattle.geometry.specs.declared.circle.Circle.{Circle}
 use Rattle.intersections.specs.declared.points.IntersectionPoint.{IntersectionPoint}
-use Rattle.intersections.specs.Members.{Member, circlesOf, headsOf, circleAt, memberAt, membersOf}
+use Rattle.intersections.specs.Members.{Member, headsOf, circleAt, memberAt, membersOf}
 use Rattle.intersections.proofs.Gathering.{single-heads}
-use Rattle.boundary.specs.declared.arcs.BoundaryArc.{BoundaryArc}
 use Rattle.boundary.specs.Outline.{anglesOf, arcsAt, fullCircle, outlineFrom, outline}
 use Rattle.boundary.specs.Set.{numbered}
 use Rattle.outline.proofs.Walking.{circles-of-members, members-many, outline-one, outline-other}
@@ -87,7 +86,8 @@ module _ (circles : List Circle) (points : List IntersectionPoint) (S : ℕ) (fe
       ≡ headIn circles S n (anglesIn S (marksOf circles points n))
   unfolding heads theirs
   next-listed n h e =
-      ap (λ phis. map (numbered (headsOf (length circles) S)) (arcsAt (map (circleAt circles) (headsOf (length circles) S)) (rank S n) (circleAt circles n) phis))
+      ap (λ phis. map (numbered (headsOf (length circles) S))
+      (arcsAt (map (circleAt circles) (headsOf (length circles) S)) (rank S n) (circleAt circles n) phis))
       (member-angles n h)
       ∙ head-numbered circles S n e h (anglesIn S (marksOf circles points n))
 
@@ -101,7 +101,8 @@ module _ (circles : List Circle) (points : List IntersectionPoint) (S : ℕ) (fe
           ≡ upTo (partIn circles (marksOf circles points) S) n ++ cond b (headIn circles S n (anglesIn S (marksOf circles points n))) []
       by true e r =
           ap (map (numbered heads)) (outline-next n e)
-          ∙ map-append (numbered heads) (outlineFrom theirs 0 (members-to n)) (arcsAt theirs (rank S n) (circleAt circles n) (anglesOf (memberAt circles points S n)))
+          ∙ map-append (numbered heads) (outlineFrom theirs 0 (members-to n))
+          (arcsAt theirs (rank S n) (circleAt circles n) (anglesOf (memberAt circles points S n)))
           ∙ ap₂ _++_ r (next-listed n h e)
       by false e r =
           ap (λ t. map (numbered heads) (outlineFrom theirs 0 (map (memberAt circles points S) t))) (heads-without S n e)
@@ -182,7 +183,8 @@ ready-within circles points needed S counts owners phi adopters lets m sub j h i
 
 -- and the arcs that it gives are those of the outline
 pub marked-arcs : (circles : List Circle) (points : List IntersectionPoint) (needed S : ℕ) (counts owners : List ℕ) (phi : List Float) (adopters lets : List ℕ)
-    → Marked circles points needed (length circles) counts owners phi adopters lets → Subset S needed → S < 2 ^ length circles → Few circles points → length circles ≤ 64
+    → Marked circles points needed (length circles) counts owners phi adopters lets → Subset S needed → S < 2 ^ length circles → Few circles points
+    → length circles ≤ 64
     → arcsBy circles (marksIn counts phi adopters) S ≡ map (numbered (headsOf (length circles) S)) (outline (membersOf circles points S))
 marked-arcs circles points needed S counts owners phi adopters lets m sub below few most =
     arcs-same circles (marksIn counts phi adopters) (marksOf circles points) S (λ j h i. m .marks j h (subset-head S needed sub j i))

@@ -3,13 +3,13 @@ use mathlib.Core.Path.{_≡_, refl, sym, ap, _∙_}
 use mathlib.Core.Bool.{Bool, true, false, cond, not, _&&_, _||_, and-false}
 use mathlib.Core.List.{List}
 use mathlib.Core.Logic.{⊎-elim}
-use Prim.Native.Nat.{ℕ, zero, suc, _+_, _*_, _^_, _≤_, _<_}
+use Prim.Native.Nat.{ℕ, zero, suc, _+_, _^_, _≤_, _<_}
 use native.Mathlib.Numerals.{add-one}
 use native.Mathlib.Omega.{arith}
 use borrow.Author.Tests.{ne-eqb}
 use lib.Bits.{bitAnd}
 use lib.Dec.{eqb}
-use lib.ListN.{length, getD}
+use lib.ListN.{length}
 use lib.Ieee.{Float}
 use Rattle.masks.specs.Mask.{bit, gather, every, inSet}
 use Rattle.masks.specs.Operations.{one-of-in, bit-of-zero}
@@ -19,7 +19,7 @@ use Rattle.binary64.specs.Floats.{_+ᶠ_, _*ᶠ_}
 use Rattle.geometry.specs.declared.point.Point.{Point}
 use Rattle.geometry.specs.declared.circle.Circle.{Circle}
 use Rattle.intersections.specs.Members.{circleAt}
-use Rattle.boundary.specs.Outline.{lets, gap, collapsed, pointAt, probe}
+use Rattle.boundary.specs.Outline.{lets, gap, collapsed, pointAt}
 use Rattle.sums.specs.Walk.{letters, ownedIn, midpoint, gapLetters, isArc}
 use Rattle.sums.proofs.Ranks.{lt-or-eq, owned-by-mask}
 
@@ -97,6 +97,7 @@ module _ (circles : List Circle) (S j : ℕ) (below : S < 2 ^ length circles) (i
   unfolding gapLetters isArc
   arc-by-mask a b = by (collapsed (gap a b))
     where
-      by : (t : Bool) → eqb (bitAnd S (cond t 0 (letters circles j (midpoint (circleAt circles j) a b)))) S ≡ (not t && ownedIn circles S j (midpoint (circleAt circles j) a b))
+      by : (t : Bool) → eqb (bitAnd S (cond t 0 (letters circles j (midpoint (circleAt circles j) a b)))) S
+          ≡ (not t && ownedIn circles S j (midpoint (circleAt circles j) a b))
       by true = nobody
       by false = owned-by-mask circles S j (midpoint (circleAt circles j) a b) below

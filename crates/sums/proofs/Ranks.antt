@@ -11,8 +11,7 @@ use lib.Dec.{eqb, ltb}
 use lib.Bits.{bitAnd}
 use lib.ListN.{length, getD, length-append, length-map, List·getD-append}
 use lib.Seq.{getD-append-seam}
-use lib.Ieee.{Float}
-use Rattle.masks.specs.Mask.{inSet, every, gather, subset}
+use Rattle.masks.specs.Mask.{inSet, every}
 use Rattle.masks.specs.Gather.{in-gather}
 use Rattle.masks.specs.Subset.{and-test}
 use Rattle.lists.specs.Lists.{upTo}
@@ -129,7 +128,8 @@ owned-heads circ S j p (suc n) e = by (inSet S n) refl (owned-heads circ S j p n
     by : (b : Bool) → inSet S n ≡ b → ownedFrom (rank S j) p 0 (map circ (headsOf n S)) ≡ every n (λ l. not (inSet S l) || lets j p l (circ l))
         → ownedFrom (rank S j) p 0 (map circ (headsOf (suc n) S)) ≡ (every n (λ l. not (inSet S l) || lets j p l (circ l)) && (not b || lets j p n (circ n)))
     by true f r = owned-next circ S j p n e f ∙ ap (λ b. b && lets j p n (circ n)) r
-    by false f r = ap (λ t. ownedFrom (rank S j) p 0 (map circ t)) (heads-without S n f) ∙ r ∙ sym (and-true (every n (λ l. not (inSet S l) || lets j p l (circ l))))
+    by false f r = ap (λ t. ownedFrom (rank S j) p 0 (map circ t)) (heads-without S n f) ∙ r
+        ∙ sym (and-true (every n (λ l. not (inSet S l) || lets j p l (circ l))))
 
 pub owned-is : (circles : List Circle) (S j : ℕ) (p : Point) → inSet S j ≡ true
     → ownedFrom (rank S j) p 0 (map (circleAt circles) (headsOf (length circles) S)) ≡ ownedIn circles S j p

@@ -1,23 +1,22 @@
 -- Law 1: the points of a head sorted once and filtered for a set are the set's points sorted.
 use mathlib.Core.Path.{_≡_, refl, sym, ap, _∙_}
 use mathlib.Core.Bool.{Bool, true, false, _&&_, cond}
-use mathlib.Core.List.{List, [], _∷_, map, map-map}
+use mathlib.Core.List.{List, [], _∷_, map}
 use Prim.Native.Nat.{ℕ, _≤_}
 use native.Mathlib.Omega.{arith}
-use lib.ListN.{length, take, length-map}
+use lib.ListN.{length, length-map}
 use lib.Seq.{take-all}
 use lib.Ieee.{Float, lt, binary64}
 use lib.Ieee.Fits.{sub-fits}
 use Rattle.binary64.specs.Units.{Finite}
 use Rattle.binary64.proofs.Units.{units-of-lt, units-of-not-lt, lt-of-units, not-lt-of-units}
-use Rattle.masks.specs.Mask.{subset}
 use Rattle.lists.specs.Lists.{keep}
 use Rattle.geometry.specs.declared.circle.Circle.{Circle}
 use Rattle.intersections.specs.declared.points.IntersectionPoint.{IntersectionPoint}
 use Rattle.lists.specs.Every.{Every, every-both, every-keep}
 use Rattle.boundary.specs.Sort.{insert, sortOnto, sorted}
 use Rattle.boundary.specs.Outline.{angleAbout}
-use Rattle.intersections.specs.Members.{countedFor, pointsFor, pointsHeld}
+use Rattle.intersections.specs.Members.{countedFor, pointsFor}
 use Rattle.elementary.proofs.arctangent.Promise.{atan2-promise}
 use Rattle.lists.proofs.Lists.{keep-length}
 use Rattle.sums.specs.Marks.{Mark, insertMark, sortMarksOnto, sortMarks, hasParent, markOf, marksAt, adoptedBy, anglesIn}
@@ -86,7 +85,8 @@ module _ (p : Mark → Bool) where
       first false e = refl
 
       rest : (b d : Bool) → lt (x .phi) (y .phi) ≡ false → keep p (insertMark x l) ≡ cond d (insertMark x (keep p l)) (keep p l)
-          → cond b (y ∷ keep p (insertMark x l)) (keep p (insertMark x l)) ≡ cond d (insertMark x (cond b (y ∷ keep p l) (keep p l))) (cond b (y ∷ keep p l) (keep p l))
+          → cond b (y ∷ keep p (insertMark x l)) (keep p (insertMark x l))
+          ≡ cond d (insertMark x (cond b (y ∷ keep p l) (keep p l))) (cond b (y ∷ keep p l) (keep p l))
       rest true true e r = rw (e) (ap (λ t. y ∷ t) r)
       rest true false e r = ap (λ t. y ∷ t) r
       rest false true e r = r
@@ -105,7 +105,8 @@ module _ (p : Mark → Bool) where
       keep-sortOnto (insertMark x done) l (insert-every FiniteMark x done (fl .0) fd) (fl .1) (insert-order x done (fl .0) fd o)
       ∙ rw (keep-insert x done (fl .0) fd o) (by (p x))
     where
-      by : (b : Bool) → sortMarksOnto (cond b (insertMark x (keep p done)) (keep p done)) (keep p l) ≡ sortMarksOnto (keep p done) (cond b (x ∷ keep p l) (keep p l))
+      by : (b : Bool) → sortMarksOnto (cond b (insertMark x (keep p done)) (keep p done)) (keep p l)
+          ≡ sortMarksOnto (keep p done) (cond b (x ∷ keep p l) (keep p l))
       by true = refl
       by false = refl
 
@@ -121,7 +122,8 @@ map-insert x [] = refl
 map-insert x (y ∷ l) = by (lt (x .phi) (y .phi)) (map-insert x l)
   where
     by : (b : Bool) → map (λ m. m .phi) (insertMark x l) ≡ insert (x .phi) (map (λ m. m .phi) l)
-        → map (λ m. m .phi) (cond b (x ∷ y ∷ l) (y ∷ insertMark x l)) ≡ cond b (x .phi ∷ y .phi ∷ map (λ m. m .phi) l) (y .phi ∷ insert (x .phi) (map (λ m. m .phi) l))
+        → map (λ m. m .phi) (cond b (x ∷ y ∷ l) (y ∷ insertMark x l))
+        ≡ cond b (x .phi ∷ y .phi ∷ map (λ m. m .phi) l) (y .phi ∷ insert (x .phi) (map (λ m. m .phi) l))
     by true r = refl
     by false r = ap (λ t. y .phi ∷ t) r
 
@@ -174,7 +176,14 @@ module _ (c : Circle) (S j : ℕ) (points : List IntersectionPoint) where
   unfolding pointsFor
   whole h =
       take-all 32 (map (λ q. q .point) (keep (countedFor S j) points))
-      (omega (arith, length-map (keep (countedFor S j) points) (λ q. q .point), ap length counted-by, keep-length (λ q. adoptedBy S (markOf c q)) (keep (hasParent j) points), h))
+      (omega (
+        arith,
+        length-map (keep (countedFor S j) points) (λ q. q .point),
+        ap length counted-by,
+        keep-length (λ q. adoptedBy S (markOf c q))
+            (keep (hasParent j) points),
+        h,
+      ))
 
   -- the points of head j sorted once, and filtered for S: the sorted angles of the points counted for S at j
   pub angles-in : length (keep (hasParent j) points) ≤ 32 → anglesIn S (marksAt c j points) ≡ sorted (map (angleAbout c) (pointsFor points S j))

@@ -1,6 +1,6 @@
 -- Laws of the walk round the heads of a set.
 use mathlib.Core.Path.{_≡_, refl, sym, ap, ap₂, _∙_}
-use mathlib.Core.Bool.{Bool, true, false, not, _&&_, _||_, cond}
+use mathlib.Core.Bool.{Bool, true, false}
 use mathlib.Core.List.{List, [], _∷_, _++_, map, map-append, append-nil, append-assoc}
 use mathlib.Core.Logic.{⊎-elim}
 use Prim.Native.Nat.{ℕ, zero, suc, _+_, _-_, _*_, _/_, _%_, _^_, _≤_, _<_}
@@ -19,15 +19,13 @@ use Rattle.masks.specs.Mask.{bit, inSet, subset}
 use Rattle.masks.specs.Lowest.{trailing-in, trailing-lt}
 use Rattle.masks.specs.Operations.{in-of-one, bit-beyond}
 use Rattle.masks.specs.Size.{ones-of-zero}
-use Rattle.lists.specs.Every.{Every, every-append}
+use Rattle.lists.specs.Every.{every-append}
 use Rattle.lists.specs.Lists.{upTo, keep}
-use Rattle.lists.specs.Written.{tab}
 use Rattle.lists.proofs.Writing.{length-tab, getD-tab}
 use Rattle.geometry.specs.declared.circle.Circle.{Circle}
 use Rattle.intersections.specs.Members.{noCircle, circleAt}
 use Rattle.boundary.specs.declared.arcs.BoundaryArc.{BoundaryArc}
 use Rattle.boundary.specs.Outline.{gap, between, fullCircle, probe}
-use Rattle.boundary.proofs.Gaps.{next-below}
 use Rattle.sums.specs.Marks.{Mark, mark, noMark, marksFrom, adoptedBy, anglesIn}
 use Rattle.sums.specs.Walk.{circleIn, circlesIn, letters, ownedIn, gapLetters, isArc, gapIn, wholeIn, gapsIn, headIn, partIn, headsIn, arcsBy}
 use Rattle.sums.specs.Walk.{marksIn, NextIn, nextPlace, gapArc, arcAt, arcsOf, Angled, Placed, Listing}
@@ -75,7 +73,8 @@ module _ (circles : List Circle) (counts : List ℕ) (phi : List Float) (j a : �
   unfolding nextPlace
   next-of = rw (head-of, index-of)
 
-  gap-arc : (b : ℕ) → gapArc circles phi (j * 32 + a) b ≡ between j (circleAt circles j) (getD phi (j * 32 + a) nan) (gap (getD phi (j * 32 + a) nan) (getD phi b nan))
+  gap-arc : (b : ℕ) → gapArc circles phi (j * 32 + a) b
+      ≡ between j (circleAt circles j) (getD phi (j * 32 + a) nan) (gap (getD phi (j * 32 + a) nan) (getD phi b nan))
   unfolding gapArc
   gap-arc b = rw head-of
 
@@ -115,7 +114,8 @@ module _ (circles : List Circle) (counts : List ℕ) (phi : List Float) (j a : �
         same = λ g. absurd (omega (arith, less, g));
       }
 
-pub whole-arc : (circles : List Circle) (counts : List ℕ) (phi : List Float) (j : ℕ) → j < 10 → arcAt circles counts phi (320 + j) ≡ fullCircle j (circleAt circles j)
+pub whole-arc : (circles : List Circle) (counts : List ℕ) (phi : List Float) (j : ℕ) → j < 10 → arcAt circles counts phi (320 + j)
+    ≡ fullCircle j (circleAt circles j)
 unfolding arcAt
 whole-arc circles counts phi j h =
     let e : 320 + j - 320 ≡ j = omega arith in rw (le-ltb (320 + j) 320 (omega arith), lt-ltb (320 + j) 330 (omega arith), e)
@@ -198,7 +198,8 @@ module _ (circles : List Circle) (counts : List ℕ) (phi : List Float) (n S j a
         → Listing circles counts phi n S (arcs ++ gapIn circles S j (getD phi (j * 32 + a) nan) (getD phi (j * 32 + b) nan)) (k + 1) (set list k (j * 32 + a))
     unfolding phi-a phi-b
     neighbour-listed e room =
-        list-more circles counts phi n S arcs k list l (j * 32 + a) (between j (circleAt circles j) phi-a (gap phi-a phi-b)) (gapIn circles S j phi-a phi-b) room
+        list-more circles counts phi n S arcs k list l (j * 32 + a) (between j (circleAt circles j) phi-a (gap phi-a phi-b)) (gapIn circles S j phi-a phi-b)
+        room
         next-arc
         (neighbour-placed circles counts phi j a (omega arith) n S most head in-S ha)
         (gap-yes circles S j phi-a phi-b (sym by-mask ∙ eq-eqb (bitAnd S m) S e))
@@ -378,7 +379,8 @@ module _ (circles : List Circle) (counts : List ℕ) (phi : List Float) (adopter
 
   module _ (first : ℕ) (whole : List BoundaryArc) (list : List ℕ) (r last b : ℕ) (w : Round circles counts phi adopters n S j first whole list r last b) where
     pub round-next : (list' : List ℕ) (r' b' : ℕ) → b < getD counts j 0 → r' ≤ r + 1
-        → Listing circles counts phi n S (arcsOf circles counts phi r list ++ gapIn circles S j (getD phi (j * 32 + last) nan) (getD phi (j * 32 + b) nan)) r' list'
+        → Listing circles counts phi n S (arcsOf circles counts phi r list ++ gapIn circles S j (getD phi (j * 32 + last) nan) (getD phi (j * 32 + b) nan)) r'
+        list'
         → NextIn S adopters (j * 32) (b + 1) (getD counts j 0) b'
         → Round circles counts phi adopters n S j first whole list' r' b b'
     round-next list' r' b' h few l x =
@@ -398,12 +400,14 @@ module _ (circles : List Circle) (counts : List ℕ) (phi : List Float) (adopter
               ap (λ t. t ++ gapsIn circles S j f (more ∷ rest)) (l .said)
               ∙ append-assoc (arcsOf circles counts phi r list) (gapIn circles S j a more) (gapsIn circles S j f (more ∷ rest))
               ∙ ap (λ t. arcsOf circles counts phi r list ++ t)
-              (sym (ap (λ t. gapsIn circles S j f (a ∷ t)) (next-angle S phi adopters (j * 32) (getD counts j 0) b b' h (w .here h) x) ∙ gaps-step circles S j f a more rest))
+              (sym (ap (λ t. gapsIn circles S j f (a ∷ t)) (next-angle S phi adopters (j * 32) (getD counts j 0) b b' h (w .here h) x)
+              ∙ gaps-step circles S j f a more rest))
               ∙ w .rest;
         }
 
     pub round-end : (list' : List ℕ) (r' : ℕ) → getD counts j 0 ≤ b
-        → Listing circles counts phi n S (arcsOf circles counts phi r list ++ gapIn circles S j (getD phi (j * 32 + last) nan) (getD phi (j * 32 + first) nan)) r' list'
+        → Listing circles counts phi n S
+        (arcsOf circles counts phi r list ++ gapIn circles S j (getD phi (j * 32 + last) nan) (getD phi (j * 32 + first) nan)) r' list'
         → Listing circles counts phi n S whole r' list'
     round-end list' r' h l =
         record {
@@ -411,7 +415,8 @@ module _ (circles : List Circle) (counts : List ℕ) (phi : List Float) (adopter
           said =
               l .said
               ∙ ap (λ t. arcsOf circles counts phi r list ++ t)
-              (sym (ap (λ t. gapsIn circles S j (getD phi (j * 32 + first) nan) (getD phi (j * 32 + last) nan ∷ t)) (none-left S phi adopters (j * 32) (getD counts j 0) b h)
+              (sym (ap (λ t. gapsIn circles S j (getD phi (j * 32 + first) nan) (getD phi (j * 32 + last) nan ∷ t))
+              (none-left S phi adopters (j * 32) (getD counts j 0) b h)
               ∙ gaps-last circles S j (getD phi (j * 32 + first) nan) (getD phi (j * 32 + last) nan)))
               ∙ w .rest;
           placed = l .placed;

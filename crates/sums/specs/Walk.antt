@@ -185,7 +185,8 @@ abbrev pub Ready : List Circle → ℕ → List ℕ → List ℕ → List Float 
 Ready circles S counts owners phi lets = (j : ℕ) → j < length circles → inSet S j ≡ true → HeadReady circles counts owners phi lets j
 
 -- The arrays of the heads below n: ready for every head of `needed`, with the angles and adopters of its meeting points; the others have none.
-pub record Marked (circles : List Circle) (points : List IntersectionPoint) (needed n : ℕ) (counts owners : List ℕ) (phi : List Float) (adopters lets : List ℕ) : Type 0 where
+pub record Marked (circles : List Circle) (points : List IntersectionPoint) (needed n : ℕ) (counts owners : List ℕ) (phi : List Float)
+    (adopters lets : List ℕ) : Type 0 where
   pub ready : (j : ℕ) → j < n → inSet needed j ≡ true → HeadReady circles counts owners phi lets j
   pub marks : (j : ℕ) → j < n → inSet needed j ≡ true → marksIn counts phi adopters j ≡ marksAt (circleAt circles j) j points
   pub left : (j : ℕ) → j < n → inSet needed j ≡ false → getD counts j 0 ≡ 0

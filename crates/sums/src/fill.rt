@@ -13,13 +13,12 @@ use intersections::points::IntersectionPoint;
 use intersections::points::Intersections;
 ghost use mathlib.Core.Path.{_≡_};
 ghost use mathlib.Core.Bool.{true, false};
-ghost use Prim.Native.Nat.{ℕ, _+_, _*_, _%_, _^_, _<_, _≤_};
+ghost use Prim.Native.Nat.{_+_, _*_, _%_, _<_, _≤_};
 ghost use lib.ListN.{length, getD};
 ghost use lib.Ieee.{nan};
 ghost use Rattle.lists.specs.Lists.{keep};
 ghost use Rattle.lists.specs.Written.{tab};
 ghost use Rattle.intersections.specs.Counted.{pointList};
-ghost use Rattle.intersections.specs.Members.{circleAt};
 ghost use Rattle.boundary.specs.Sort.{place};
 ghost use Rattle.sums.specs.Marks.{mark, marksFrom, insertMark, hasParent, marksAt};
 ghost use Rattle.sums.specs.Walk.{circlesIn, letters, gapLetters, Few, fewPoints, Marked};
@@ -79,7 +78,8 @@ fn insert_at(
     who: usize,
 )
     requires { ⌜ (at + 32 ≤ 320) × ((n < 32) × ((length (now phi) ≡ 320) × (length (now adopters) ≡ 320))) ⌝ }
-    ensures { λ r. ⌜ marksFrom (now (phi .exit)) (now (adopters .exit)) at (n + 1) ≡ insertMark (mark x who) (marksFrom (now (phi .entry)) (now (adopters .entry)) at n) ⌝ }
+    ensures { λ r. ⌜ marksFrom (now (phi .exit)) (now (adopters .exit)) at (n + 1)
+        ≡ insertMark (mark x who) (marksFrom (now (phi .entry)) (now (adopters .entry)) at n) ⌝ }
     ensures { λ r. ⌜ Kept at nan (now (phi .entry)) (now (phi .exit)) × Kept at 0 (now (adopters .entry)) (now (adopters .exit)) ⌝ }
 {
     let mut i = place_at(phi, at, n, x);
@@ -189,7 +189,9 @@ fn fill_lets(
     lets: &mut [usize; 320],
 )
     requires { ⌜ («n_sets» ≤ 10) × ((j < «n_sets») × ((n ≤ 32) × (length (now lets) ≡ 320))) ⌝ }
-    ensures { λ r. ⌜ Filled (j * 32) n (λ i. gapLetters (circlesIn (now (c .entry)) «n_sets») j (getD (now (phi .entry)) (j * 32 + i) nan) (getD (now (phi .entry)) (j * 32 + (i + 1) % n) nan)) 0 (now (lets .entry)) (now (lets .exit)) ⌝ }
+    ensures { λ r. ⌜ Filled (j * 32) n
+        (λ i. gapLetters (circlesIn (now (c .entry)) «n_sets») j (getD (now (phi .entry)) (j * 32 + i) nan)
+        (getD (now (phi .entry)) (j * 32 + (i + 1) % n) nan)) 0 (now (lets .entry)) (now (lets .exit)) ⌝ }
 {
     let at = j * 32;
     let mut i: usize = 0;
@@ -215,7 +217,8 @@ pub(crate) fn fill_heads(
     requires { ⌜ («n_sets» ≤ 10) × Few (circlesIn (now c) «n_sets») (pointList points) ⌝ }
     requires { ⌜ Long (now counts) (now owners) (now phi) (now adopters) (now lets) ⌝ }
     ensures { λ r. ⌜ Long (now (counts .exit)) (now (owners .exit)) (now (phi .exit)) (now (adopters .exit)) (now (lets .exit)) ⌝ }
-    ensures { λ r. ⌜ Marked (circlesIn (now (c .entry)) «n_sets») (pointList points) needed «n_sets» (now (counts .exit)) (now (owners .exit)) (now (phi .exit)) (now (adopters .exit)) (now (lets .exit)) ⌝ }
+    ensures { λ r. ⌜ Marked (circlesIn (now (c .entry)) «n_sets») (pointList points) needed «n_sets» (now (counts .exit)) (now (owners .exit))
+        (now (phi .exit)) (now (adopters .exit)) (now (lets .exit)) ⌝ }
 {
     let mut j: usize = 0;
     while j < n_sets {

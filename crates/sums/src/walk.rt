@@ -7,11 +7,11 @@ use geometry::circle::Circle;
 use geometry::point::Point;
 ghost use mathlib.Core.Path.{_≡_};
 ghost use mathlib.Core.Bool.{true, false};
-ghost use mathlib.Core.List.{[], _++_};
-ghost use Prim.Native.Nat.{ℕ, _+_, _*_, _%_, _^_, _<_, _≤_};
+ghost use mathlib.Core.List.{_++_};
+ghost use Prim.Native.Nat.{_+_, _*_, _%_, _^_, _<_, _≤_};
 ghost use lib.ListN.{length, getD};
 ghost use lib.Ieee.{nan};
-ghost use Rattle.masks.specs.Mask.{inSet, Subset};
+ghost use Rattle.masks.specs.Mask.{inSet};
 ghost use Rattle.sums.specs.Marks.{anglesIn};
 ghost use Rattle.sums.specs.Walk.{circleIn, circlesIn, marksIn, ownedIn, gapLetters, isArc, gapIn, headIn, arcsBy};
 ghost use Rattle.sums.specs.Walk.{NextIn, arcsOf, Listing, HeadReady, Ready};
@@ -104,10 +104,15 @@ fn list_gap(
 ) -> usize
     requires { ⌜ («n_sets» ≤ 10) × ((j < «n_sets») × ((mask < 2 ^ «n_sets») × (inSet mask j ≡ true))) ⌝ }
     requires { ⌜ (getD (now counts) j 0 ≤ 32) × ((a < getD (now counts) j 0) × (b < getD (now counts) j 0)) ⌝ }
-    requires { ⌜ getD (now lets) (j * 32 + a) 0 ≡ gapLetters (circlesIn (now c) «n_sets») j (getD (now phi) (j * 32 + a) nan) (getD (now phi) (j * 32 + (a + 1) % getD (now counts) j 0) nan) ⌝ }
-    requires { ⌜ (k < 320) × Listing (circlesIn (now c) «n_sets») (now counts) (now phi) «n_sets» mask (arcsOf (circlesIn (now c) «n_sets») (now counts) (now phi) k (now list)) k (now list) ⌝ }
+    requires { ⌜ getD (now lets) (j * 32 + a) 0
+        ≡ gapLetters (circlesIn (now c) «n_sets») j (getD (now phi) (j * 32 + a) nan) (getD (now phi) (j * 32 + (a + 1) % getD (now counts) j 0) nan) ⌝ }
+    requires { ⌜ (k < 320) × Listing (circlesIn (now c) «n_sets») (now counts) (now phi) «n_sets» mask
+        (arcsOf (circlesIn (now c) «n_sets») (now counts) (now phi) k (now list)) k (now list) ⌝ }
     ensures { λ r. ⌜ r ≤ k + 1 ⌝ }
-    ensures { λ r. ⌜ Listing (circlesIn (now (c .entry)) «n_sets») (now (counts .entry)) (now (phi .entry)) «n_sets» mask (arcsOf (circlesIn (now (c .entry)) «n_sets») (now (counts .entry)) (now (phi .entry)) k (now (list .entry)) ++ gapIn (circlesIn (now (c .entry)) «n_sets») mask j (getD (now (phi .entry)) (j * 32 + a) nan) (getD (now (phi .entry)) (j * 32 + b) nan)) r (now (list .exit)) ⌝ }
+    ensures { λ r. ⌜ Listing (circlesIn (now (c .entry)) «n_sets») (now (counts .entry)) (now (phi .entry)) «n_sets» mask
+        (arcsOf (circlesIn (now (c .entry)) «n_sets») (now (counts .entry)) (now (phi .entry)) k (now (list .entry))
+        ++ gapIn (circlesIn (now (c .entry)) «n_sets») mask j (getD (now (phi .entry)) (j * 32 + a) nan) (getD (now (phi .entry)) (j * 32 + b) nan)) r
+        (now (list .exit)) ⌝ }
 {
     let at = j * 32 + a;
     if b == next(a, counts[j]) {
@@ -141,9 +146,13 @@ fn list_head(
 ) -> usize
     requires { ⌜ («n_sets» ≤ 10) × ((j < «n_sets») × ((mask < 2 ^ «n_sets») × (inSet mask j ≡ true))) ⌝ }
     requires { ⌜ HeadReady (circlesIn (now c) «n_sets») (now counts) (now owners) (now phi) (now lets) j ⌝ }
-    requires { ⌜ (k ≤ j * 32) × Listing (circlesIn (now c) «n_sets») (now counts) (now phi) «n_sets» mask (arcsOf (circlesIn (now c) «n_sets») (now counts) (now phi) k (now list)) k (now list) ⌝ }
+    requires { ⌜ (k ≤ j * 32) × Listing (circlesIn (now c) «n_sets») (now counts) (now phi) «n_sets» mask
+        (arcsOf (circlesIn (now c) «n_sets») (now counts) (now phi) k (now list)) k (now list) ⌝ }
     ensures { λ r. ⌜ r ≤ j * 32 + 32 ⌝ }
-    ensures { λ r. ⌜ Listing (circlesIn (now (c .entry)) «n_sets») (now (counts .entry)) (now (phi .entry)) «n_sets» mask (arcsOf (circlesIn (now (c .entry)) «n_sets») (now (counts .entry)) (now (phi .entry)) k (now (list .entry)) ++ headIn (circlesIn (now (c .entry)) «n_sets») mask j (anglesIn mask (marksIn (now (counts .entry)) (now (phi .entry)) (now (adopters .entry)) j))) r (now (list .exit)) ⌝ }
+    ensures { λ r. ⌜ Listing (circlesIn (now (c .entry)) «n_sets») (now (counts .entry)) (now (phi .entry)) «n_sets» mask
+        (arcsOf (circlesIn (now (c .entry)) «n_sets») (now (counts .entry)) (now (phi .entry)) k (now (list .entry))
+        ++ headIn (circlesIn (now (c .entry)) «n_sets») mask j (anglesIn mask (marksIn (now (counts .entry)) (now (phi .entry)) (now (adopters .entry)) j))) r
+        (now (list .exit)) ⌝ }
 {
     let at = j * 32;
     let n = counts[j];
@@ -181,7 +190,8 @@ pub(crate) fn walk(
     requires { ⌜ («n_sets» ≤ 10) × ((mask < 2 ^ «n_sets») × (length (now list) ≡ 320)) ⌝ }
     requires { ⌜ Ready (circlesIn (now c) «n_sets») mask (now counts) (now owners) (now phi) (now lets) ⌝ }
     ensures { λ r. ⌜ r ≤ 320 ⌝ }
-    ensures { λ r. ⌜ Listing (circlesIn (now (c .entry)) «n_sets») (now (counts .entry)) (now (phi .entry)) «n_sets» mask (arcsBy (circlesIn (now (c .entry)) «n_sets») (marksIn (now (counts .entry)) (now (phi .entry)) (now (adopters .entry))) mask) r (now (list .exit)) ⌝ }
+    ensures { λ r. ⌜ Listing (circlesIn (now (c .entry)) «n_sets») (now (counts .entry)) (now (phi .entry)) «n_sets» mask
+        (arcsBy (circlesIn (now (c .entry)) «n_sets») (marksIn (now (counts .entry)) (now (phi .entry)) (now (adopters .entry))) mask) r (now (list .exit)) ⌝ }
 {
     if usize::count_ones(mask) == 1 {
         list[0] = 320 + usize::trailing_zeros(mask) as usize;

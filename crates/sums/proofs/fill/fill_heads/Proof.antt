@@ -2,13 +2,10 @@ use borrow.Author.Needs.{needs}
 use borrow.Author.Tests.{eq-eqb, ne-eqb}
 use mathlib.Core.Path.{_≡_, refl, sym, ap, _∙_}
 use mathlib.Core.Logic.{⊎-elim}
-use Prim.Native.Nat.{ℕ, _+_, _-_, _*_, _≤_, _<_}
+use Prim.Native.Nat.{_-_, _≤_}
 use native.Mathlib.Omega.{arith}
-use lib.ListN.{length}
-use lib.Ieee.{nan}
 use Rattle.masks.specs.Operations.{in-by-shift}
 use Rattle.intersections.specs.Counted.{pointList}
-use Rattle.intersections.specs.Members.{circleAt}
 use Rattle.boundary.specs.Outline.{probe}
 use Rattle.sums.specs.Marks.{marksAt}
 use Rattle.sums.specs.Walk.{circlesIn, letters, Marked}
@@ -27,7 +24,8 @@ use Rattle.sums.proofs.walk.circle_at.Reads as circle-at-reads
 
 abbrev Inv-loop : tie.InvT-loop
 Inv-loop c n-sets points needed counts₀ owners₀ phi₀ adopters₀ lets₀ j₀ counts owners phi adopters lets j =
-    (n-sets ≤ 10) × (j ≤ n-sets) × Long counts owners phi adopters lets × Marked (circlesIn c n-sets) (pointList points) needed j counts owners phi adopters lets
+    (n-sets ≤ 10) × (j ≤ n-sets) × Long counts owners phi adopters lets
+    × Marked (circlesIn c n-sets) (pointList points) needed j counts owners phi adopters lets
 
 abbrev μ-loop : tie.MeasureT-loop
 μ-loop c n-sets points needed counts₀ owners₀ phi₀ adopters₀ lets₀ j₀ counts owners phi adopters lets j =
@@ -121,7 +119,8 @@ loop-again c =
       rw (w .1, w .2, w .3, w .4, w .5)
           (long-out (l .counts) (l .owners) (l .phi) (l .adopters) (l .lets) k (l .j) 0),
       rw (w .1, w .2, w .3, w .4, w .5)
-          (marked-out cs (pointList (a .points)) (a .needed) (l .j) (l .counts) (l .owners) (l .phi) (l .adopters) (l .lets) 0 0 (l .phi) (l .adopters) (l .lets)
+          (marked-out cs (pointList (a .points)) (a .needed) (l .j) (l .counts) (l .owners) (l .phi) (l .adopters) (l .lets) 0 0 (l .phi) (l .adopters)
+          (l .lets)
           (omega (arith, t, l .inv .0, k .counts-long))
           (kept-self _ _ _)
           (kept-self _ _ _)

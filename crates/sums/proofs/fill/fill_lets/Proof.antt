@@ -1,5 +1,5 @@
-use mathlib.Core.Path.{_≡_, refl, sym, ap, _∙_}
-use Prim.Native.Nat.{ℕ, _+_, _-_, _*_, _%_, _≤_, _<_}
+use mathlib.Core.Path.{_≡_, refl, ap, _∙_}
+use Prim.Native.Nat.{_+_, _-_, _*_, _%_, _≤_, _<_}
 use native.Mathlib.Omega.{arith}
 use lib.ListN.{length, getD, length-set}
 use lib.Ieee.{nan}
@@ -17,7 +17,8 @@ use Rattle.sums.proofs.walk.next.Reads as next-reads
 
 abbrev Inv-loop : tie.InvT-loop
 Inv-loop c n-sets j n phi lets₀ at i₀ lets i =
-    (i ≤ n) × (n ≤ 32) × (j < 10) × (length lets ≡ 320) × (at ≡ j * 32) × Filled (j * 32) i (λ k. gapLetters (circlesIn c n-sets) j (getD phi (j * 32 + k) nan) (getD phi (j * 32 + (k + 1) % n) nan)) 0 lets₀ lets
+    (i ≤ n) × (n ≤ 32) × (j < 10) × (length lets ≡ 320) × (at ≡ j * 32)
+    × Filled (j * 32) i (λ k. gapLetters (circlesIn c n-sets) j (getD phi (j * 32 + k) nan) (getD phi (j * 32 + (k + 1) % n) nan)) 0 lets₀ lets
 
 abbrev μ-loop : tie.MeasureT-loop
 μ-loop c n-sets j n phi lets₀ at i₀ lets i =
@@ -107,7 +108,8 @@ loop-again c =
       simp length-set (i .3),
       i .4,
       filled-next (a .j * 32) _ 0 _ (l .i) (l .lets) _ (omega (arith, i .1, i .2, i .3, n .before .loop-test .taken))
-          (c .gap-letters .ensures ∙ ap (λ m. gapLetters cs (a .j) (getD (a .phi .now) (a .j * 32 + l .i) nan) (getD (a .phi .now) (a .j * 32 + m) nan)) (n .next .ensures))
+          (c .gap-letters .ensures ∙ ap (λ m. gapLetters cs (a .j) (getD (a .phi .now) (a .j * 32 + l .i) nan) (getD (a .phi .now) (a .j * 32 + m) nan))
+          (n .next .ensures))
           (i .5),
     )
 

@@ -1,9 +1,9 @@
 use borrow.Author.Needs.{needs}
 use mathlib.Core.Path.{_≡_, refl, sym, ap, _∙_}
 use mathlib.Core.Logic.{⊎-elim}
-use Prim.Native.Nat.{ℕ, _+_, _-_, _*_, _≤_, _<_}
+use Prim.Native.Nat.{_+_, _-_, _*_, _≤_, _<_}
 use native.Mathlib.Omega.{arith}
-use lib.ListN.{length, take, length-take}
+use lib.ListN.{length, length-take}
 use lib.Seq.{getD-take}
 use lib.Ieee.{nan}
 use Rattle.lists.proofs.Arrays.{length-of-values}
@@ -51,8 +51,11 @@ loop-holds c =
 returns : tie.Need-returns Inv-loop μ-loop
 returns c =
     let l = c .before .before .loop in
-    let a = c .before .before .before .args in
-    (sorted-end (a .circle) (a .j) (pointList (a .t1)) (l .i) (l .count) (marksFrom (l .phi) (l .adopters) (a .j * 32) (l .count)) (omega (arith, length-take (a .t1 .n) (a .t1 .all))) (l .inv .9), (l .inv .7, l .inv .8))
+    let a = c .before .before .before .args in (
+      sorted-end (a .circle) (a .j) (pointList (a .t1)) (l .i) (l .count) (marksFrom (l .phi) (l .adopters) (a .j * 32) (l .count))
+          (omega (arith, length-take (a .t1 .n) (a .t1 .all))) (l .inv .9),
+      (l .inv .7, l .inv .8),
+    )
 
 mul-q : tie.Need-mul-q Inv-loop μ-loop
 mul-q c = search needs
@@ -78,7 +81,8 @@ insert-at-requires c κs =
     let same = getD-take (a .t1 .n) (a .t1 .all) (l .i) noPoint (omega (arith, d .if1 .left, l .inv .1)) in (
       omega (arith, l .inv .4),
       (
-        sorted-room (a .circle) (a .j) (pointList (a .t1)) (l .i) (l .count) (marksFrom (l .phi) (l .adopters) (a .j * 32) (l .count)) (omega (arith, length-take (a .t1 .n) (a .t1 .all), d .if1 .left, d .before .loop-test .taken, l .inv .0, l .inv .1)) (l .inv .9)
+        sorted-room (a .circle) (a .j) (pointList (a .t1)) (l .i) (l .count) (marksFrom (l .phi) (l .adopters) (a .j * 32) (l .count))
+            (omega (arith, length-take (a .t1 .n) (a .t1 .all), d .if1 .left, d .before .loop-test .taken, l .inv .0, l .inv .1)) (l .inv .9)
             (ap (hasParent (a .j)) same ∙ sym (t .before .has-parent .ensures) ∙ t .if2 .taken),
         (l .inv .5, l .inv .6),
       ),
@@ -99,7 +103,8 @@ loop-again c =
     let l = d .before .before .loop in
     let a = d .before .before .before .args in
     let same = getD-take (a .t1 .n) (a .t1 .all) (l .i) noPoint (omega (arith, d .if1 .left, l .inv .1)) in
-    let within : l .i < length (pointList (a .t1)) = omega (arith, length-take (a .t1 .n) (a .t1 .all), d .if1 .left, d .before .loop-test .taken, l .inv .0, l .inv .1) in
+    let within : l .i < length (pointList (a .t1)) = omega
+    (arith, length-take (a .t1 .n) (a .t1 .all), d .if1 .left, d .before .loop-test .taken, l .inv .0, l .inv .1) in
     let on : l .i + 1 ≤ 90 = omega (arith, d .before .loop-test .taken) in
     let more : l .i + 1 ≤ a .t1 .n = omega (arith, d .if1 .left, l .inv .1) in
     let told = ap (hasParent (a .j)) same ∙ sym (c .before .has-parent .ensures) in
@@ -115,7 +120,8 @@ loop-again c =
       rw (w .5) (kept-then (a .j * 32) nan _ _ _ (l .inv .7) (w .4 .ensures .1 .0)),
       rw (w .6) (kept-then (a .j * 32) 0 _ _ _ (l .inv .8) (w .4 .ensures .1 .1)),
       rw (w .5, w .6, w .7)
-          (sorted-with (a .circle) (a .j) (pointList (a .t1)) (l .i) (l .count) (marksFrom (l .phi) (l .adopters) (a .j * 32) (l .count)) within (l .inv .9) (told ∙ w .0 .taken) _ _ _ (mark-is (a .circle) _ _ _ (w .3 .ensures) same) refl (w .4 .ensures .0)),
+          (sorted-with (a .circle) (a .j) (pointList (a .t1)) (l .i) (l .count) (marksFrom (l .phi) (l .adopters) (a .j * 32) (l .count)) within (l .inv .9)
+          (told ∙ w .0 .taken) _ _ _ (mark-is (a .circle) _ _ _ (w .3 .ensures) same) refl (w .4 .ensures .0)),
     ))
     (λ w. (
       l .inv .0,
@@ -127,15 +133,20 @@ loop-again c =
       rw (w .2) (l .inv .6),
       rw (w .1) (l .inv .7),
       rw (w .2) (l .inv .8),
-      rw (w .1, w .2, w .3) (sorted-without (a .circle) (a .j) (pointList (a .t1)) (l .i) (l .count) (marksFrom (l .phi) (l .adopters) (a .j * 32) (l .count)) within (l .inv .9) (told ∙ w .0 .left)),
+      rw (w .1, w .2, w .3)
+          (sorted-without (a .circle) (a .j) (pointList (a .t1)) (l .i) (l .count) (marksFrom (l .phi) (l .adopters) (a .j * 32) (l .count)) within
+          (l .inv .9) (told ∙ w .0 .left)),
     ))
     (c .if2 .came)
 
 returns-2 : tie.Need-returns-2 Inv-loop μ-loop
 returns-2 c =
     let l = c .before .loop in
-    let a = c .before .before .args in
-    (sorted-end (a .circle) (a .j) (pointList (a .t1)) (l .i) (l .count) (marksFrom (l .phi) (l .adopters) (a .j * 32) (l .count)) (omega (arith, length-take (a .t1 .n) (a .t1 .all))) (l .inv .9), (l .inv .7, l .inv .8))
+    let a = c .before .before .args in (
+      sorted-end (a .circle) (a .j) (pointList (a .t1)) (l .i) (l .count) (marksFrom (l .phi) (l .adopters) (a .j * 32) (l .count))
+          (omega (arith, length-take (a .t1 .n) (a .t1 .all))) (l .inv .9),
+      (l .inv .7, l .inv .8),
+    )
 
 pub fill-marks-spec : {M : Type 1} → statement M
 fill-marks-spec =

@@ -25,7 +25,8 @@ collapsed-requires c κs = search needs
 returns : tie.Need-returns
 returns c =
     let a = c .before .before .before .args in
-    nobody-lets (circlesIn (a .c .now) (a .n-sets)) (a .j) (a .phi-a) (a .phi-b) _ (c .before .before .gap .ensures) (sym (c .before .collapsed .ensures) ∙ c .if1 .taken)
+    nobody-lets (circlesIn (a .c .now) (a .n-sets)) (a .j) (a .phi-a) (a .phi-b) _ (c .before .before .gap .ensures)
+    (sym (c .before .collapsed .ensures) ∙ c .if1 .taken)
 
 -- src/fill.rt:53:9
 circle-at-requires : tie.Need-circle-at-requires

@@ -1,6 +1,5 @@
 use borrow.Author.Tests.{eq-eqb, ne-eqb}
 use Rattle.sums.specs.Marks.{hasParent}
-use borrow.Author.Needs.{needs}
 use Rattle.sums.proofs.fill.has_parent.Statement.{statement}
 use Rattle.sums.proofs.fill.has_parent.Tie as tie
 use Rattle.sums.proofs.fill.has_parent.Reads as reads

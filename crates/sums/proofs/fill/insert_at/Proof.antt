@@ -1,5 +1,5 @@
-use mathlib.Core.Path.{_≡_, refl, sym, ap, _∙_}
-use Prim.Native.Nat.{ℕ, _+_, _-_, _≤_, _<_}
+use mathlib.Core.Path.{_≡_}
+use Prim.Native.Nat.{_+_, _-_, _≤_, _<_}
 use native.Mathlib.Omega.{arith}
 use lib.ListN.{length, length-set}
 use lib.Ieee.{nan}
@@ -15,7 +15,8 @@ use Rattle.sums.proofs.fill.place_at.Reads as place-at-reads
 
 abbrev Inv-loop : tie.InvT-loop
 Inv-loop phi₀ adopters₀ at n x who i₀ carry₀ carried₀ phi adopters i carry carried =
-    (at + 32 ≤ 320) × (n < 32) × (length phi ≡ 320) × (length adopters ≡ 320) × Kept at nan phi₀ phi × Kept at 0 adopters₀ adopters × Carried phi₀ adopters₀ at n x who phi adopters i carry carried
+    (at + 32 ≤ 320) × (n < 32) × (length phi ≡ 320) × (length adopters ≡ 320) × Kept at nan phi₀ phi × Kept at 0 adopters₀ adopters
+    × Carried phi₀ adopters₀ at n x who phi adopters i carry carried
 
 abbrev μ-loop : tie.MeasureT-loop
 μ-loop phi₀ adopters₀ at n x who i₀ carry₀ carried₀ phi adopters i carry carried =
@@ -30,8 +31,16 @@ loop-holds : tie.Need-loop-holds Inv-loop μ-loop
 loop-holds c =
     let s = c .before .before in
     let a = s .args in
-    let p = s .pre in
-    (p .0, p .1 .0, p .1 .1 .0, p .1 .1 .1, kept-self _ _ _, kept-self _ _ _, carry-start (a .phi .now) (a .adopters .now) (a .at) (a .n) (a .x) (a .who) (p .1 .0) _ (c .place-at .ensures))
+    let p = s .pre in (
+      p .0,
+      p .1 .0,
+      p .1 .1 .0,
+      p .1 .1 .1,
+      kept-self _ _ _,
+      kept-self _ _ _,
+      carry-start (a .phi .now) (a .adopters .now) (a .at) (a .n) (a .x) (a .who)
+          (p .1 .0) _ (c .place-at .ensures),
+    )
 
 -- src/fill.rt:89:17
 add-p : tie.Need-add-p Inv-loop μ-loop

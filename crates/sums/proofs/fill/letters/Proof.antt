@@ -1,9 +1,9 @@
-use mathlib.Core.Path.{_≡_, refl, sym, ap, _∙_}
-use mathlib.Core.Bool.{Bool, true, false}
+use mathlib.Core.Path.{_≡_, sym, ap, _∙_}
+use mathlib.Core.Bool.{Bool}
 use mathlib.Core.Logic.{⊎-elim}
-use Prim.Native.Nat.{ℕ, _+_, _-_, _≤_, _<_}
+use Prim.Native.Nat.{ℕ, _-_, _≤_, _<_}
 use native.Mathlib.Omega.{arith}
-use Rattle.masks.specs.Mask.{gather, shifted}
+use Rattle.masks.specs.Mask.{gather}
 use Rattle.intersections.specs.Members.{circleAt}
 use Rattle.intersections.proofs.Adopting.{gather-with, gather-without}
 use Rattle.boundary.specs.Outline.{lets}
@@ -60,7 +60,8 @@ loop-again c =
     let cs = circlesIn (a .c .now) (a .n-sets) in
     let f : ℕ → Bool = λ i. lets (a .j) (a .p) i (circleAt cs i) in
     let below : l .l < a .n-sets = omega arith in
-    let told : f (l .l) ≡ c .before .lets .result = ap (lets (a .j) (a .p) (l .l)) (circle-of (a .c .now) (a .n-sets) (l .l) below ∙ sym (c .before .before .circle-at .ensures)) ∙ sym (c .before .lets .ensures) in
+    let told : f (l .l) ≡ c .before .lets .result = ap (lets (a .j) (a .p) (l .l))
+    (circle-of (a .c .now) (a .n-sets) (l .l) below ∙ sym (c .before .before .circle-at .ensures)) ∙ sym (c .before .lets .ensures) in
     ⊎-elim
     (λ w. (omega arith, w .1 ∙ rw (l .inv .1) (gather-with f (l .l) (omega arith) (told ∙ w .0 .taken))))
     (λ w. (omega arith, w .1 ∙ l .inv .1 ∙ gather-without f (l .l) (told ∙ w .0 .left)))
@@ -71,7 +72,8 @@ returns : tie.Need-returns Inv-loop μ-loop
 returns c =
     let d = c .before in
     let a = d .before .args in
-    letters-are (circlesIn (a .c .now) (a .n-sets)) (a .j) (a .p) (d .loop .l) (d .loop .mask) (circles-many (a .c .now) (a .n-sets) ∙ omega arith) (d .loop .inv .1)
+    letters-are (circlesIn (a .c .now) (a .n-sets)) (a .j) (a .p) (d .loop .l) (d .loop .mask) (circles-many (a .c .now) (a .n-sets) ∙ omega arith)
+    (d .loop .inv .1)
 
 pub letters-spec : {M : Type 1} → statement M
 letters-spec =

@@ -1,9 +1,9 @@
-use mathlib.Core.Path.{_≡_, refl, sym, _∙_}
+use mathlib.Core.Path.{_≡_}
 use Prim.Native.Nat.{ℕ, _+_, _-_, _≤_, _<_}
 use native.Mathlib.Nat.{zero-add}
 use native.Mathlib.Omega.{arith}
 use native.Mathlib.Numerals.{add-one}
-use lib.ListN.{length, drop, getD}
+use lib.ListN.{drop, getD}
 use lib.Ieee.{nan}
 use Rattle.lists.specs.Written.{tab}
 use Rattle.lists.proofs.Writing.{length-tab, getD-tab}
@@ -48,7 +48,8 @@ returns c =
     let a = d .before .args in
     let f : ℕ → _ = λ k. getD (a .phi .now) (a .at + k) nan in
     let below : d .loop .i < a .n = omega arith in
-    let e = place-here (a .x) (tab f (a .n)) (d .loop .i) (omega (arith, length-tab f (a .n))) (rw (getD-tab f (a .n) (d .loop .i) nan below) (c .if1 .taken)) in
+    let e = place-here (a .x) (tab f (a .n)) (d .loop .i) (omega (arith, length-tab f (a .n))) (rw (getD-tab f (a .n) (d .loop .i) nan below) (c .if1 .taken))
+    in
     omega (arith, d .loop .inv .1, e)
 
 -- src/fill.rt:67:9

@@ -1,6 +1,6 @@
 use mathlib.Core.Path.{_≡_, refl, sym, ap, _∙_}
 use mathlib.Core.Logic.{⊎-elim}
-use Prim.Native.Nat.{ℕ, _+_, _-_, _≤_, _<_}
+use Prim.Native.Nat.{_+_, _-_, _≤_, _<_}
 use native.Mathlib.Omega.{arith}
 use lib.ListN.{length, take, length-take}
 use lib.Seq.{getD-take}
@@ -70,7 +70,8 @@ loop-again c =
     let l = d .before .before .loop in
     let a = d .before .before .before .args in
     let same = getD-take (a .t1 .n) (a .t1 .all) (l .i) noPoint (omega (arith, d .if1 .left, l .inv .1)) in
-    let within : l .i < length (pointList (a .t1)) = omega (arith, length-take (a .t1 .n) (a .t1 .all), d .if1 .left, d .before .loop-test .taken, l .inv .0, l .inv .1) in
+    let within : l .i < length (pointList (a .t1)) = omega
+    (arith, length-take (a .t1 .n) (a .t1 .all), d .if1 .left, d .before .loop-test .taken, l .inv .0, l .inv .1) in
     let on : l .i + 1 ≤ 90 = omega (arith, d .before .loop-test .taken) in
     let more : l .i + 1 ≤ a .t1 .n = omega (arith, d .if1 .left, l .inv .1) in
     let told = ap (hasParent (a .j)) same ∙ sym (c .before .has-parent .ensures) in

@@ -25,7 +25,8 @@ collapsed-requires c κs = search needs
 returns : tie.Need-returns
 returns c =
     let a = c .before .before .before .args in
-    arc-none (circlesIn (a .c .now) (a .n-sets)) (a .mask) (a .j) (a .phi-a) (a .phi-b) _ (c .before .before .gap .ensures) (sym (c .before .collapsed .ensures) ∙ c .if1 .taken)
+    arc-none (circlesIn (a .c .now) (a .n-sets)) (a .mask) (a .j) (a .phi-a) (a .phi-b) _ (c .before .before .gap .ensures)
+    (sym (c .before .collapsed .ensures) ∙ c .if1 .taken)
 
 -- src/walk.rt:62:9
 circle-at-requires : tie.Need-circle-at-requires

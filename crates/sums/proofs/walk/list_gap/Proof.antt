@@ -62,9 +62,11 @@ returns c =
     let cs = circlesIn (a .c .now) (a .n-sets) in
     let p = s .pre in (
       omega arith,
-      neighbour-listed cs (a .counts .now) (a .phi .now) (a .n-sets) (a .mask) (a .j) (a .a) (a .b) (map (arcAt cs (a .counts .now) (a .phi .now)) (take (a .k) (a .list .now))) (a .k) (a .list .now)
+      neighbour-listed cs (a .counts .now) (a .phi .now) (a .n-sets) (a .mask) (a .j) (a .a) (a .b)
+          (map (arcAt cs (a .counts .now) (a .phi .now)) (take (a .k) (a .list .now))) (a .k) (a .list .now)
           (p .0 .0) (p .0 .1 .0) (p .0 .1 .1 .1) (p .1 .0 .0) (p .1 .0 .1 .0) (p .1 .0 .1 .1) (p .1 .1 .1 .1)
-          (getD (a .lets .now) (a .j * 32 + a .a) 0) (rw (circles-many (a .c .now) (a .n-sets)) (p .0 .1 .1 .0)) (t .if1 .taken ∙ t .before .next .ensures) (p .1 .1 .0) (c .if2 .taken) (p .1 .1 .1 .0),
+          (getD (a .lets .now) (a .j * 32 + a .a) 0) (rw (circles-many (a .c .now) (a .n-sets)) (p .0 .1 .1 .0)) (t .if1 .taken ∙ t .before .next .ensures)
+          (p .1 .1 .0) (c .if2 .taken) (p .1 .1 .1 .0),
     )
 
 -- src/walk.rt:125:9
@@ -76,9 +78,11 @@ returns-2 c =
     let cs = circlesIn (a .c .now) (a .n-sets) in
     let p = s .pre in (
       omega arith,
-      neighbour-left cs (a .counts .now) (a .phi .now) (a .n-sets) (a .mask) (a .j) (a .a) (a .b) (map (arcAt cs (a .counts .now) (a .phi .now)) (take (a .k) (a .list .now))) (a .k) (a .list .now)
+      neighbour-left cs (a .counts .now) (a .phi .now) (a .n-sets) (a .mask) (a .j) (a .a) (a .b)
+          (map (arcAt cs (a .counts .now) (a .phi .now)) (take (a .k) (a .list .now))) (a .k) (a .list .now)
           (p .0 .0) (p .0 .1 .0) (p .0 .1 .1 .1) (p .1 .0 .0) (p .1 .0 .1 .0) (p .1 .0 .1 .1) (p .1 .1 .1 .1)
-          (getD (a .lets .now) (a .j * 32 + a .a) 0) (rw (circles-many (a .c .now) (a .n-sets)) (p .0 .1 .1 .0)) (t .if1 .taken ∙ t .before .next .ensures) (p .1 .1 .0) (c .if2 .left),
+          (getD (a .lets .now) (a .j * 32 + a .a) 0) (rw (circles-many (a .c .now) (a .n-sets)) (p .0 .1 .1 .0)) (t .if1 .taken ∙ t .before .next .ensures)
+          (p .1 .1 .0) (c .if2 .left),
     )
 
 -- src/walk.rt:127:14
@@ -141,8 +145,10 @@ returns-3 c =
     let cs = circlesIn (a .c .now) (a .n-sets) in
     let p = s .pre in (
       omega arith,
-      other-listed cs (a .counts .now) (a .phi .now) (a .n-sets) (a .mask) (a .j) (a .a) (a .b) (map (arcAt cs (a .counts .now) (a .phi .now)) (take (a .k) (a .list .now))) (a .k) (a .list .now)
-          (p .0 .0) (p .0 .1 .0) (p .0 .1 .1 .1) (p .1 .0 .0) (p .1 .0 .1 .0) (p .1 .0 .1 .1) (p .1 .1 .1 .1) (sym (c .before .is-arc .ensures) ∙ c .if3 .taken) (p .1 .1 .1 .0),
+      other-listed cs (a .counts .now) (a .phi .now) (a .n-sets) (a .mask) (a .j) (a .a) (a .b)
+          (map (arcAt cs (a .counts .now) (a .phi .now)) (take (a .k) (a .list .now))) (a .k) (a .list .now)
+          (p .0 .0) (p .0 .1 .0) (p .0 .1 .1 .1) (p .1 .0 .0) (p .1 .0 .1 .0) (p .1 .0 .1 .1) (p .1 .1 .1 .1)
+          (sym (c .before .is-arc .ensures) ∙ c .if3 .taken) (p .1 .1 .1 .0),
     )
 
 -- src/walk.rt:99:1
@@ -153,7 +159,8 @@ returns-4 c =
     let cs = circlesIn (a .c .now) (a .n-sets) in
     let p = s .pre in (
       omega arith,
-      other-left cs (a .counts .now) (a .phi .now) (a .n-sets) (a .mask) (a .j) (a .a) (a .b) (map (arcAt cs (a .counts .now) (a .phi .now)) (take (a .k) (a .list .now))) (a .k) (a .list .now)
+      other-left cs (a .counts .now) (a .phi .now) (a .n-sets) (a .mask) (a .j) (a .a) (a .b)
+          (map (arcAt cs (a .counts .now) (a .phi .now)) (take (a .k) (a .list .now))) (a .k) (a .list .now)
           (p .0 .0) (p .0 .1 .0) (p .0 .1 .1 .1) (p .1 .0 .0) (p .1 .0 .1 .0) (p .1 .0 .1 .1) (p .1 .1 .1 .1) (sym (c .before .is-arc .ensures) ∙ c .if3 .left),
     )
 

@@ -1,18 +1,10 @@
 use borrow.Author.Needs.{needs}
-use mathlib.Core.Path.{_≡_, refl, sym, ap, _∙_}
-use mathlib.Core.Bool.{true, false, cond, not, _&&_, _||_}
-use mathlib.Core.List.{List, [], _∷_, _++_, map}
-use mathlib.Core.Logic.{⊎-elim}
-use Prim.Native.Nat.{ℕ, zero, suc, _+_, _-_, _*_, _^_, _%_, _≤_, _<_}
-use native.Mathlib.Nat.{zero-add, le-trans}
+use mathlib.Core.Path.{_≡_, refl, sym, _∙_}
+use mathlib.Core.Bool.{false}
+use Prim.Native.Nat.{ℕ, _+_, _-_, _≤_, _<_}
 use native.Mathlib.Omega.{arith}
-use native.Mathlib.Numerals.{add-one}
-use borrow.Author.Tests.{eq-eqb, ne-eqb, lt-ltb, le-ltb, not-true, not-false}
-use lib.Dec.{eqb, ltb}
-use lib.ListN.{length, drop, take, getD, set, length-take, length-set, length-drop}
-use lib.Seq.{getD-take, slice, length-take-le, take-all, drop-cons}
-use lib.Ieee.{Float, nan}
-use Rattle.lists.proofs.Arrays.{length-of-values}
+use borrow.Author.Tests.{eq-eqb, ne-eqb}
+use lib.ListN.{getD}
 use Rattle.masks.specs.Mask.{subset}
 use Rattle.masks.specs.Subset.{and-test}
 use Rattle.sums.proofs.Walking.{next-start, next-on}

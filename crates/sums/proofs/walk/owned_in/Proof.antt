@@ -1,18 +1,10 @@
 use borrow.Author.Needs.{needs}
 use mathlib.Core.Path.{_≡_, refl, sym, ap, _∙_}
-use mathlib.Core.Bool.{Bool, true, false, cond, not, _&&_, _||_}
-use mathlib.Core.List.{List, [], _∷_, _++_, map}
+use mathlib.Core.Bool.{Bool, true, not, _||_}
 use mathlib.Core.Logic.{⊎-elim}
-use Prim.Native.Nat.{ℕ, zero, suc, _+_, _-_, _*_, _^_, _%_, _≤_, _<_}
-use native.Mathlib.Nat.{zero-add, le-trans}
+use Prim.Native.Nat.{ℕ, _-_, _≤_, _<_}
 use native.Mathlib.Omega.{arith}
-use native.Mathlib.Numerals.{add-one}
-use borrow.Author.Tests.{eq-eqb, ne-eqb, lt-ltb, le-ltb, not-true, not-false}
-use lib.Dec.{eqb, ltb}
-use lib.ListN.{length, drop, take, getD, set, length-take, length-set, length-drop}
-use lib.Seq.{getD-take, slice, length-take-le, take-all, drop-cons}
-use lib.Ieee.{Float, nan}
-use Rattle.lists.proofs.Arrays.{length-of-values}
+use borrow.Author.Tests.{eq-eqb, ne-eqb, not-true, not-false}
 use Rattle.masks.specs.Mask.{inSet, every}
 use Rattle.masks.specs.Operations.{in-by-shift}
 use Rattle.boundary.specs.Outline.{lets}
@@ -59,7 +51,8 @@ returns c =
     let below : l < a .n-sets = omega arith in
     owned-fails (circlesIn (a .c .now) (a .n-sets)) (a .mask) (a .j) (a .p) l (omega (arith, circles-many (a .c .now) (a .n-sets)))
     (sym (in-by-shift (a .mask) l) ∙ eq-eqb _ _ (c .before .before .before .if1 .taken))
-    (ap (lets (a .j) (a .p) l) (circle-of (a .c .now) (a .n-sets) l below ∙ sym (c .before .before .circle-at .ensures)) ∙ sym (c .before .lets .ensures) ∙ not-true _ (c .if2 .taken))
+    (ap (lets (a .j) (a .p) l) (circle-of (a .c .now) (a .n-sets) l below ∙ sym (c .before .before .circle-at .ensures)) ∙ sym (c .before .lets .ensures)
+    ∙ not-true _ (c .if2 .taken))
 
 -- src/walk.rt:51:9
 add-l : tie.Need-add-l Inv-loop μ-loop
@@ -87,7 +80,8 @@ loop-again c =
     (λ w. (
       omega arith,
       every-suc f l (d .loop .inv .1)
-          (not-in (inSet (a .mask) l) (lets (a .j) (a .p) l (circleAt (circlesIn (a .c .now) (a .n-sets)) l)) (sym (in-by-shift (a .mask) l) ∙ ne-eqb _ _ (w .left))),
+          (not-in (inSet (a .mask) l) (lets (a .j) (a .p) l (circleAt (circlesIn (a .c .now) (a .n-sets)) l))
+          (sym (in-by-shift (a .mask) l) ∙ ne-eqb _ _ (w .left))),
     ))
     (c .if1 .came)
 

@@ -1,10 +1,9 @@
 use borrow.Author.Needs.{needs}
 use borrow.Author.Tests.{eq-eqb, ne-eqb}
-use mathlib.Core.Path.{_≡_, refl, sym, ap, _∙_}
+use mathlib.Core.Path.{sym, _∙_}
 use mathlib.Core.Logic.{⊎-elim}
-use Prim.Native.Nat.{_+_, _-_, _*_, _≤_, _<_}
+use Prim.Native.Nat.{_-_, _*_, _≤_}
 use native.Mathlib.Omega.{arith}
-use lib.ListN.{getD, length}
 use Rattle.masks.specs.Operations.{in-by-shift}
 use Rattle.sums.specs.Walk.{circlesIn, marksIn, headsIn, Listing}
 use Rattle.sums.proofs.Walking.{circles-many, listing-self, single-below, single-in, heads-none, heads-in, heads-out, arcs-many, arcs-one}
@@ -48,7 +47,8 @@ returns c =
     let cs = circlesIn (a .c .now) (a .n-sets) in
     let p = s .pre .0 in (
       omega arith,
-      arcs-one cs (a .counts .now) (a .phi .now) (a .adopters .now) (a .n-sets) (a .mask) (a .list .now) (c .if1 .taken) (p .0) (single-below (a .n-sets) (a .mask) (p .0) (p .1 .0) (c .if1 .taken))
+      arcs-one cs (a .counts .now) (a .phi .now) (a .adopters .now) (a .n-sets) (a .mask) (a .list .now) (c .if1 .taken) (p .0)
+          (single-below (a .n-sets) (a .mask) (p .0) (p .1 .0) (c .if1 .taken))
           (single-in (a .n-sets) (a .mask) (p .0) (p .1 .0) (c .if1 .taken)) (p .1 .1),
     )
 
@@ -72,8 +72,10 @@ list-head-requires c κs =
     let s = t .before .before .before .before in
     let a = s .args in
     let in-S = sym (in-by-shift (a .mask) (l .j)) ∙ eq-eqb _ _ (t .if2 .taken) in
-    let h = s .pre .1 (l .j) (omega (arith, circles-many (a .c .now) (a .n-sets), t .before .loop-test .taken)) in-S in
-    ((s .pre .0 .0, (t .before .loop-test .taken, (s .pre .0 .1 .0, in-S))), (h, (l .inv .1, listing-self (circlesIn (a .c .now) (a .n-sets)) (a .counts .now) (a .phi .now) (a .n-sets) (a .mask) _ (l .r) (l .list) (l .inv .2))))
+    let h = s .pre .1 (l .j) (omega (arith, circles-many (a .c .now) (a .n-sets), t .before .loop-test .taken)) in-S in (
+      (s .pre .0 .0, (t .before .loop-test .taken, (s .pre .0 .1 .0, in-S))),
+      (h, (l .inv .1, listing-self (circlesIn (a .c .now) (a .n-sets)) (a .counts .now) (a .phi .now) (a .n-sets) (a .mask) _ (l .r) (l .list) (l .inv .2))),
+    )
 
 -- src/walk.rt:238:9
 add-j : tie.Need-add-j Inv-loop μ-loop
@@ -95,12 +97,14 @@ loop-again c =
       omega (arith, c .before .loop-test .taken),
       omega (arith, w .4, w .2 .ensures .0),
       rw (w .3, w .4)
-          (heads-in cs (a .counts .now) (a .phi .now) (a .adopters .now) (a .n-sets) (a .mask) (l .j) (l .r) (l .list) (l .inv .2) _ _ (sym (in-by-shift (a .mask) (l .j)) ∙ eq-eqb _ _ (w .0 .taken)) (w .2 .ensures .1)),
+          (heads-in cs (a .counts .now) (a .phi .now) (a .adopters .now) (a .n-sets) (a .mask) (l .j) (l .r) (l .list) (l .inv .2) _ _
+          (sym (in-by-shift (a .mask) (l .j)) ∙ eq-eqb _ _ (w .0 .taken)) (w .2 .ensures .1)),
     ))
     (λ w. (
       omega (arith, c .before .loop-test .taken),
       omega (arith, w .2, l .inv .1),
-      rw (w .1, w .2) (heads-out cs (a .counts .now) (a .phi .now) (a .adopters .now) (a .n-sets) (a .mask) (l .j) (l .r) (l .list) (l .inv .2) (sym (in-by-shift (a .mask) (l .j)) ∙ ne-eqb _ _ (w .0 .left))),
+      rw (w .1, w .2) (heads-out cs (a .counts .now) (a .phi .now) (a .adopters .now) (a .n-sets) (a .mask) (l .j) (l .r) (l .list) (l .inv .2)
+          (sym (in-by-shift (a .mask) (l .j)) ∙ ne-eqb _ _ (w .0 .left))),
     ))
     (c .if2 .came)
 
@@ -112,7 +116,8 @@ returns-2 c =
     let a = s .args in
     let cs = circlesIn (a .c .now) (a .n-sets) in (
       omega (arith, l .inv .0, l .inv .1, s .pre .0 .0),
-      arcs-many cs (a .counts .now) (a .phi .now) (a .adopters .now) (a .n-sets) (a .mask) (l .j) (l .r) (l .list) (c .before .before .if1 .left) (circles-many (a .c .now) (a .n-sets) ∙ omega arith) (l .inv .2),
+      arcs-many cs (a .counts .now) (a .phi .now) (a .adopters .now) (a .n-sets) (a .mask) (l .j) (l .r) (l .list) (c .before .before .if1 .left)
+          (circles-many (a .c .now) (a .n-sets) ∙ omega arith) (l .inv .2),
     )
 
 pub walk-spec : {M : Type 1} → statement M
