@@ -160,8 +160,52 @@ pub(crate) fn add_edges(
     let b = bounds;
     let s = mask;
     let n = n_sets;
-    let bottom = add_chords(-b.y_min, total, s, n, b.x_min, b.x_max, reach[0], 0, low, high);
-    let right = add_chords(b.x_max, bottom, s, n, b.y_min, b.y_max, reach[1], 10, low, high);
-    let top = add_chords(b.y_max, right, s, n, b.x_min, b.x_max, reach[2], 20, low, high);
-    add_chords(-b.x_min, top, s, n, b.y_min, b.y_max, reach[3], 30, low, high)
+    let bottom = add_chords(
+        -b.y_min,
+        total,
+        s,
+        n,
+        b.x_min,
+        b.x_max,
+        reach[0],
+        0,
+        low,
+        high,
+    );
+    let right = add_chords(
+        b.x_max,
+        bottom,
+        s,
+        n,
+        b.y_min,
+        b.y_max,
+        reach[1],
+        10,
+        low,
+        high,
+    );
+    let top = add_chords(
+        b.y_max,
+        right,
+        s,
+        n,
+        b.x_min,
+        b.x_max,
+        reach[2],
+        20,
+        low,
+        high,
+    );
+    add_chords(
+        -b.x_min,
+        top,
+        s,
+        n,
+        b.y_min,
+        b.y_max,
+        reach[3],
+        30,
+        low,
+        high,
+    )
 }

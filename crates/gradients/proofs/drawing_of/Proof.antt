@@ -12,15 +12,6 @@ circles : (c : tie.After-circles-of) → take (c .before .before .args .plan .n)
 unfolding planCircles
 circles c = ap (take (c .before .before .args .plan .n)) (c .circles-of .ensures)
 
-circles-of-requires : tie.Need-circles-of-requires
-circles-of-requires c κs = search needs
-
-collect-intersections-requires : tie.Need-collect-intersections-requires
-collect-intersections-requires c κs = search needs
-
-box-of-requires : tie.Need-box-of-requires
-box-of-requires c κs = search needs
-
 returns : tie.Need-returns
 returns c =
     let cs = circles (c .before .before) in
@@ -33,4 +24,4 @@ returns c =
     }
 
 pub drawing-of-spec : {M : Type 1} → statement M
-drawing-of-spec = tie.close (tie.spec circles-of-requires collect-intersections-requires box-of-requires returns)
+drawing-of-spec = tie.close (tie.spec (λ c κs. search needs) (λ c κs. search needs) (λ c κs. search needs) returns)

@@ -36,23 +36,8 @@ answered c = c .check-call .ensures ∙ ap₂ (callAnswer (entry c .args .plan))
 room : (c : tie.After-enum-told) → let s = entry (checked c) in Room (s .args .plan) (s .args .clipped) (given s)
 room c = let s = entry (checked c) in taken-room (s .args .clipped) (s .args .plan) (given s) (ten s) (sym (answered (checked c)) ∙ c .enum-told .given .1)
 
-lent-by-requires : tie.Need-lent-by-requires
-lent-by-requires c κs = search needs
-
-which-requires : tie.Need-which-requires
-which-requires c κs = search needs
-
-check-call-requires : tie.Need-check-call-requires
-check-call-requires c κs = search needs
-
 enum-told : tie.Need-enum-told
 enum-told c = search needs
-
-drawing-of-requires : tie.Need-drawing-of-requires
-drawing-of-requires c κs = search needs
-
-discover-regions-requires : tie.Need-discover-regions-requires
-discover-regions-requires c κs = search needs
 
 write-gradients-requires : tie.Need-write-gradients-requires
 write-gradients-requires c κs =
@@ -62,18 +47,6 @@ write-gradients-requires c κs =
       subst (λ b. Room (s .args .plan) b (given s)) (sym (of .boxed)) (room (k .before)),
       record { boxed = refl; n = of .n; circles = of .circles; points = of .points; container = of .container },
     )
-
-enum-known-answer : tie.Need-enum-known-answer
-enum-known-answer c = search needs
-
-same-length : tie.Need-same-length
-same-length c = search needs
-
-same-length-2 : tie.Need-same-length-2
-same-length-2 c = search needs
-
-same-length-3 : tie.Need-same-length-3
-same-length-3 c = search needs
 
 returns : tie.Need-returns
 returns c =
@@ -94,18 +67,6 @@ returns-2 c =
 
 pub work-out-spec : {M : Type 1} → statement M
 work-out-spec =
-    tie.close
-    (tie.spec
-    lent-by-requires
-    which-requires
-    check-call-requires
-    enum-told
-    drawing-of-requires
-    discover-regions-requires
-    write-gradients-requires
-    enum-known-answer
-    same-length
-    same-length-2
-    same-length-3
-    returns
+    tie.close (tie.spec (λ c κs. search needs) (λ c κs. search needs) (λ c κs. search needs) enum-told (λ c κs. search needs)
+    (λ c κs. search needs) write-gradients-requires (λ c. search needs) (λ c. search needs) (λ c. search needs) (λ c. search needs) returns
     returns-2)

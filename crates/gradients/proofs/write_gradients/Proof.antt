@@ -23,18 +23,6 @@ use Rattle.gradients.proofs.write_gradients.Tie as tie
 ten : (s : tie.Start) → length (s .args .plan .heads) ≡ 10
 ten s = search length-of-values
 
-exclusive-areas-and-gradients-of-requires : tie.Need-exclusive-areas-and-gradients-of-requires
-exclusive-areas-and-gradients-of-requires c κs = search needs
-
-same-length : tie.Need-same-length
-same-length c = search needs
-
-same-length-2 : tie.Need-same-length-2
-same-length-2 c = search needs
-
-same-length-3 : tie.Need-same-length-3
-same-length-3 c = search needs
-
 returns : tie.Need-returns
 returns c =
     let w = c .before .before .before .before .before .before in let s = w .before .before .before .before .before .before .before in
@@ -52,11 +40,4 @@ returns c =
     ∙ plan-rows p (ten s) (room .few) sets q t
 
 pub write-gradients-spec : {M : Type 1} → statement M
-write-gradients-spec =
-    tie.close
-    (tie.spec
-    exclusive-areas-and-gradients-of-requires
-    same-length
-    same-length-2
-    same-length-3
-    returns)
+write-gradients-spec = tie.close (tie.spec (λ c κs. search needs) (λ c. search needs) (λ c. search needs) (λ c. search needs) returns)

@@ -23,22 +23,10 @@ few c = let l = c .before .args .t3 in omega (arith, c .count .ensures, length-t
 next : (c : tie.Else1) → (c .before .before .args .i + 1) % c .before .count .result < c .before .count .result
 next c = next-below (c .before .before .args .i) (c .before .count .result) (c .if1 .left)
 
-count-requires : tie.Need-count-requires
-count-requires c κs = search needs
-
-whole-circle-requires : tie.Need-whole-circle-requires
-whole-circle-requires c κs = search needs
-
 returns : tie.Need-returns
 unfolding gapArc
 returns c = let n = c .before .before in let a = n .before .args in
     rw (le-ltb (a .i) (length (angleList (a .t3))) (omega (arith, n .count .ensures))) (c .whole-circle .ensures)
-
-add-next : tie.Need-add-next
-add-next c = search needs
-
-rem-next : tie.Need-rem-next
-rem-next c = search needs
 
 mul-phi-a : tie.Need-mul-phi-a
 mul-phi-a c = omega (arith, few (c .before))
@@ -52,15 +40,6 @@ mul-phi-b c = omega (arith, few (c .before .before), next (c .before))
 element-copy-out-phi-b : tie.Need-element-copy-out-phi-b
 element-copy-out-phi-b c = omega (arith, few (c .before .before), next (c .before))
 
-gap-requires : tie.Need-gap-requires
-gap-requires c κs = search needs
-
-collapsed-requires : tie.Need-collapsed-requires
-collapsed-requires c κs = search needs
-
-no-arc-requires : tie.Need-no-arc-requires
-no-arc-requires c κs = search needs
-
 returns-2 : tie.Need-returns-2
 unfolding gapArc
 returns-2 c = let d = c .before .before in let e = d .before .before .before .before in let s = e .before .before in let a = s .args in let n = e .before .count in
@@ -71,15 +50,6 @@ returns-2 c = let d = c .before .before in let e = d .before .before .before .be
       sym (d .collapsed .ensures) ∙ c .before .if2 .taken,
     )
     (c .no-arc .ensures)
-
-point-at-requires : tie.Need-point-at-requires
-point-at-requires c κs = search needs
-
-owned-requires : tie.Need-owned-requires
-owned-requires c κs = search needs
-
-between-requires : tie.Need-between-requires
-between-requires c κs = search needs
 
 returns-3 : tie.Need-returns-3
 unfolding gapArc
@@ -95,9 +65,6 @@ returns-3 c =
       sym (c .before .before .owned .ensures) ∙ c .before .if3 .taken,
       c .between .ensures,
     )
-
-no-arc-requires-2 : tie.Need-no-arc-requires-2
-no-arc-requires-2 c κs = search needs
 
 returns-4 : tie.Need-returns-4
 unfolding gapArc
@@ -117,24 +84,6 @@ returns-4 c =
 
 pub arc-from-spec : {M : Type 1} → statement M
 arc-from-spec =
-    tie.close
-    (tie.spec
-    count-requires
-    whole-circle-requires
-    returns
-    add-next
-    rem-next
-    mul-phi-a
-    element-copy-out-phi-a
-    mul-phi-b
-    element-copy-out-phi-b
-    gap-requires
-    collapsed-requires
-    no-arc-requires
-    returns-2
-    point-at-requires
-    owned-requires
-    between-requires
-    returns-3
-    no-arc-requires-2
-    returns-4)
+    tie.close (tie.spec (λ c κs. search needs) (λ c κs. search needs) returns (λ c. search needs) (λ c. search needs) mul-phi-a
+    element-copy-out-phi-a mul-phi-b element-copy-out-phi-b (λ c κs. search needs) (λ c κs. search needs) (λ c κs. search needs) returns-2
+    (λ c κs. search needs) (λ c κs. search needs) (λ c κs. search needs) returns-3 (λ c κs. search needs) returns-4)

@@ -10,9 +10,6 @@ use Rattle.boundary.proofs.candidates.gaps.Tie as tie
 long : (c : tie.Start) → length (c .args .angles .phi) ≡ 32
 long c = search needs
 
-count-requires : tie.Need-count-requires
-count-requires c κs = search needs
-
 returns : tie.Need-returns
 returns c = (omega (arith, c .before .count .ensures), omega arith)
 
@@ -22,4 +19,4 @@ returns-2 c =
     (omega (arith, c .before .count .ensures), omega (arith, c .before .count .ensures, length-take (l .n) (l .phi), long (c .before .before)))
 
 pub gaps-spec : {M : Type 1} → statement M
-gaps-spec = tie.close (tie.spec count-requires returns returns-2)
+gaps-spec = tie.close (tie.spec (λ c κs. search needs) returns returns-2)

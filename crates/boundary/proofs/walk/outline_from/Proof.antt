@@ -19,9 +19,6 @@ Inv-loop arcs n all₀ i₀ all i = (length (arcs .all) ≡ 180) × Copied (λ a
 abbrev μ-loop : tie.MeasureT-loop
 μ-loop arcs n all₀ i₀ all i = 180 - i
 
-element-copy-out-all : tie.Need-element-copy-out-all Inv-loop μ-loop
-element-copy-out-all c = search needs
-
 loop-holds : tie.Need-loop-holds Inv-loop μ-loop
 loop-holds c =
     let long : length (c .before .args .t1 .all) ≡ 180 = search length-of-values in (
@@ -77,18 +74,5 @@ returns-2 c =
 
 pub outline-from-spec : {M : Type 1} → statement M
 outline-from-spec =
-    tie.close
-    (tie.spec
-    Inv-loop
-    μ-loop
-    element-copy-out-all
-    loop-holds
-    returns
-    mul-all
-    element-copy-out-all-2
-    mul-all-2
-    array-set-from-all
-    add-i
-    loop-less
-    loop-again
-    returns-2)
+    tie.close (tie.spec Inv-loop μ-loop (λ c. search needs) loop-holds returns mul-all element-copy-out-all-2 mul-all-2 array-set-from-all
+    add-i loop-less loop-again returns-2)

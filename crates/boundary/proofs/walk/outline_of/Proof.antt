@@ -19,12 +19,6 @@ ten-heads c = search needs
 ten-circles : (c : tie.Start) → length (c .args .set .circles) ≡ 10
 ten-circles c = search length-of-values
 
-looked-at-requires : tie.Need-looked-at-requires
-looked-at-requires c κs = search needs
-
-walk-requires : tie.Need-walk-requires
-walk-requires c κs = search needs
-
 returns : tie.Need-returns
 returns c =
     let s = c .before .before in
@@ -39,4 +33,4 @@ returns c =
     (walked, c .walk .ensures .1 ∙ ap length walked)
 
 pub outline-of-spec : {M : Type 1} → statement M
-outline-of-spec = tie.close (tie.spec looked-at-requires walk-requires returns)
+outline-of-spec = tie.close (tie.spec (λ c κs. search needs) (λ c κs. search needs) returns)

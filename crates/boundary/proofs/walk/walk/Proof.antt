@@ -30,9 +30,6 @@ element-copy-out-full-circle :
     tie.Need-element-copy-out-full-circle Inv-loop2 μ-loop2 Inv-loop μ-loop
 element-copy-out-full-circle c = search needs
 
-full-circle-requires : tie.Need-full-circle-requires Inv-loop2 μ-loop2 Inv-loop μ-loop
-full-circle-requires c κs = search needs
-
 loop-holds : tie.Need-loop-holds Inv-loop2 μ-loop2 Inv-loop μ-loop
 unfolding upTo
 loop-holds c =
@@ -63,20 +60,11 @@ element-copy-out-angles-for :
     tie.Need-element-copy-out-angles-for Inv-loop2 μ-loop2 Inv-loop μ-loop
 element-copy-out-angles-for c = omega arith
 
-angles-for-requires : tie.Need-angles-for-requires Inv-loop2 μ-loop2 Inv-loop μ-loop
-angles-for-requires c κs = search needs
-
-gaps-requires : tie.Need-gaps-requires Inv-loop2 μ-loop2 Inv-loop μ-loop
-gaps-requires c κs = search needs
-
 loop2-holds : tie.Need-loop2-holds Inv-loop2 μ-loop2 Inv-loop μ-loop
 loop2-holds c =
     let angles = c .before in
     let inv = angles .before .before .before .before .before .loop .inv in
     gaps-start inv _ _ _ (omega arith) (omega arith) refl (angles .angles-for .ensures .1) (c .gaps .ensures .0) (c .gaps .ensures .1)
-
-arc-from-requires : tie.Need-arc-from-requires Inv-loop2 μ-loop2 Inv-loop μ-loop
-arc-from-requires c κs = search needs
 
 -- where there is an arc to put, there is a place free
 free : (c : tie.Then2 Inv-loop2 μ-loop2 Inv-loop μ-loop) → c .before .before .before .before .loop2 .held < 320
@@ -121,31 +109,6 @@ returns-2 c = let inv = c .before .loop .inv in (all-by-room inv (omega arith), 
 
 pub walk-spec : {M : Type 1} → statement M
 walk-spec =
-    tie.close
-    (tie.spec
-    Inv-loop2
-    μ-loop2
-    Inv-loop
-    μ-loop
-    element-copy-out-full-circle
-    full-circle-requires
-    loop-holds
-    returns
-    mul-circle
-    element-copy-out-circle
-    mul-angles-for
-    element-copy-out-angles-for
-    angles-for-requires
-    gaps-requires
-    loop2-holds
-    arc-from-requires
-    mul-all
-    array-set-from-all
-    add-held
-    add-i
-    loop2-less
-    loop2-again
-    add-k
-    loop-less
-    loop-again
-    returns-2)
+    tie.close (tie.spec Inv-loop2 μ-loop2 Inv-loop μ-loop element-copy-out-full-circle (λ c κs. search needs) loop-holds returns mul-circle
+    element-copy-out-circle mul-angles-for element-copy-out-angles-for (λ c κs. search needs) (λ c κs. search needs) loop2-holds
+    (λ c κs. search needs) mul-all array-set-from-all add-held add-i loop2-less loop2-again add-k loop-less loop-again returns-2)

@@ -9,25 +9,10 @@ use Rattle.clip.proofs.Rows.{area-of-nothing, area-by-sum}
 use Rattle.clip.proofs.area.clipped_region_area.Statement.{statement}
 use Rattle.clip.proofs.area.clipped_region_area.Tie as tie
 
-empty-box-requires : tie.Need-empty-box-requires
-empty-box-requires c κs = search needs
-
 returns : tie.Need-returns
 returns c = let a = c .before .before .args in
     area-of-nothing (a .bounds) (membersOf (take (a .n-sets) (a .circles)) (pointList (a .points)) (a .mask))
     (sym (c .before .empty-box .ensures) ∙ c .if1 .taken)
-
-members-of-requires : tie.Need-members-of-requires
-members-of-requires c κs = search needs
-
-outline-of-requires : tie.Need-outline-of-requires
-outline-of-requires c κs = search needs
-
-arcs-sum-requires : tie.Need-arcs-sum-requires
-arcs-sum-requires c κs = search needs
-
-add-edges-requires : tie.Need-add-edges-requires
-add-edges-requires c κs = search needs
 
 returns-2 : tie.Need-returns-2
 returns-2 c = let t = c .before in
@@ -47,12 +32,5 @@ returns-2 c = let t = c .before in
 
 pub clipped-region-area-spec : {M : Type 1} → statement M
 clipped-region-area-spec =
-    tie.close
-    (tie.spec
-    empty-box-requires
-    returns
-    members-of-requires
-    outline-of-requires
-    arcs-sum-requires
-    add-edges-requires
-    returns-2)
+    tie.close (tie.spec (λ c κs. search needs) returns (λ c κs. search needs) (λ c κs. search needs) (λ c κs. search needs)
+    (λ c κs. search needs) returns-2)

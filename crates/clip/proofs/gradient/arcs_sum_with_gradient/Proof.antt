@@ -66,18 +66,6 @@ returns-2 c = arcs-by-room (c .before .loop .inv .added) (omega arith)
 
 pub arcs-sum-with-gradient-spec : {M : Type 1} → statement M
 arcs-sum-with-gradient-spec =
-    tie.close
-    (tie.spec
-    Inv-loop
-    μ-loop
-    loop-holds
-    same-length
-    returns
-    mul-add-clipped-arc-with-gradient
-    element-copy-out-add-clipped-arc-with-gradient
-    add-clipped-arc-with-gradient-requires
-    add-i
-    loop-less
-    loop-again
-    same-length-2
+    tie.close (tie.spec Inv-loop μ-loop loop-holds same-length returns mul-add-clipped-arc-with-gradient
+    element-copy-out-add-clipped-arc-with-gradient add-clipped-arc-with-gradient-requires add-i loop-less loop-again same-length-2
     returns-2)

@@ -29,31 +29,16 @@ few c =
       long s,
     )
 
-empty-box-requires : tie.Need-empty-box-requires
-empty-box-requires c κs = search needs
-
 returns : tie.Need-returns
 returns c = let a = c .before .before .before .args in
     gradient-of-members-nothing (a .bounds) (membersOf (take (a .n-sets) (a .circles)) (pointList (a .points)) (a .mask)) (a .grad .now)
     (sym (c .before .empty-box .ensures) ∙ c .if1 .taken)
-
-members-of-requires : tie.Need-members-of-requires
-members-of-requires c κs = search needs
-
-outline-of-requires : tie.Need-outline-of-requires
-outline-of-requires c κs = search needs
-
-arcs-sum-with-gradient-requires : tie.Need-arcs-sum-with-gradient-requires
-arcs-sum-with-gradient-requires c κs = search needs
 
 mul-add-edges-with-gradient : tie.Need-mul-add-edges-with-gradient
 mul-add-edges-with-gradient c = omega (arith, few (c .before .before .before .before .before .before .before))
 
 add-edges-with-gradient-requires : tie.Need-add-edges-with-gradient-requires
 add-edges-with-gradient-requires c κs = omega (arith, few (c .before .before .before .before .before .before .before))
-
-same-length : tie.Need-same-length
-same-length c = search needs
 
 returns-2 : tie.Need-returns-2
 returns-2 c = let e = c .before .before in
@@ -75,14 +60,5 @@ returns-2 c = let e = c .before .before in
 
 pub clipped-region-area-and-gradient-spec : {M : Type 1} → statement M
 clipped-region-area-and-gradient-spec =
-    tie.close
-    (tie.spec
-    empty-box-requires
-    returns
-    members-of-requires
-    outline-of-requires
-    arcs-sum-with-gradient-requires
-    mul-add-edges-with-gradient
-    add-edges-with-gradient-requires
-    same-length
-    returns-2)
+    tie.close (tie.spec (λ c κs. search needs) returns (λ c κs. search needs) (λ c κs. search needs) (λ c κs. search needs)
+    mul-add-edges-with-gradient add-edges-with-gradient-requires (λ c. search needs) returns-2)

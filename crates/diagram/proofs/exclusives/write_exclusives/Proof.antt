@@ -8,18 +8,6 @@ use borrow.Author.Needs.{needs}
 use Rattle.diagram.proofs.exclusives.write_exclusives.Statement.{statement}
 use Rattle.diagram.proofs.exclusives.write_exclusives.Tie as tie
 
-write-rows-requires : tie.Need-write-rows-requires
-write-rows-requires c κs = search needs
-
-to-exclusive-areas-in-place-requires : tie.Need-to-exclusive-areas-in-place-requires
-to-exclusive-areas-in-place-requires c κs = search needs
-
-same-length : tie.Need-same-length
-same-length c = search needs
-
-same-length-2 : tie.Need-same-length-2
-same-length-2 c = search needs
-
 returns : tie.Need-returns
 returns c =
     let x = c .before .before in let w = x .before .before .before .before .before .before .before in
@@ -31,11 +19,4 @@ returns c =
     )
 
 pub write-exclusives-spec : {M : Type 1} → statement M
-write-exclusives-spec =
-    tie.close
-    (tie.spec
-    write-rows-requires
-    to-exclusive-areas-in-place-requires
-    same-length
-    same-length-2
-    returns)
+write-exclusives-spec = tie.close (tie.spec (λ c κs. search needs) (λ c κs. search needs) (λ c. search needs) (λ c. search needs) returns)

@@ -42,29 +42,11 @@ given c = entry (bounded c)
 abbrev worked : tie.After-write-areas → List Float
 worked c = c .write-areas .last .1 .1 .1 .1 .1 .1 .0
 
-bounds-requires : tie.Need-bounds-requires
-bounds-requires c κs = search needs
-
-write-areas-requires : tie.Need-write-areas-requires
-write-areas-requires c κs = search needs
-
-area-requires : tie.Need-area-requires
-area-requires c κs = search needs
-
 slice-write-areas : tie.Need-slice-write-areas
 slice-write-areas c =
     let w = first c in
     let s = given w in
     omega (arith, w .write-areas .kept .1 .1 .1 .1 .1 .1 .0, s .pre .2, pow-pos (s .args .drawing .n))
-
-clear-absent-requires : tie.Need-clear-absent-requires
-clear-absent-requires c κs = search needs
-
-write-presence-requires : tie.Need-write-presence-requires
-write-presence-requires c κs = search needs
-
-same-length : tie.Need-same-length
-same-length c = search needs
 
 same-length-2 : tie.Need-same-length-2
 same-length-2 c =
@@ -96,14 +78,5 @@ returns c =
 
 pub write-rows-spec : {M : Type 1} → statement M
 write-rows-spec =
-    tie.close
-    (tie.spec
-    bounds-requires
-    write-areas-requires
-    area-requires
-    slice-write-areas
-    clear-absent-requires
-    write-presence-requires
-    same-length
-    same-length-2
-    returns)
+    tie.close (tie.spec (λ c κs. search needs) (λ c κs. search needs) (λ c κs. search needs) slice-write-areas (λ c κs. search needs)
+    (λ c κs. search needs) (λ c. search needs) same-length-2 returns)

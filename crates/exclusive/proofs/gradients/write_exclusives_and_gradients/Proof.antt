@@ -8,21 +8,6 @@ use borrow.Author.Needs.{needs}
 use Rattle.exclusive.proofs.gradients.write_exclusives_and_gradients.Statement.{statement}
 use Rattle.exclusive.proofs.gradients.write_exclusives_and_gradients.Tie as tie
 
-subtract-levels-requires : tie.Need-subtract-levels-requires
-subtract-levels-requires c κs = search needs
-
-subtract-supersets-requires : tie.Need-subtract-supersets-requires
-subtract-supersets-requires c κs = search needs
-
-replace-rows-requires : tie.Need-replace-rows-requires
-replace-rows-requires c κs = search needs
-
-same-length : tie.Need-same-length
-same-length c = search needs
-
-same-length-2 : tie.Need-same-length-2
-same-length-2 c = search needs
-
 returns : tie.Need-returns
 returns c =
     let w = c .before .before .before .before in let g = w .before .before .before .before .before in let f = g .before .before .before .before in
@@ -34,11 +19,5 @@ returns c =
 
 pub write-exclusives-and-gradients-spec : {M : Type 1} → statement M
 write-exclusives-and-gradients-spec =
-    tie.close
-    (tie.spec
-    subtract-levels-requires
-    subtract-supersets-requires
-    replace-rows-requires
-    same-length
-    same-length-2
+    tie.close (tie.spec (λ c κs. search needs) (λ c κs. search needs) (λ c κs. search needs) (λ c. search needs) (λ c. search needs)
     returns)

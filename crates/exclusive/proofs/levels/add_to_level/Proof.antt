@@ -23,33 +23,6 @@ loop-holds c =
     let p = c .pre in let a = c .args in
     (p .0, p .1, p .2, omega arith, adding-start (a .order .now) (a .lo) (a .t) (a .number) (a .sums .now))
 
-mul-is-subset : tie.Need-mul-is-subset Inv-loop μ-loop
-mul-is-subset c = search needs
-
-element-copy-out-is-subset : tie.Need-element-copy-out-is-subset Inv-loop μ-loop
-element-copy-out-is-subset c = search needs
-
-is-subset-requires : tie.Need-is-subset-requires Inv-loop μ-loop
-is-subset-requires c κs = search needs
-
-mul-sums : tie.Need-mul-sums Inv-loop μ-loop
-mul-sums c = search needs
-
-element-copy-out-sums : tie.Need-element-copy-out-sums Inv-loop μ-loop
-element-copy-out-sums c = search needs
-
-mul-sums-2 : tie.Need-mul-sums-2 Inv-loop μ-loop
-mul-sums-2 c = search needs
-
-element-write-sums : tie.Need-element-write-sums Inv-loop μ-loop
-element-write-sums c = search needs
-
-add-i : tie.Need-add-i Inv-loop μ-loop
-add-i c = search needs
-
-loop-less : tie.Need-loop-less Inv-loop μ-loop
-loop-less c = search needs
-
 loop-again : tie.Need-loop-again Inv-loop μ-loop
 loop-again c =
     let j = c .before in let s = j .before in let m = s .before .before in let l = m .before .loop in let i = l .inv in let a = m .before .before .args in
@@ -70,19 +43,5 @@ returns c =
 
 pub add-to-level-spec : {M : Type 1} → statement M
 add-to-level-spec =
-    tie.close
-    (tie.spec
-    Inv-loop
-    μ-loop
-    loop-holds
-    mul-is-subset
-    element-copy-out-is-subset
-    is-subset-requires
-    mul-sums
-    element-copy-out-sums
-    mul-sums-2
-    element-write-sums
-    add-i
-    loop-less
-    loop-again
-    returns)
+    tie.close (tie.spec Inv-loop μ-loop loop-holds (λ c. search needs) (λ c. search needs) (λ c κs. search needs) (λ c. search needs)
+    (λ c. search needs) (λ c. search needs) (λ c. search needs) (λ c. search needs) (λ c. search needs) loop-again returns)

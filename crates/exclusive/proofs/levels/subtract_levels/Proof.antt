@@ -35,9 +35,6 @@ Inv-loop present areas₀ n order count sums₀ hi₀ areas sums hi =
 abbrev μ-loop : tie.MeasureT-loop
 μ-loop present areas₀ n order count sums₀ hi₀ areas sums hi = hi
 
-row-order-requires : tie.Need-row-order-requires Inv-loop2 μ-loop2 Inv-loop μ-loop
-row-order-requires c κs = search needs
-
 loop-holds : tie.Need-loop-holds Inv-loop2 μ-loop2 Inv-loop μ-loop
 loop-holds c =
     let r = c .before in let s = r .before .before .before in let p = s .pre in let a = s .args in
@@ -52,9 +49,6 @@ loop-holds c =
       pass-start (a .n) (stands (a .present .now)) 1 (rows .n) (a .areas .now) (omega (arith, length-take (rows .n) (rows .all), ap length (e .0))),
       λ i h. getD-replicate 1024 i zero64 nan (omega (arith, e .1 .0)),
     )
-
-level-start-requires : tie.Need-level-start-requires Inv-loop2 μ-loop2 Inv-loop μ-loop
-level-start-requires c κs = search needs
 
 sum-level-requires : tie.Need-sum-level-requires Inv-loop2 μ-loop2 Inv-loop μ-loop
 sum-level-requires c κs =
@@ -83,9 +77,6 @@ loop2-holds c =
       λ first p d. p,
     )
 
-loop-less : tie.Need-loop-less Inv-loop2 μ-loop2 Inv-loop μ-loop
-loop-less c = search needs
-
 loop-again : tie.Need-loop-again Inv-loop2 μ-loop2 Inv-loop μ-loop
 loop-again c =
     let t = c .before .before in let v = t .before .before .before .before in let m = v .before .before in let l = m .before .loop in let i = l .inv in
@@ -102,15 +93,6 @@ loop-again c =
           (i .0) (i .5) (i .7) (i .8) (v .level-start .ensures .1) (t .sum-level .ensures)),
       λ k h. j .9 k (omega (arith, h, c .loop2-test .left)),
     )
-
-sub-hi : tie.Need-sub-hi Inv-loop2 μ-loop2 Inv-loop μ-loop
-sub-hi c = search needs
-
-mul-s : tie.Need-mul-s Inv-loop2 μ-loop2 Inv-loop μ-loop
-mul-s c = search needs
-
-array-read-s : tie.Need-array-read-s Inv-loop2 μ-loop2 Inv-loop μ-loop
-array-read-s c = search needs
 
 -- the row before place hi is a row of the table
 module _ (c : tie.In-loop2 Inv-loop2 μ-loop2 Inv-loop μ-loop) where
@@ -135,20 +117,11 @@ mul-areas c = omega (arith, few c)
 slice-read-areas : tie.Need-slice-read-areas Inv-loop2 μ-loop2 Inv-loop μ-loop
 slice-read-areas c = inside (c .before)
 
-mul-areas-2 : tie.Need-mul-areas-2 Inv-loop2 μ-loop2 Inv-loop μ-loop
-mul-areas-2 c = search needs
-
-array-read-areas : tie.Need-array-read-areas Inv-loop2 μ-loop2 Inv-loop μ-loop
-array-read-areas c = search needs
-
 mul-areas-3 : tie.Need-mul-areas-3 Inv-loop2 μ-loop2 Inv-loop μ-loop
 mul-areas-3 c = omega (arith, few (c .before))
 
 slice-write-areas : tie.Need-slice-write-areas Inv-loop2 μ-loop2 Inv-loop μ-loop
 slice-write-areas c = inside (c .before)
-
-loop2-less : tie.Need-loop2-less Inv-loop2 μ-loop2 Inv-loop μ-loop
-loop2-less c = search needs
 
 loop2-again : tie.Need-loop2-again Inv-loop2 μ-loop2 Inv-loop μ-loop
 loop2-again c =
@@ -170,9 +143,6 @@ loop2-again c =
           (subst (λ (i : ℕ). Pass (a .n) (stands (a .present .now)) 1 i first (l .areas)) z (j .10 first p d)),
     )
 
-same-length : tie.Need-same-length Inv-loop2 μ-loop2 Inv-loop μ-loop
-same-length c = search needs
-
 returns : tie.Need-returns Inv-loop2 μ-loop2 Inv-loop μ-loop
 returns c =
     let l = c .before .loop in let a = c .before .before .before .before .before .before .args in
@@ -182,29 +152,6 @@ returns c =
 
 pub subtract-levels-spec : {M : Type 1} → statement M
 subtract-levels-spec =
-    tie.close
-    (tie.spec
-    Inv-loop2
-    μ-loop2
-    Inv-loop
-    μ-loop
-    row-order-requires
-    loop-holds
-    level-start-requires
-    sum-level-requires
-    loop2-holds
-    loop-less
-    loop-again
-    sub-hi
-    mul-s
-    array-read-s
-    mul-areas
-    slice-read-areas
-    mul-areas-2
-    array-read-areas
-    mul-areas-3
-    slice-write-areas
-    loop2-less
-    loop2-again
-    same-length
-    returns)
+    tie.close (tie.spec Inv-loop2 μ-loop2 Inv-loop μ-loop (λ c κs. search needs) loop-holds (λ c κs. search needs) sum-level-requires
+    loop2-holds (λ c. search needs) loop-again (λ c. search needs) (λ c. search needs) (λ c. search needs) mul-areas slice-read-areas
+    (λ c. search needs) (λ c. search needs) mul-areas-3 slice-write-areas (λ c. search needs) loop2-again (λ c. search needs) returns)

@@ -32,12 +32,6 @@ loop-holds c =
       summing-start (a .order .now) (a .lo) (a .hi) (λ T. getD (a .areas .now) T nan) (take (a .count) (a .order .now)) (a .sums .now),
     )
 
-mul-t : tie.Need-mul-t Inv-loop μ-loop
-mul-t c = search needs
-
-element-copy-out-t : tie.Need-element-copy-out-t Inv-loop μ-loop
-element-copy-out-t c = search needs
-
 -- the row at j is a row of the table
 inside : (c : tie.In-loop Inv-loop μ-loop) → getD (c .before .before .before .args .order .now) (c .before .loop .j) 0 < length (c .before .before .before .args .areas .now)
 inside c =
@@ -54,12 +48,6 @@ shared-slice-read-add-to-level c = inside (c .before .before)
 add-to-level-requires : tie.Need-add-to-level-requires Inv-loop μ-loop
 add-to-level-requires c κs =
     let i = c .before .before .before .before .loop .inv in (omega (arith, i .0, i .1), i .2, i .3)
-
-add-j : tie.Need-add-j Inv-loop μ-loop
-add-j c = search needs
-
-loop-less : tie.Need-loop-less Inv-loop μ-loop
-loop-less c = search needs
 
 loop-again : tie.Need-loop-again Inv-loop μ-loop
 loop-again c =
@@ -83,17 +71,5 @@ returns c =
 
 pub sum-level-spec : {M : Type 1} → statement M
 sum-level-spec =
-    tie.close
-    (tie.spec
-    Inv-loop
-    μ-loop
-    loop-holds
-    mul-t
-    element-copy-out-t
-    mul-add-to-level
-    shared-slice-read-add-to-level
-    add-to-level-requires
-    add-j
-    loop-less
-    loop-again
-    returns)
+    tie.close (tie.spec Inv-loop μ-loop loop-holds (λ c. search needs) (λ c. search needs) mul-add-to-level shared-slice-read-add-to-level
+    add-to-level-requires (λ c. search needs) (λ c. search needs) loop-again returns)

@@ -23,19 +23,10 @@ Inv-loop present n masks heads₀ s₀ heads s =
 abbrev μ-loop : tie.MeasureT-loop
 μ-loop present n masks heads₀ s₀ heads s = masks - s
 
-shl-masks : tie.Need-shl-masks Inv-loop μ-loop
-shl-masks c = search needs
-
 loop-holds : tie.Need-loop-holds Inv-loop μ-loop
 loop-holds c =
     let p = c .before .pre in let a = c .before .args in
     (p .0, shifted-is 64 (a .n) (omega arith), p .1, omega arith, written-none (λ S. cond (stands (a .present .now) S) (ones S) 11) (replicate 1024 0))
-
-shared-slice-read-heads-of : tie.Need-shared-slice-read-heads-of Inv-loop μ-loop
-shared-slice-read-heads-of c = search needs
-
-heads-of-requires : tie.Need-heads-of-requires Inv-loop μ-loop
-heads-of-requires c κs = search needs
 
 few : (c : tie.In-loop Inv-loop μ-loop) → c .before .loop .s < 1024
 few c = let i = c .before .loop .inv in omega (arith, c .loop-test .taken, i .1, masks-le (c .before .before .before .args .n) (i .0))
@@ -45,12 +36,6 @@ mul-heads c = omega (arith, few (c .before .before))
 
 array-write-heads : tie.Need-array-write-heads Inv-loop μ-loop
 array-write-heads c = few (c .before .before)
-
-add-s : tie.Need-add-s Inv-loop μ-loop
-add-s c = search needs
-
-loop-less : tie.Need-loop-less Inv-loop μ-loop
-loop-less c = search needs
 
 loop-again : tie.Need-loop-again Inv-loop μ-loop
 loop-again c =
@@ -72,17 +57,5 @@ returns c =
 
 pub row-heads-spec : {M : Type 1} → statement M
 row-heads-spec =
-    tie.close
-    (tie.spec
-    Inv-loop
-    μ-loop
-    shl-masks
-    loop-holds
-    shared-slice-read-heads-of
-    heads-of-requires
-    mul-heads
-    array-write-heads
-    add-s
-    loop-less
-    loop-again
-    returns)
+    tie.close (tie.spec Inv-loop μ-loop (λ c. search needs) loop-holds (λ c. search needs) (λ c κs. search needs) mul-heads
+    array-write-heads (λ c. search needs) (λ c. search needs) loop-again returns)

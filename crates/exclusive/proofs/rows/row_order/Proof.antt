@@ -47,9 +47,6 @@ Inv-loop present n masks heads all₀ k₀ c₀ all k c =
 abbrev μ-loop : tie.MeasureT-loop
 μ-loop present n masks heads all₀ k₀ c₀ all k c = n + 1 - c
 
-shl-masks : tie.Need-shl-masks Inv-loop2 μ-loop2 Inv-loop μ-loop
-shl-masks c = search needs
-
 row-heads-requires : tie.Need-row-heads-requires Inv-loop2 μ-loop2 Inv-loop μ-loop
 row-heads-requires c κs = let p = c .before .pre in (p .0, p .1)
 
@@ -102,12 +99,6 @@ array-write-all c = free c
 add-k : tie.Need-add-k Inv-loop2 μ-loop2 Inv-loop μ-loop
 add-k c = omega (arith, free c)
 
-add-s : tie.Need-add-s Inv-loop2 μ-loop2 Inv-loop μ-loop
-add-s c = search needs
-
-loop2-less : tie.Need-loop2-less Inv-loop2 μ-loop2 Inv-loop μ-loop
-loop2-less c = search needs
-
 loop2-again : tie.Need-loop2-again Inv-loop2 μ-loop2 Inv-loop μ-loop
 loop2-again c =
     let m = c .before in
@@ -136,12 +127,6 @@ loop2-again c =
     (i .0, i .1, i .2, omega arith, ap length (w .1) ∙ i .4, w .2 ∙ i .5 ∙ ap length e, ap₂ (λ (n : ℕ) (t : List ℕ). take n t) (w .2) (w .1) ∙ i .6 ∙ e, i .7))
     (c .if1 .came)
 
-add-c : tie.Need-add-c Inv-loop2 μ-loop2 Inv-loop μ-loop
-add-c c = search needs
-
-loop-less : tie.Need-loop-less Inv-loop2 μ-loop2 Inv-loop μ-loop
-loop-less c = search needs
-
 loop-again : tie.Need-loop-again Inv-loop2 μ-loop2 Inv-loop μ-loop
 loop-again c =
     let l = c .before .loop2 in
@@ -167,26 +152,6 @@ returns c =
 
 pub row-order-spec : {M : Type 1} → statement M
 row-order-spec =
-    tie.close
-    (tie.spec
-    Inv-loop2
-    μ-loop2
-    Inv-loop
-    μ-loop
-    shl-masks
-    row-heads-requires
-    loop-holds
-    loop2-holds
-    mul-if1
-    array-read-if1
-    cast-if1
-    mul-all
-    array-write-all
-    add-k
-    add-s
-    loop2-less
-    loop2-again
-    add-c
-    loop-less
-    loop-again
-    returns)
+    tie.close (tie.spec Inv-loop2 μ-loop2 Inv-loop μ-loop (λ c. search needs) row-heads-requires loop-holds loop2-holds mul-if1
+    array-read-if1 cast-if1 mul-all array-write-all add-k (λ c. search needs) (λ c. search needs) loop2-again (λ c. search needs)
+    (λ c. search needs) loop-again returns)

@@ -23,33 +23,6 @@ loop-holds c =
     let p = c .pre in let a = c .args in
     (omega arith, p .0, p .1, written-none (λ q. getD (a .sums .now) q nan +ᶠ getD (a .numbers .now) (a .at + q) nan) (a .sums .now))
 
-mul-sums : tie.Need-mul-sums Inv-loop μ-loop
-mul-sums c = search needs
-
-element-copy-out-sums : tie.Need-element-copy-out-sums Inv-loop μ-loop
-element-copy-out-sums c = search needs
-
-add-sums : tie.Need-add-sums Inv-loop μ-loop
-add-sums c = search needs
-
-mul-sums-2 : tie.Need-mul-sums-2 Inv-loop μ-loop
-mul-sums-2 c = search needs
-
-shared-slice-read-sums : tie.Need-shared-slice-read-sums Inv-loop μ-loop
-shared-slice-read-sums c = search needs
-
-mul-sums-3 : tie.Need-mul-sums-3 Inv-loop μ-loop
-mul-sums-3 c = search needs
-
-element-write-sums : tie.Need-element-write-sums Inv-loop μ-loop
-element-write-sums c = search needs
-
-add-q : tie.Need-add-q Inv-loop μ-loop
-add-q c = search needs
-
-loop-less : tie.Need-loop-less Inv-loop μ-loop
-loop-less c = search needs
-
 loop-again : tie.Need-loop-again Inv-loop μ-loop
 loop-again c =
     let l = c .before .before .before .loop in let i = l .inv in let a = c .before .before .before .before .args in
@@ -73,19 +46,5 @@ returns c =
 
 pub add-eight-spec : {M : Type 1} → statement M
 add-eight-spec =
-    tie.close
-    (tie.spec
-    Inv-loop
-    μ-loop
-    loop-holds
-    mul-sums
-    element-copy-out-sums
-    add-sums
-    mul-sums-2
-    shared-slice-read-sums
-    mul-sums-3
-    element-write-sums
-    add-q
-    loop-less
-    loop-again
-    returns)
+    tie.close (tie.spec Inv-loop μ-loop loop-holds (λ c. search needs) (λ c. search needs) (λ c. search needs) (λ c. search needs)
+    (λ c. search needs) (λ c. search needs) (λ c. search needs) (λ c. search needs) (λ c. search needs) loop-again returns)

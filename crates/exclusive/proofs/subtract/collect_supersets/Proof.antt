@@ -27,33 +27,12 @@ loop-holds : tie.Need-loop-holds Inv-loop μ-loop
 loop-holds c =
     let p = c .pre in let a = c .args in (length-take (a .count) (a .order .now) ∙ omega (arith, p), p .0, p .2, omega arith, omega arith, refl)
 
-mul-t : tie.Need-mul-t Inv-loop μ-loop
-mul-t c = search needs
-
-element-copy-out-t : tie.Need-element-copy-out-t Inv-loop μ-loop
-element-copy-out-t c = search needs
-
-mul-supersets : tie.Need-mul-supersets Inv-loop μ-loop
-mul-supersets c = search needs
-
-element-write-supersets : tie.Need-element-write-supersets Inv-loop μ-loop
-element-write-supersets c = search needs
-
-is-subset-requires : tie.Need-is-subset-requires Inv-loop μ-loop
-is-subset-requires c κs = search needs
-
 -- one row at most is found
 one-more : (c : tie.Joined1 Inv-loop μ-loop) → c .if1 .one ≤ 1
 one-more c = ⊎-elim (λ w. omega (arith, w .1)) (λ w. omega (arith, w .1)) (c .if1 .came)
 
 add-found : tie.Need-add-found Inv-loop μ-loop
 add-found c = let i = c .before .before .before .before .before .loop .inv in omega (arith, one-more (c .before), i .4)
-
-add-j : tie.Need-add-j Inv-loop μ-loop
-add-j c = search needs
-
-loop-less : tie.Need-loop-less Inv-loop μ-loop
-loop-less c = search needs
 
 loop-again : tie.Need-loop-again Inv-loop μ-loop
 loop-again c =
@@ -92,18 +71,5 @@ returns c =
 
 pub collect-supersets-spec : {M : Type 1} → statement M
 collect-supersets-spec =
-    tie.close
-    (tie.spec
-    Inv-loop
-    μ-loop
-    loop-holds
-    mul-t
-    element-copy-out-t
-    mul-supersets
-    element-write-supersets
-    is-subset-requires
-    add-found
-    add-j
-    loop-less
-    loop-again
-    returns)
+    tie.close (tie.spec Inv-loop μ-loop loop-holds (λ c. search needs) (λ c. search needs) (λ c. search needs) (λ c. search needs)
+    (λ c κs. search needs) add-found (λ c. search needs) (λ c. search needs) loop-again returns)

@@ -46,9 +46,6 @@ loop-holds c =
       row-start (a .width) (a .s) (rowSums (a .width) (a .numbers .now) (take (a .count) (a .rows .now))) (a .numbers .now) (a .numbers .now),
     )
 
-eight-start-requires : tie.Need-eight-start-requires Inv-loop2 μ-loop2 Inv-loop μ-loop
-eight-start-requires c κs = search needs
-
 sum-eight-requires : tie.Need-sum-eight-requires Inv-loop2 μ-loop2 Inv-loop μ-loop
 sum-eight-requires c κs =
     let v = c .before in let i = v .before .before .loop .inv in (i .1, i .2, v .eight-start .ensures .2, i .4)
@@ -58,49 +55,10 @@ loop2-holds c =
     let v = c .before .before in let i = v .before .before .loop .inv in let e = v .eight-start .ensures in
     (i .0, i .1, i .2, i .3, i .4, i .5, e .0, omega (arith, e .1), e .2, c .sum-eight .ensures, λ first r. r)
 
-add-loop2 : tie.Need-add-loop2 Inv-loop2 μ-loop2 Inv-loop μ-loop
-add-loop2 c = search needs
-
-loop-less : tie.Need-loop-less Inv-loop2 μ-loop2 Inv-loop μ-loop
-loop-less c = search needs
-
 loop-again : tie.Need-loop-again Inv-loop2 μ-loop2 Inv-loop μ-loop
 loop-again c =
     let l = c .before .before .before .before .before .before .loop in let a = c .before .before .before .before .before .before .before .before .args in
     let j = c .before .loop2 .inv in (j .0, j .1, j .2, j .3, j .4, j .5, omega (arith, j .7, j .8), j .10 (a .numbers .now) (l .inv .7))
-
-mul-at : tie.Need-mul-at Inv-loop2 μ-loop2 Inv-loop μ-loop
-mul-at c = search needs
-
-add-at : tie.Need-add-at Inv-loop2 μ-loop2 Inv-loop μ-loop
-add-at c = search needs
-
-mul-numbers : tie.Need-mul-numbers Inv-loop2 μ-loop2 Inv-loop μ-loop
-mul-numbers c = search needs
-
-slice-read-numbers : tie.Need-slice-read-numbers Inv-loop2 μ-loop2 Inv-loop μ-loop
-slice-read-numbers c = search needs
-
-sub-numbers : tie.Need-sub-numbers Inv-loop2 μ-loop2 Inv-loop μ-loop
-sub-numbers c = search needs
-
-mul-numbers-2 : tie.Need-mul-numbers-2 Inv-loop2 μ-loop2 Inv-loop μ-loop
-mul-numbers-2 c = search needs
-
-array-read-numbers : tie.Need-array-read-numbers Inv-loop2 μ-loop2 Inv-loop μ-loop
-array-read-numbers c = search needs
-
-mul-numbers-3 : tie.Need-mul-numbers-3 Inv-loop2 μ-loop2 Inv-loop μ-loop
-mul-numbers-3 c = search needs
-
-slice-write-numbers : tie.Need-slice-write-numbers Inv-loop2 μ-loop2 Inv-loop μ-loop
-slice-write-numbers c = search needs
-
-add-k : tie.Need-add-k Inv-loop2 μ-loop2 Inv-loop μ-loop
-add-k c = search needs
-
-loop2-less : tie.Need-loop2-less Inv-loop2 μ-loop2 Inv-loop μ-loop
-loop2-less c = search needs
 
 loop2-again : tie.Need-loop2-again Inv-loop2 μ-loop2 Inv-loop μ-loop
 loop2-again c =
@@ -126,9 +84,6 @@ loop2-again c =
           ∙ sums-stay (a .width) (a .s) (rowSums (a .width) first R) first (m .numbers) R (m .k) (l .k) inside (j .5) r) (j .10 first r),
     )
 
-same-length : tie.Need-same-length Inv-loop2 μ-loop2 Inv-loop μ-loop
-same-length c = search needs
-
 returns : tie.Need-returns Inv-loop2 μ-loop2 Inv-loop μ-loop
 returns c =
     let l = c .before .loop in let i = l .inv in let a = c .before .before .before .args in
@@ -137,30 +92,7 @@ returns c =
 
 pub subtract-eights-spec : {M : Type 1} → statement M
 subtract-eights-spec =
-    tie.close
-    (tie.spec
-    Inv-loop2
-    μ-loop2
-    Inv-loop
-    μ-loop
-    loop-holds
-    eight-start-requires
-    sum-eight-requires
-    loop2-holds
-    add-loop2
-    loop-less
-    loop-again
-    mul-at
-    add-at
-    mul-numbers
-    slice-read-numbers
-    sub-numbers
-    mul-numbers-2
-    array-read-numbers
-    mul-numbers-3
-    slice-write-numbers
-    add-k
-    loop2-less
-    loop2-again
-    same-length
-    returns)
+    tie.close (tie.spec Inv-loop2 μ-loop2 Inv-loop μ-loop loop-holds (λ c κs. search needs) sum-eight-requires loop2-holds
+    (λ c. search needs) (λ c. search needs) loop-again (λ c. search needs) (λ c. search needs) (λ c. search needs) (λ c. search needs)
+    (λ c. search needs) (λ c. search needs) (λ c. search needs) (λ c. search needs) (λ c. search needs) (λ c. search needs)
+    (λ c. search needs) loop2-again (λ c. search needs) returns)

@@ -30,27 +30,6 @@ sum-rows-requires c κs =
 mul-at : tie.Need-mul-at Inv-loop μ-loop
 mul-at c = omega (arith, c)
 
-add-at : tie.Need-add-at Inv-loop μ-loop
-add-at c = search needs
-
-mul-numbers : tie.Need-mul-numbers Inv-loop μ-loop
-mul-numbers c = search needs
-
-slice-read-numbers : tie.Need-slice-read-numbers Inv-loop μ-loop
-slice-read-numbers c = search needs
-
-mul-numbers-2 : tie.Need-mul-numbers-2 Inv-loop μ-loop
-mul-numbers-2 c = search needs
-
-slice-write-numbers : tie.Need-slice-write-numbers Inv-loop μ-loop
-slice-write-numbers c = search needs
-
-add-k : tie.Need-add-k Inv-loop μ-loop
-add-k c = search needs
-
-loop-less : tie.Need-loop-less Inv-loop μ-loop
-loop-less c = search needs
-
 loop-again : tie.Need-loop-again Inv-loop μ-loop
 loop-again c =
     let m = c .before .before .before in let l = m .before .loop in let i = l .inv in let a = m .before .before .before .args in (
@@ -77,20 +56,5 @@ returns c =
 
 pub subtract-numbers-spec : {M : Type 1} → statement M
 subtract-numbers-spec =
-    tie.close
-    (tie.spec
-    Inv-loop
-    μ-loop
-    loop-holds
-    sum-rows-requires
-    mul-at
-    add-at
-    mul-numbers
-    slice-read-numbers
-    mul-numbers-2
-    slice-write-numbers
-    add-k
-    loop-less
-    loop-again
-    same-length
-    returns)
+    tie.close (tie.spec Inv-loop μ-loop loop-holds sum-rows-requires mul-at (λ c. search needs) (λ c. search needs) (λ c. search needs)
+    (λ c. search needs) (λ c. search needs) (λ c. search needs) (λ c. search needs) loop-again same-length returns)

@@ -146,19 +146,5 @@ returns c =
 
 pub subtract-supersets-spec : {M : Type 1} → statement M
 subtract-supersets-spec =
-    tie.close
-    (tie.spec
-    Inv-loop
-    μ-loop
-    row-order-requires
-    loop-holds
-    sub-i
-    mul-s
-    array-read-s
-    add-collect-supersets
-    collect-supersets-requires
-    subtract-row-requires
-    loop-less
-    loop-again
-    same-length
-    returns)
+    tie.close (tie.spec Inv-loop μ-loop row-order-requires loop-holds sub-i mul-s array-read-s add-collect-supersets
+    collect-supersets-requires subtract-row-requires loop-less loop-again same-length returns)

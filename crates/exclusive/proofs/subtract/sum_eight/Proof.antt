@@ -40,12 +40,6 @@ loop-holds c =
           (every-at (λ x. x ≡ zero64) (replicate 8 zero64) q nan (omega (arith, length-replicate {A = Float} 8 zero64)) (every-replicate (λ x. x ≡ zero64) 8 zero64 refl)),
     )
 
-mul-t : tie.Need-mul-t Inv-loop μ-loop
-mul-t c = search needs
-
-element-copy-out-t : tie.Need-element-copy-out-t Inv-loop μ-loop
-element-copy-out-t c = search needs
-
 -- the row at j is a row of the table
 inside : (c : tie.In-loop Inv-loop μ-loop)
     → suc (getD (c .before .before .before .args .rows .now) (c .before .loop .j) 0) * c .before .before .before .args .width ≤ length (c .before .before .before .args .numbers .now)
@@ -62,12 +56,6 @@ add-add-eight c = omega (arith, inside (c .before), c .before .before .loop .inv
 
 add-eight-requires : tie.Need-add-eight-requires Inv-loop μ-loop
 add-eight-requires c κs = (omega (arith, inside (c .before .before), c .before .before .before .loop .inv .3), c .before .before .before .loop .inv .5)
-
-add-j : tie.Need-add-j Inv-loop μ-loop
-add-j c = search needs
-
-loop-less : tie.Need-loop-less Inv-loop μ-loop
-loop-less c = search needs
 
 -- the next number of column k + q
 next : (numbers sums : List Float) (rows : List ℕ) (width k q j t : ℕ) → getD rows j 0 ≡ t
@@ -105,17 +93,5 @@ returns c =
 
 pub sum-eight-spec : {M : Type 1} → statement M
 sum-eight-spec =
-    tie.close
-    (tie.spec
-    Inv-loop
-    μ-loop
-    loop-holds
-    mul-t
-    element-copy-out-t
-    mul-add-eight
-    add-add-eight
-    add-eight-requires
-    add-j
-    loop-less
-    loop-again
-    returns)
+    tie.close (tie.spec Inv-loop μ-loop loop-holds (λ c. search needs) (λ c. search needs) mul-add-eight add-add-eight add-eight-requires
+    (λ c. search needs) (λ c. search needs) loop-again returns)

@@ -4,15 +4,9 @@ use Rattle.outline.specs.Area.{areaOf}
 use Rattle.outline.proofs.area.area_from_boundary_arcs.Statement.{statement}
 use Rattle.outline.proofs.area.area_from_boundary_arcs.Tie as tie
 
-outline-from-requires : tie.Need-outline-from-requires
-outline-from-requires c κs = search needs
-
-arcs-sum-requires : tie.Need-arcs-sum-requires
-arcs-sum-requires c κs = search needs
-
 returns : tie.Need-returns
 unfolding areaOf
 returns c = rw (c .arcs-sum .ensures, c .before .outline-from .ensures)
 
 pub area-from-boundary-arcs-spec : {M : Type 1} → statement M
-area-from-boundary-arcs-spec = tie.close (tie.spec outline-from-requires arcs-sum-requires returns)
+area-from-boundary-arcs-spec = tie.close (tie.spec (λ c κs. search needs) (λ c κs. search needs) returns)

@@ -8,15 +8,6 @@ use Rattle.outline.proofs.Walking.{circles-of-members, outline-of-set}
 use Rattle.outline.proofs.area.region_area.Statement.{statement}
 use Rattle.outline.proofs.area.region_area.Tie as tie
 
-members-of-requires : tie.Need-members-of-requires
-members-of-requires c κs = search needs
-
-outline-of-requires : tie.Need-outline-of-requires
-outline-of-requires c κs = search needs
-
-arcs-sum-requires : tie.Need-arcs-sum-requires
-arcs-sum-requires c κs = search needs
-
 returns : tie.Need-returns
 unfolding openArea areaOf
 returns c =
@@ -32,4 +23,4 @@ returns c =
     )
 
 pub region-area-spec : {M : Type 1} → statement M
-region-area-spec = tie.close (tie.spec members-of-requires outline-of-requires arcs-sum-requires returns)
+region-area-spec = tie.close (tie.spec (λ c κs. search needs) (λ c κs. search needs) (λ c κs. search needs) returns)

@@ -62,18 +62,5 @@ returns-2 c = arcs-by-room (c .before .loop .inv .added) (omega arith)
 
 pub accumulate-region-overlap-gradient-spec : {M : Type 1} → statement M
 accumulate-region-overlap-gradient-spec =
-    tie.close
-    (tie.spec
-    Inv-loop
-    μ-loop
-    loop-holds
-    same-length
-    returns
-    mul-add-slopes
-    element-copy-out-add-slopes
-    add-slopes-requires
-    add-i
-    loop-less
-    loop-again
-    same-length-2
-    returns-2)
+    tie.close (tie.spec Inv-loop μ-loop loop-holds same-length returns mul-add-slopes element-copy-out-add-slopes add-slopes-requires add-i
+    loop-less loop-again same-length-2 returns-2)

@@ -18,9 +18,6 @@ Inv-loop set arcs n all₀ i₀ all i = (length (arcs .all) ≡ 320) × (length 
 abbrev μ-loop : tie.MeasureT-loop
 μ-loop set arcs n all₀ i₀ all i = 180 - i
 
-element-copy-out-all : tie.Need-element-copy-out-all Inv-loop μ-loop
-element-copy-out-all c = search needs
-
 loop-holds : tie.Need-loop-holds Inv-loop μ-loop
 loop-holds c =
     let long : length (c .before .args .t1 .all) ≡ 320 = search length-of-values in
@@ -38,9 +35,6 @@ mul-numbered c = omega arith
 
 element-copy-out-numbered : tie.Need-element-copy-out-numbered Inv-loop μ-loop
 element-copy-out-numbered c = omega arith
-
-numbered-requires : tie.Need-numbered-requires Inv-loop μ-loop
-numbered-requires c κs = search needs
 
 mul-all : tie.Need-mul-all Inv-loop μ-loop
 mul-all c = omega arith
@@ -64,19 +58,5 @@ returns-2 c = let inv = c .before .loop .inv .2 in (copied-by-room inv (omega ar
 
 pub numbered-arcs-spec : {M : Type 1} → statement M
 numbered-arcs-spec =
-    tie.close
-    (tie.spec
-    Inv-loop
-    μ-loop
-    element-copy-out-all
-    loop-holds
-    returns
-    mul-numbered
-    element-copy-out-numbered
-    numbered-requires
-    mul-all
-    array-set-from-all
-    add-i
-    loop-less
-    loop-again
-    returns-2)
+    tie.close (tie.spec Inv-loop μ-loop (λ c. search needs) loop-holds returns mul-numbered element-copy-out-numbered
+    (λ c κs. search needs) mul-all array-set-from-all add-i loop-less loop-again returns-2)

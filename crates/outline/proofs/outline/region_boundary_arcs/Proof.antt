@@ -9,15 +9,6 @@ use Rattle.outline.proofs.Walking.{outline-of-set}
 use Rattle.outline.proofs.outline.region_boundary_arcs.Statement.{statement}
 use Rattle.outline.proofs.outline.region_boundary_arcs.Tie as tie
 
-members-of-requires : tie.Need-members-of-requires
-members-of-requires c κs = search needs
-
-outline-of-requires : tie.Need-outline-of-requires
-outline-of-requires c κs = search needs
-
-numbered-arcs-requires : tie.Need-numbered-arcs-requires
-numbered-arcs-requires c κs = search needs
-
 -- the arcs under head numbers
 listed : (c : tie.After-numbered-arcs) → let a = c .before .before .before .args in
     arcList (c .numbered-arcs .result) ≡ regionArcs (take (a .n-sets) (a .circles)) (pointList (a .points)) (a .mask)
@@ -38,4 +29,4 @@ returns : tie.Need-returns
 returns c = (listed c, c .numbered-arcs .ensures .1 ∙ ap length (listed c))
 
 pub region-boundary-arcs-spec : {M : Type 1} → statement M
-region-boundary-arcs-spec = tie.close (tie.spec members-of-requires outline-of-requires numbered-arcs-requires returns)
+region-boundary-arcs-spec = tie.close (tie.spec (λ c κs. search needs) (λ c κs. search needs) (λ c κs. search needs) returns)

@@ -24,27 +24,7 @@ mul-result-2 c = search (needs, below c)
 element-copy-out-result : tie.Need-element-copy-out-result
 element-copy-out-result c = search (needs, below c)
 
-returns : tie.Need-returns
-returns c = search needs
-
-returns-2 : tie.Need-returns-2
-returns-2 c = search needs
-
-returns-3 : tie.Need-returns-3
-returns-3 c = search needs
-
-returns-4 : tie.Need-returns-4
-returns-4 c = search needs
-
 pub entry-spec : {M : Type 1} → statement M
 entry-spec =
-    tie.close
-    (tie.spec
-    mul-result
-    add-result
-    mul-result-2
-    element-copy-out-result
-    returns
-    returns-2
-    returns-3
-    returns-4)
+    tie.close (tie.spec mul-result add-result mul-result-2 element-copy-out-result (λ c. search needs) (λ c. search needs)
+    (λ c. search needs) (λ c. search needs))

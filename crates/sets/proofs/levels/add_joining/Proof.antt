@@ -36,32 +36,17 @@ abbrev μ-loop : tie.MeasureT-loop
 loop-holds : tie.Need-loop-holds Inv-loop μ-loop
 loop-holds c = let a = c .args in (c .pre .0, c .pre .1, omega arith, marked-none _ (a .level .now) (λ S k. some-zero _))
 
-shl-if1 : tie.Need-shl-if1 Inv-loop μ-loop
-shl-if1 c = search needs
-
-shl-joins : tie.Need-shl-joins Inv-loop μ-loop
-shl-joins c = search needs
-
 joins-requires : tie.Need-joins-requires Inv-loop μ-loop
 joins-requires c κs =
     let l = c .before .before .loop in
     let a = c .before .before .before .args in
     (l .inv .0, subst (λ (m : ℕ). m < 2 ^ a .n) (sym (with-at (a .n) (a .s) (l .i) (l .inv .0) (l .inv .1) (omega arith))) (gather-lt (a .n) _))
 
-shl-level : tie.Need-shl-level Inv-loop μ-loop
-shl-level c = search needs
-
 element-write-level : tie.Need-element-write-level Inv-loop μ-loop
 element-write-level c =
     let l = c .before .before .before .before .loop in
     let a = c .before .before .before .before .before .args in
     with-lt (a .n) (a .s) (l .i) (l .inv .0) (l .inv .1) (omega arith)
-
-add-i : tie.Need-add-i Inv-loop μ-loop
-add-i c = search needs
-
-loop-less : tie.Need-loop-less Inv-loop μ-loop
-loop-less c = search needs
 
 loop-again : tie.Need-loop-again Inv-loop μ-loop
 loop-again c =
@@ -98,17 +83,5 @@ returns c =
 
 pub add-joining-spec : {M : Type 1} → statement M
 add-joining-spec =
-    tie.close
-    (tie.spec
-    Inv-loop
-    μ-loop
-    loop-holds
-    shl-if1
-    shl-joins
-    joins-requires
-    shl-level
-    element-write-level
-    add-i
-    loop-less
-    loop-again
-    returns)
+    tie.close (tie.spec Inv-loop μ-loop loop-holds (λ c. search needs) (λ c. search needs) joins-requires (λ c. search needs)
+    element-write-level (λ c. search needs) (λ c. search needs) loop-again returns)

@@ -19,9 +19,6 @@ returns c =
     let a = c .before .before .args in
     joins-by (a .n) (stands (a .found .now)) (λ i. getD (a .overlapping) i 0) (λ i. getD (a .containing) i 0) (a .s) (eq-eqb _ _ (c .if1 .taken)) refl refl
 
-all-pairs-requires : tie.Need-all-pairs-requires
-all-pairs-requires c κs = search needs
-
 returns-2 : tie.Need-returns-2
 unfolding allPairs
 returns-2 c =
@@ -30,9 +27,6 @@ returns-2 c =
     let a = q .before .before .args in
     joins-by (a .n) (stands (a .found .now)) (λ i. getD (a .overlapping) i 0) (λ i. getD (a .containing) i 0) (a .s) (ne-eqb _ _ (q .if1 .left))
     (sym (p .all-pairs .ensures) ∙ not-true (p .all-pairs .result) (c .if2 .taken)) refl
-
-one-in-all-requires : tie.Need-one-in-all-requires
-one-in-all-requires c κs = search needs
 
 returns-3 : tie.Need-returns-3
 unfolding allPairs oneInAll
@@ -45,12 +39,4 @@ returns-3 c =
     (sym (p .all-pairs .ensures) ∙ not-false (p .all-pairs .result) (e .if2 .left)) (sym (c .one-in-all .ensures))
 
 pub joins-spec : {M : Type 1} → statement M
-joins-spec =
-    tie.close
-    (tie.spec
-    element-copy-out-if1
-    returns
-    all-pairs-requires
-    returns-2
-    one-in-all-requires
-    returns-3)
+joins-spec = tie.close (tie.spec element-copy-out-if1 returns (λ c κs. search needs) returns-2 (λ c κs. search needs) returns-3)

@@ -32,9 +32,6 @@ Inv-loop found overlapping containing n level₀ masks s₀ level s =
 abbrev μ-loop : tie.MeasureT-loop
 μ-loop found overlapping containing n level₀ masks s₀ level s = masks - s
 
-shl-masks : tie.Need-shl-masks Inv-loop μ-loop
-shl-masks c = search needs
-
 loop-holds : tie.Need-loop-holds Inv-loop μ-loop
 loop-holds c =
     let a = c .args in
@@ -47,9 +44,6 @@ array-read-in-level : tie.Need-array-read-in-level Inv-loop μ-loop
 array-read-in-level c =
     let l = c .before .before .loop in row-lt (c .before .before .before .args .n) (l .s) (l .inv .0) (omega (arith, l .inv .1))
 
-in-level-requires : tie.Need-in-level-requires Inv-loop μ-loop
-in-level-requires c κs = search needs
-
 array-write-level : tie.Need-array-write-level Inv-loop μ-loop
 array-write-level c =
     let l = c .before .before .before .before .loop in
@@ -57,12 +51,6 @@ array-write-level c =
 
 add-joining-requires : tie.Need-add-joining-requires Inv-loop μ-loop
 add-joining-requires c κs = let l = c .before .before .before .before .before .loop in (l .inv .0, omega (arith, l .inv .1))
-
-add-s : tie.Need-add-s Inv-loop μ-loop
-add-s c = search needs
-
-loop-less : tie.Need-loop-less Inv-loop μ-loop
-loop-less c = search needs
 
 loop-again : tie.Need-loop-again Inv-loop μ-loop
 loop-again c =
@@ -105,18 +93,5 @@ returns c =
 
 pub levels-spec : {M : Type 1} → statement M
 levels-spec =
-    tie.close
-    (tie.spec
-    Inv-loop
-    μ-loop
-    shl-masks
-    loop-holds
-    element-copy-out-in-level
-    array-read-in-level
-    in-level-requires
-    array-write-level
-    add-joining-requires
-    add-s
-    loop-less
-    loop-again
-    returns)
+    tie.close (tie.spec Inv-loop μ-loop (λ c. search needs) loop-holds element-copy-out-in-level array-read-in-level (λ c κs. search needs)
+    array-write-level add-joining-requires (λ c. search needs) (λ c. search needs) loop-again returns)

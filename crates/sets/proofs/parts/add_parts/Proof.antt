@@ -29,9 +29,6 @@ Inv-loop n bytes₀ masks s₀ bytes s =
 abbrev μ-loop : tie.MeasureT-loop
 μ-loop n bytes₀ masks s₀ bytes s = masks - s
 
-shl-masks : tie.Need-shl-masks Inv-loop μ-loop
-shl-masks c = search needs
-
 loop-holds : tie.Need-loop-holds Inv-loop μ-loop
 loop-holds c =
     let a = c .args in
@@ -43,12 +40,6 @@ array-read-if1 c = let l = c .before .loop in row-lt (c .before .before .args .n
 add-parts-of-requires : tie.Need-add-parts-of-requires Inv-loop μ-loop
 add-parts-of-requires c κs =
     let l = c .before .before .before .before .loop in (l .inv .0, omega (arith, l .inv .1))
-
-add-s : tie.Need-add-s Inv-loop μ-loop
-add-s c = search needs
-
-loop-less : tie.Need-loop-less Inv-loop μ-loop
-loop-less c = search needs
 
 loop-again : tie.Need-loop-again Inv-loop μ-loop
 loop-again c =
@@ -82,15 +73,5 @@ returns c =
 
 pub add-parts-spec : {M : Type 1} → statement M
 add-parts-spec =
-    tie.close
-    (tie.spec
-    Inv-loop
-    μ-loop
-    shl-masks
-    loop-holds
-    array-read-if1
-    add-parts-of-requires
-    add-s
-    loop-less
-    loop-again
-    returns)
+    tie.close (tie.spec Inv-loop μ-loop (λ c. search needs) loop-holds array-read-if1 add-parts-of-requires (λ c. search needs)
+    (λ c. search needs) loop-again returns)

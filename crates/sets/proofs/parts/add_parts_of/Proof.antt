@@ -30,21 +30,9 @@ loop-holds c =
     let a = c .args in
     (c .pre .0, c .pre .1, omega arith, marked-none _ (a .found .now) (λ S k. some-zero (λ k. eqb S (withoutHead (a .n) (a .s) k) && inSet (a .s) k)))
 
-shl-if1 : tie.Need-shl-if1 Inv-loop μ-loop
-shl-if1 c = search needs
-
-shl-found : tie.Need-shl-found Inv-loop μ-loop
-shl-found c = search needs
-
 element-write-found : tie.Need-element-write-found Inv-loop μ-loop
 element-write-found c =
     let l = c .before .before .loop in let a = c .before .before .before .args in without-row (a .n) (a .s) (l .i) (l .inv .0) (l .inv .1)
-
-add-i : tie.Need-add-i Inv-loop μ-loop
-add-i c = search needs
-
-loop-less : tie.Need-loop-less Inv-loop μ-loop
-loop-less c = search needs
 
 loop-again : tie.Need-loop-again Inv-loop μ-loop
 loop-again c =
@@ -73,15 +61,5 @@ returns c =
 
 pub add-parts-of-spec : {M : Type 1} → statement M
 add-parts-of-spec =
-    tie.close
-    (tie.spec
-    Inv-loop
-    μ-loop
-    loop-holds
-    shl-if1
-    shl-found
-    element-write-found
-    add-i
-    loop-less
-    loop-again
-    returns)
+    tie.close (tie.spec Inv-loop μ-loop loop-holds (λ c. search needs) (λ c. search needs) element-write-found (λ c. search needs)
+    (λ c. search needs) loop-again returns)

@@ -35,39 +35,6 @@ returns c =
 loop-holds : tie.Need-loop-holds Inv-loop μ-loop
 loop-holds c = (omega arith, ends-start _ _ _ _ _)
 
-shr-if2 : tie.Need-shr-if2 Inv-loop μ-loop
-shr-if2 c = search needs
-
-add-raised : tie.Need-add-raised Inv-loop μ-loop
-add-raised c = search needs
-
-mul-raised : tie.Need-mul-raised Inv-loop μ-loop
-mul-raised c = search needs
-
-element-copy-out-raised : tie.Need-element-copy-out-raised Inv-loop μ-loop
-element-copy-out-raised c = search needs
-
-raised-requires : tie.Need-raised-requires Inv-loop μ-loop
-raised-requires c κs = search needs
-
-add-lowered : tie.Need-add-lowered Inv-loop μ-loop
-add-lowered c = search needs
-
-mul-lowered : tie.Need-mul-lowered Inv-loop μ-loop
-mul-lowered c = search needs
-
-element-copy-out-lowered : tie.Need-element-copy-out-lowered Inv-loop μ-loop
-element-copy-out-lowered c = search needs
-
-lowered-requires : tie.Need-lowered-requires Inv-loop μ-loop
-lowered-requires c κs = search needs
-
-add-l : tie.Need-add-l Inv-loop μ-loop
-add-l c = search needs
-
-loop-less : tie.Need-loop-less Inv-loop μ-loop
-loop-less c = search needs
-
 loop-again : tie.Need-loop-again Inv-loop μ-loop
 loop-again c =
     let d = c .before .before in
@@ -76,8 +43,11 @@ loop-again c =
     let low : ℕ → Float = λ i. getD (a .low .now) (a .at + i) nan in
     let high : ℕ → Float = λ i. getD (a .high .now) (a .at + i) nan in
     ⊎-elim
-    (λ w. (omega arith, rw (w .5, w .6) (ends-in low high (a .mask) (a .from) (a .to) (l .inv .1) _ _
-        (sym (in-by-shift (a .mask) (l .l)) ∙ eq-eqb _ _ (w .0 .taken)) (w .2 .ensures) (w .4 .ensures))))
+    (λ w. (
+      omega arith,
+      rw (w .5, w .6) (ends-in low high (a .mask) (a .from) (a .to) (l .inv .1) _ _
+          (sym (in-by-shift (a .mask) (l .l)) ∙ eq-eqb _ _ (w .0 .taken)) (w .2 .ensures) (w .4 .ensures)),
+    ))
     (λ w. (omega arith, rw (w .1, w .2) (ends-out low high (a .mask) (a .from) (a .to) (l .inv .1) (sym (in-by-shift (a .mask) (l .l)) ∙ ne-eqb _ _ (w .0 .left)))))
     (c .if2 .came)
 
@@ -99,23 +69,6 @@ returns-3 c =
 
 pub add-chords-spec : {M : Type 1} → statement M
 add-chords-spec =
-    tie.close
-    (tie.spec
-    Inv-loop
-    μ-loop
-    returns
-    loop-holds
-    shr-if2
-    add-raised
-    mul-raised
-    element-copy-out-raised
-    raised-requires
-    add-lowered
-    mul-lowered
-    element-copy-out-lowered
-    lowered-requires
-    add-l
-    loop-less
-    loop-again
-    returns-2
-    returns-3)
+    tie.close (tie.spec Inv-loop μ-loop returns loop-holds (λ c. search needs) (λ c. search needs) (λ c. search needs) (λ c. search needs)
+    (λ c κs. search needs) (λ c. search needs) (λ c. search needs) (λ c. search needs) (λ c κs. search needs) (λ c. search needs)
+    (λ c. search needs) loop-again returns-2 returns-3)

@@ -28,26 +28,8 @@ Inv-loop circles n-sets bounds needed reach₀ low high edge₀ reach edge =
 abbrev μ-loop : tie.MeasureT-loop
 μ-loop circles n-sets bounds needed reach₀ low high edge₀ reach edge = 4 - edge
 
-fill-ends-requires : tie.Need-fill-ends-requires Inv-loop μ-loop
-fill-ends-requires c κs = search needs
-
 loop-holds : tie.Need-loop-holds Inv-loop μ-loop
 loop-holds c = (search length-of-values, search needs, omega arith, held-none _)
-
-reach-of-requires : tie.Need-reach-of-requires Inv-loop μ-loop
-reach-of-requires c κs = search needs
-
-mul-reach : tie.Need-mul-reach Inv-loop μ-loop
-mul-reach c = search needs
-
-element-write-reach : tie.Need-element-write-reach Inv-loop μ-loop
-element-write-reach c = search needs
-
-add-edge : tie.Need-add-edge Inv-loop μ-loop
-add-edge c = search needs
-
-loop-less : tie.Need-loop-less Inv-loop μ-loop
-loop-less c = search needs
 
 loop-again : tie.Need-loop-again Inv-loop μ-loop
 loop-again c =
@@ -63,16 +45,5 @@ returns c =
 
 pub fill-chords-spec : {M : Type 1} → statement M
 fill-chords-spec =
-    tie.close
-    (tie.spec
-    Inv-loop
-    μ-loop
-    fill-ends-requires
-    loop-holds
-    reach-of-requires
-    mul-reach
-    element-write-reach
-    add-edge
-    loop-less
-    loop-again
-    returns)
+    tie.close (tie.spec Inv-loop μ-loop (λ c κs. search needs) loop-holds (λ c κs. search needs) (λ c. search needs) (λ c. search needs)
+    (λ c. search needs) (λ c. search needs) loop-again returns)

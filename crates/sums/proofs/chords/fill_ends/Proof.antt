@@ -36,45 +36,6 @@ abbrev μ-loop : tie.MeasureT-loop
 loop-holds : tie.Need-loop-holds Inv-loop μ-loop
 loop-holds c = (search length-of-values, c .pre .1 .0, c .pre .1 .1, omega arith, held-none _, held-none _)
 
-shr-if1 : tie.Need-shr-if1 Inv-loop μ-loop
-shr-if1 c = search needs
-
-upright-edge-requires : tie.Need-upright-edge-requires Inv-loop μ-loop
-upright-edge-requires c κs = search needs
-
-mul-seen : tie.Need-mul-seen Inv-loop μ-loop
-mul-seen c = search needs
-
-array-copy-out-seen : tie.Need-array-copy-out-seen Inv-loop μ-loop
-array-copy-out-seen c = search needs
-
-seen-requires : tie.Need-seen-requires Inv-loop μ-loop
-seen-requires c κs = search needs
-
-line-of-requires : tie.Need-line-of-requires Inv-loop μ-loop
-line-of-requires c κs = search needs
-
-half-chord-requires : tie.Need-half-chord-requires Inv-loop μ-loop
-half-chord-requires c κs = search needs
-
-mul-low : tie.Need-mul-low Inv-loop μ-loop
-mul-low c = search needs
-
-element-write-low : tie.Need-element-write-low Inv-loop μ-loop
-element-write-low c = search needs
-
-mul-high : tie.Need-mul-high Inv-loop μ-loop
-mul-high c = search needs
-
-element-write-high : tie.Need-element-write-high Inv-loop μ-loop
-element-write-high c = search needs
-
-add-p : tie.Need-add-p Inv-loop μ-loop
-add-p c = search needs
-
-loop-less : tie.Need-loop-less Inv-loop μ-loop
-loop-less c = search needs
-
 loop-again : tie.Need-loop-again Inv-loop μ-loop
 loop-again c =
     let d = c .before .before in
@@ -84,8 +45,7 @@ loop-again c =
     ⊎-elim
     (λ w.
     let own = head-below (a .needed) (a .n-sets) (l .p % 10) (d .before .pre .0 .1) (sym here ∙ eq-eqb _ _ (w .0 .taken)) in
-    let is = sym (getD-take (a .n-sets) (a .t1) (l .p % 10) noCircle own) in
-    (
+    let is = sym (getD-take (a .n-sets) (a .t1) (l .p % 10) noCircle own) in (
       l .inv .0,
       rw (w .8) (simp length-set (l .inv .1)),
       rw (w .9) (simp length-set (l .inv .2)),
@@ -94,8 +54,7 @@ loop-again c =
       rw (w .9) (held-put _ (omega arith) (high-end (a .bounds) (take (a .n-sets) (a .t1)) (l .p / 10) (l .p % 10) (w .1 .ensures) is (w .3 .ensures) (w .4 .ensures) (w .5 .ensures)) (l .inv .5)),
     ))
     (λ w.
-    let out : inSet (a .needed) (l .p % 10) ≡ true → ⊥ = λ i. true≢false (sym i ∙ sym here ∙ ne-eqb _ _ (w .0 .left)) in
-    (
+    let out : inSet (a .needed) (l .p % 10) ≡ true → ⊥ = λ i. true≢false (sym i ∙ sym here ∙ ne-eqb _ _ (w .0 .left)) in (
       l .inv .0,
       rw (w .1) (l .inv .1),
       rw (w .2) (l .inv .2),
@@ -113,23 +72,6 @@ returns c =
 
 pub fill-ends-spec : {M : Type 1} → statement M
 fill-ends-spec =
-    tie.close
-    (tie.spec
-    Inv-loop
-    μ-loop
-    loop-holds
-    shr-if1
-    upright-edge-requires
-    mul-seen
-    array-copy-out-seen
-    seen-requires
-    line-of-requires
-    half-chord-requires
-    mul-low
-    element-write-low
-    mul-high
-    element-write-high
-    add-p
-    loop-less
-    loop-again
-    returns)
+    tie.close (tie.spec Inv-loop μ-loop loop-holds (λ c. search needs) (λ c κs. search needs) (λ c. search needs) (λ c. search needs)
+    (λ c κs. search needs) (λ c κs. search needs) (λ c κs. search needs) (λ c. search needs) (λ c. search needs) (λ c. search needs)
+    (λ c. search needs) (λ c. search needs) (λ c. search needs) loop-again returns)

@@ -29,36 +29,9 @@ Inv-loop n-sets edge circles upright at reach₀ l₀ reach l = (length circles 
 abbrev μ-loop : tie.MeasureT-loop
 μ-loop n-sets edge circles upright at reach₀ l₀ reach l = n-sets - l
 
-upright-edge-requires : tie.Need-upright-edge-requires Inv-loop μ-loop
-upright-edge-requires c κs = search needs
-
-line-of-requires : tie.Need-line-of-requires Inv-loop μ-loop
-line-of-requires c κs = search needs
-
 loop-holds : tie.Need-loop-holds Inv-loop μ-loop
 unfolding gather
 loop-holds c = (search length-of-values, omega arith, refl)
-
-mul-seen : tie.Need-mul-seen Inv-loop μ-loop
-mul-seen c = search needs
-
-array-copy-out-seen : tie.Need-array-copy-out-seen Inv-loop μ-loop
-array-copy-out-seen c = search needs
-
-seen-requires : tie.Need-seen-requires Inv-loop μ-loop
-seen-requires c κs = search needs
-
-misses-requires : tie.Need-misses-requires Inv-loop μ-loop
-misses-requires c κs = search needs
-
-shl-reach : tie.Need-shl-reach Inv-loop μ-loop
-shl-reach c = search needs
-
-add-l : tie.Need-add-l Inv-loop μ-loop
-add-l c = search needs
-
-loop-less : tie.Need-loop-less Inv-loop μ-loop
-loop-less c = search needs
 
 loop-again : tie.Need-loop-again Inv-loop μ-loop
 loop-again c =
@@ -66,8 +39,7 @@ loop-again c =
     let a = d .before .before .before .args in
     let l = d .loop in
     let own = ap (seen _) (sym (getD-take (a .n-sets) (a .t1) (l .l) noCircle (omega arith))) in
-    let test = c .before .misses .ensures ∙ ap (misses _) (c .before .before .seen .ensures ∙ own) in
-    (
+    let test = c .before .misses .ensures ∙ ap (misses _) (c .before .before .seen .ensures ∙ own) in (
       l .inv .0,
       omega arith,
       ⊎-elim
@@ -86,19 +58,5 @@ returns c =
 
 pub reach-of-spec : {M : Type 1} → statement M
 reach-of-spec =
-    tie.close
-    (tie.spec
-    Inv-loop
-    μ-loop
-    upright-edge-requires
-    line-of-requires
-    loop-holds
-    mul-seen
-    array-copy-out-seen
-    seen-requires
-    misses-requires
-    shl-reach
-    add-l
-    loop-less
-    loop-again
-    returns)
+    tie.close (tie.spec Inv-loop μ-loop (λ c κs. search needs) (λ c κs. search needs) loop-holds (λ c. search needs) (λ c. search needs)
+    (λ c κs. search needs) (λ c κs. search needs) (λ c. search needs) (λ c. search needs) (λ c. search needs) loop-again returns)

@@ -33,10 +33,4 @@ returns-2 : tie.Need-returns-2
 returns-2 c = let e = c .open-row .ensures in (e .0, λ points few marks. rw (c .before .before .if1 .left) (e .1 points few marks))
 
 pub fast-row-spec : {M : Type 1} → statement M
-fast-row-spec =
-    tie.close
-    (tie.spec
-    clipped-row-requires
-    returns
-    open-row-requires
-    returns-2)
+fast-row-spec = tie.close (tie.spec clipped-row-requires returns open-row-requires returns-2)

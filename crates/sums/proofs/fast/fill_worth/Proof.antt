@@ -44,11 +44,4 @@ returns-2 c =
     }
 
 pub fill-worth-spec : {M : Type 1} → statement M
-fill-worth-spec =
-    tie.close
-    (tie.spec
-    fill-integrals-requires
-    fill-chords-requires
-    returns
-    fill-terms-requires
-    returns-2)
+fill-worth-spec = tie.close (tie.spec fill-integrals-requires fill-chords-requires returns fill-terms-requires returns-2)

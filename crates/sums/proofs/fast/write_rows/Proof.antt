@@ -49,26 +49,16 @@ fast-row-requires c κs =
     let m = c .before .before .before in
     let s = m .before .before .before in
     let l = m .before .loop in
-    let below : l .mask < s .args .count = m .loop-test .taken in
-    (
+    let below : l .mask < s .args .count = m .loop-test .taken in (
       (s .pre .0 .0, (omega (arith, below, s .pre .0 .1 .0), l .inv .1)),
       s .pre .1 (l .mask) below (eq-eqb _ 1 (c .before .if1 .taken)),
     )
-
-mul-areas : tie.Need-mul-areas Inv-loop μ-loop
-mul-areas c = search needs
 
 slice-write-areas : tie.Need-slice-write-areas Inv-loop μ-loop
 slice-write-areas c =
     let m = c .before .before .before .before in
     let s = m .before .before .before in
     omega (arith, m .loop-test .taken, s .pre .0 .1 .1, m .before .loop .inv .2)
-
-add-mask : tie.Need-add-mask Inv-loop μ-loop
-add-mask c = search needs
-
-loop-less : tie.Need-loop-less Inv-loop μ-loop
-loop-less c = search needs
 
 loop-again : tie.Need-loop-again Inv-loop μ-loop
 loop-again c =
@@ -111,17 +101,5 @@ returns c =
 
 pub write-rows-spec : {M : Type 1} → statement M
 write-rows-spec =
-    tie.close
-    (tie.spec
-    Inv-loop
-    μ-loop
-    loop-holds
-    element-copy-out-if1
-    fast-row-requires
-    mul-areas
-    slice-write-areas
-    add-mask
-    loop-less
-    loop-again
-    same-length
-    returns)
+    tie.close (tie.spec Inv-loop μ-loop loop-holds element-copy-out-if1 fast-row-requires (λ c. search needs) slice-write-areas
+    (λ c. search needs) (λ c. search needs) loop-again same-length returns)

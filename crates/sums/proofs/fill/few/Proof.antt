@@ -29,21 +29,12 @@ loop-holds : tie.Need-loop-holds Inv-loop μ-loop
 loop-holds c =
     (omega arith, few-start (c .args .n-sets) (pointList (c .args .points)))
 
-points-of-requires : tie.Need-points-of-requires Inv-loop μ-loop
-points-of-requires c κs = search needs
-
 returns : tie.Need-returns Inv-loop μ-loop
 returns c =
     let i = c .before .before in
     let l = i .before .loop in
     let a = i .before .before .args in
     few-fails (a .n-sets) (pointList (a .points)) (l .j) _ (i .loop-test .taken) (c .before .points-of .ensures) (c .if1 .taken)
-
-add-j : tie.Need-add-j Inv-loop μ-loop
-add-j c = search needs
-
-loop-less : tie.Need-loop-less Inv-loop μ-loop
-loop-less c = search needs
 
 loop-again : tie.Need-loop-again Inv-loop μ-loop
 loop-again c =
@@ -62,14 +53,5 @@ returns-2 c =
 
 pub few-spec : {M : Type 1} → statement M
 few-spec =
-    tie.close
-    (tie.spec
-    Inv-loop
-    μ-loop
-    loop-holds
-    points-of-requires
-    returns
-    add-j
-    loop-less
-    loop-again
+    tie.close (tie.spec Inv-loop μ-loop loop-holds (λ c κs. search needs) returns (λ c. search needs) (λ c. search needs) loop-again
     returns-2)

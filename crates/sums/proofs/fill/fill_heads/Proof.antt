@@ -35,12 +35,6 @@ loop-holds : tie.Need-loop-holds Inv-loop μ-loop
 loop-holds c =
     (c .pre .0 .0, omega arith, c .pre .1, marked-none _ _ _ _ _ _ _ _)
 
-shr-if1 : tie.Need-shr-if1 Inv-loop μ-loop
-shr-if1 c = search needs
-
-circle-at-requires : tie.Need-circle-at-requires Inv-loop μ-loop
-circle-at-requires c κs = search needs
-
 fill-marks-requires : tie.Need-fill-marks-requires Inv-loop μ-loop
 fill-marks-requires c κs =
     let i = c .before .before .before .before in
@@ -57,30 +51,6 @@ fill-lets-requires c κs =
     let i = m .before .before .before .before .before in
     let l = i .before .loop in
     (l .inv .0, (i .loop-test .taken, (m .fill-marks .ensures .0 .0, l .inv .2 .lets-long)))
-
-probe-requires : tie.Need-probe-requires Inv-loop μ-loop
-probe-requires c κs = search needs
-
-letters-requires : tie.Need-letters-requires Inv-loop μ-loop
-letters-requires c κs = search needs
-
-mul-owners : tie.Need-mul-owners Inv-loop μ-loop
-mul-owners c = search needs
-
-element-write-owners : tie.Need-element-write-owners Inv-loop μ-loop
-element-write-owners c = search needs
-
-mul-counts : tie.Need-mul-counts Inv-loop μ-loop
-mul-counts c = search needs
-
-element-write-counts : tie.Need-element-write-counts Inv-loop μ-loop
-element-write-counts c = search needs
-
-add-j : tie.Need-add-j Inv-loop μ-loop
-add-j c = search needs
-
-loop-less : tie.Need-loop-less Inv-loop μ-loop
-loop-less c = search needs
 
 loop-again : tie.Need-loop-again Inv-loop μ-loop
 loop-again c =
@@ -139,22 +109,6 @@ returns c =
 
 pub fill-heads-spec : {M : Type 1} → statement M
 fill-heads-spec =
-    tie.close
-    (tie.spec
-    Inv-loop
-    μ-loop
-    loop-holds
-    shr-if1
-    circle-at-requires
-    fill-marks-requires
-    fill-lets-requires
-    probe-requires
-    letters-requires
-    mul-owners
-    element-write-owners
-    mul-counts
-    element-write-counts
-    add-j
-    loop-less
-    loop-again
-    returns)
+    tie.close (tie.spec Inv-loop μ-loop loop-holds (λ c. search needs) (λ c κs. search needs) fill-marks-requires fill-lets-requires
+    (λ c κs. search needs) (λ c κs. search needs) (λ c. search needs) (λ c. search needs) (λ c. search needs) (λ c. search needs)
+    (λ c. search needs) (λ c. search needs) loop-again returns)

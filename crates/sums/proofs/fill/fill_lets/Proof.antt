@@ -24,18 +24,10 @@ abbrev μ-loop : tie.MeasureT-loop
 μ-loop c n-sets j n phi lets₀ at i₀ lets i =
     n - i
 
--- src/fill.rt:161:14
-mul-at : tie.Need-mul-at Inv-loop μ-loop
-mul-at c = search needs
-
 -- src/fill.rt:163:5
 loop-holds : tie.Need-loop-holds Inv-loop μ-loop
 loop-holds c =
     (omega arith, c .pre .1 .1 .0, omega arith, c .pre .1 .1 .1, refl, filled-none _ _ _ _)
-
--- src/fill.rt:164:23
-next-requires : tie.Need-next-requires Inv-loop μ-loop
-next-requires c κs = search needs
 
 -- src/fill.rt:164:18
 add-to : tie.Need-add-to Inv-loop μ-loop
@@ -43,18 +35,6 @@ add-to c =
     let l = c .before .before .loop in
     let a = c .before .before .before .args in
     omega (arith, c .next .ensures, next-below (l .i) (a .n) (c .before .loop-test .taken), l .inv .1, l .inv .2)
-
--- src/fill.rt:165:54
-add-gap-letters : tie.Need-add-gap-letters Inv-loop μ-loop
-add-gap-letters c = search needs
-
--- src/fill.rt:165:50
-mul-gap-letters : tie.Need-mul-gap-letters Inv-loop μ-loop
-mul-gap-letters c = search needs
-
--- src/fill.rt:165:50
-element-copy-out-gap-letters : tie.Need-element-copy-out-gap-letters Inv-loop μ-loop
-element-copy-out-gap-letters c = search needs
 
 -- src/fill.rt:165:63
 mul-gap-letters-2 : tie.Need-mul-gap-letters-2 Inv-loop μ-loop
@@ -69,30 +49,6 @@ element-copy-out-gap-letters-2 c =
     let l = c .before .before .before .loop in
     let a = c .before .before .before .before .args in
     omega (arith, c .before .next .ensures, next-below (l .i) (a .n) (c .before .before .loop-test .taken), l .inv .1, l .inv .2)
-
--- src/fill.rt:165:24
-gap-letters-requires : tie.Need-gap-letters-requires Inv-loop μ-loop
-gap-letters-requires c κs = search needs
-
--- src/fill.rt:165:14
-add-lets : tie.Need-add-lets Inv-loop μ-loop
-add-lets c = search needs
-
--- src/fill.rt:165:9
-mul-lets : tie.Need-mul-lets Inv-loop μ-loop
-mul-lets c = search needs
-
--- src/fill.rt:165:9
-element-write-lets : tie.Need-element-write-lets Inv-loop μ-loop
-element-write-lets c = search needs
-
--- src/fill.rt:166:9
-add-i : tie.Need-add-i Inv-loop μ-loop
-add-i c = search needs
-
--- src/fill.rt:163:5
-loop-less : tie.Need-loop-less Inv-loop μ-loop
-loop-less c = search needs
 
 -- src/fill.rt:163:5
 loop-again : tie.Need-loop-again Inv-loop μ-loop
@@ -122,24 +78,6 @@ returns c =
 
 pub fill-lets-spec : {M : Type 1} → statement M
 fill-lets-spec =
-    tie.close
-    (tie.spec
-    Inv-loop
-    μ-loop
-    mul-at
-    loop-holds
-    next-requires
-    add-to
-    add-gap-letters
-    mul-gap-letters
-    element-copy-out-gap-letters
-    mul-gap-letters-2
-    element-copy-out-gap-letters-2
-    gap-letters-requires
-    add-lets
-    mul-lets
-    element-write-lets
-    add-i
-    loop-less
-    loop-again
-    returns)
+    tie.close (tie.spec Inv-loop μ-loop (λ c. search needs) loop-holds (λ c κs. search needs) add-to (λ c. search needs)
+    (λ c. search needs) (λ c. search needs) mul-gap-letters-2 element-copy-out-gap-letters-2 (λ c κs. search needs) (λ c. search needs)
+    (λ c. search needs) (λ c. search needs) (λ c. search needs) (λ c. search needs) loop-again returns)

@@ -57,21 +57,6 @@ returns c =
       (l .inv .7, l .inv .8),
     )
 
-mul-q : tie.Need-mul-q Inv-loop μ-loop
-mul-q c = search needs
-
-element-copy-out-q : tie.Need-element-copy-out-q Inv-loop μ-loop
-element-copy-out-q c = search needs
-
-has-parent-requires : tie.Need-has-parent-requires Inv-loop μ-loop
-has-parent-requires c κs = search needs
-
-mul-insert-at : tie.Need-mul-insert-at Inv-loop μ-loop
-mul-insert-at c = search needs
-
-angle-about-requires : tie.Need-angle-about-requires Inv-loop μ-loop
-angle-about-requires c κs = search needs
-
 insert-at-requires : tie.Need-insert-at-requires Inv-loop μ-loop
 insert-at-requires c κs =
     let t = c .before .before .before in
@@ -87,15 +72,6 @@ insert-at-requires c κs =
         (l .inv .5, l .inv .6),
       ),
     )
-
-add-count : tie.Need-add-count Inv-loop μ-loop
-add-count c = search needs
-
-add-i : tie.Need-add-i Inv-loop μ-loop
-add-i c = search needs
-
-loop-less : tie.Need-loop-less Inv-loop μ-loop
-loop-less c = search needs
 
 loop-again : tie.Need-loop-again Inv-loop μ-loop
 loop-again c =
@@ -150,20 +126,6 @@ returns-2 c =
 
 pub fill-marks-spec : {M : Type 1} → statement M
 fill-marks-spec =
-    tie.close
-    (tie.spec
-    Inv-loop
-    μ-loop
-    loop-holds
-    returns
-    mul-q
-    element-copy-out-q
-    has-parent-requires
-    mul-insert-at
-    angle-about-requires
-    insert-at-requires
-    add-count
-    add-i
-    loop-less
-    loop-again
+    tie.close (tie.spec Inv-loop μ-loop loop-holds returns (λ c. search needs) (λ c. search needs) (λ c κs. search needs)
+    (λ c. search needs) (λ c κs. search needs) insert-at-requires (λ c. search needs) (λ c. search needs) (λ c. search needs) loop-again
     returns-2)

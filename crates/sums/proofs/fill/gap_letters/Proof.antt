@@ -13,32 +13,12 @@ use Rattle.boundary.proofs.angles.point_at.Reads as point-at-reads
 use Rattle.sums.proofs.fill.letters.Reads as letters-reads
 use Rattle.sums.proofs.walk.circle_at.Reads as circle-at-reads
 
--- src/fill.rt:49:9
-gap-requires : tie.Need-gap-requires
-gap-requires c κs = search needs
-
--- src/fill.rt:50:8
-collapsed-requires : tie.Need-collapsed-requires
-collapsed-requires c κs = search needs
-
 -- src/fill.rt:51:9
 returns : tie.Need-returns
 returns c =
     let a = c .before .before .before .args in
     nobody-lets (circlesIn (a .c .now) (a .n-sets)) (a .j) (a .phi-a) (a .phi-b) _ (c .before .before .gap .ensures)
     (sym (c .before .collapsed .ensures) ∙ c .if1 .taken)
-
--- src/fill.rt:53:9
-circle-at-requires : tie.Need-circle-at-requires
-circle-at-requires c κs = search needs
-
--- src/fill.rt:54:27
-point-at-requires : tie.Need-point-at-requires
-point-at-requires c κs = search needs
-
--- src/fill.rt:54:5
-letters-requires : tie.Need-letters-requires
-letters-requires c κs = search needs
 
 -- src/fill.rt:45:1
 returns-2 : tie.Need-returns-2
@@ -55,12 +35,5 @@ returns-2 c =
 
 pub gap-letters-spec : {M : Type 1} → statement M
 gap-letters-spec =
-    tie.close
-    (tie.spec
-    gap-requires
-    collapsed-requires
-    returns
-    circle-at-requires
-    point-at-requires
-    letters-requires
-    returns-2)
+    tie.close (tie.spec (λ c κs. search needs) (λ c κs. search needs) returns (λ c κs. search needs) (λ c κs. search needs)
+    (λ c κs. search needs) returns-2)

@@ -22,10 +22,6 @@ abbrev μ-loop : tie.MeasureT-loop
 μ-loop phi₀ adopters₀ at n x who i₀ carry₀ carried₀ phi adopters i carry carried =
     n - i
 
--- src/fill.rt:85:9
-place-at-requires : tie.Need-place-at-requires Inv-loop μ-loop
-place-at-requires c κs = search needs
-
 -- src/fill.rt:88:5
 loop-holds : tie.Need-loop-holds Inv-loop μ-loop
 loop-holds c =
@@ -41,50 +37,6 @@ loop-holds c =
       carry-start (a .phi .now) (a .adopters .now) (a .at) (a .n) (a .x) (a .who)
           (p .1 .0) _ (c .place-at .ensures),
     )
-
--- src/fill.rt:89:17
-add-p : tie.Need-add-p Inv-loop μ-loop
-add-p c = search needs
-
--- src/fill.rt:90:20
-mul-next : tie.Need-mul-next Inv-loop μ-loop
-mul-next c = search needs
-
--- src/fill.rt:90:20
-element-copy-out-next : tie.Need-element-copy-out-next Inv-loop μ-loop
-element-copy-out-next c = search needs
-
--- src/fill.rt:91:21
-mul-after : tie.Need-mul-after Inv-loop μ-loop
-mul-after c = search needs
-
--- src/fill.rt:91:21
-element-copy-out-after : tie.Need-element-copy-out-after Inv-loop μ-loop
-element-copy-out-after c = search needs
-
--- src/fill.rt:92:9
-mul-phi : tie.Need-mul-phi Inv-loop μ-loop
-mul-phi c = search needs
-
--- src/fill.rt:92:9
-element-write-phi : tie.Need-element-write-phi Inv-loop μ-loop
-element-write-phi c = search needs
-
--- src/fill.rt:93:9
-mul-adopters : tie.Need-mul-adopters Inv-loop μ-loop
-mul-adopters c = search needs
-
--- src/fill.rt:93:9
-element-write-adopters : tie.Need-element-write-adopters Inv-loop μ-loop
-element-write-adopters c = search needs
-
--- src/fill.rt:96:9
-add-i : tie.Need-add-i Inv-loop μ-loop
-add-i c = search needs
-
--- src/fill.rt:88:5
-loop-less : tie.Need-loop-less Inv-loop μ-loop
-loop-less c = search needs
 
 -- src/fill.rt:88:5
 loop-again : tie.Need-loop-again Inv-loop μ-loop
@@ -103,26 +55,6 @@ loop-again c =
           (omega (arith, i .0, i .2)) (omega (arith, i .0, i .3)) (i .6) (t .loop-test .taken),
     )
 
--- src/fill.rt:98:16
-add-last : tie.Need-add-last Inv-loop μ-loop
-add-last c = search needs
-
--- src/fill.rt:99:5
-mul-phi-2 : tie.Need-mul-phi-2 Inv-loop μ-loop
-mul-phi-2 c = search needs
-
--- src/fill.rt:99:5
-element-write-phi-2 : tie.Need-element-write-phi-2 Inv-loop μ-loop
-element-write-phi-2 c = search needs
-
--- src/fill.rt:100:5
-mul-adopters-2 : tie.Need-mul-adopters-2 Inv-loop μ-loop
-mul-adopters-2 c = search needs
-
--- src/fill.rt:100:5
-element-write-adopters-2 : tie.Need-element-write-adopters-2 Inv-loop μ-loop
-element-write-adopters-2 c = search needs
-
 -- src/fill.rt:73:1
 returns : tie.Need-returns Inv-loop μ-loop
 returns c =
@@ -139,27 +71,7 @@ returns c =
 
 pub insert-at-spec : {M : Type 1} → statement M
 insert-at-spec =
-    tie.close
-    (tie.spec
-    Inv-loop
-    μ-loop
-    place-at-requires
-    loop-holds
-    add-p
-    mul-next
-    element-copy-out-next
-    mul-after
-    element-copy-out-after
-    mul-phi
-    element-write-phi
-    mul-adopters
-    element-write-adopters
-    add-i
-    loop-less
-    loop-again
-    add-last
-    mul-phi-2
-    element-write-phi-2
-    mul-adopters-2
-    element-write-adopters-2
-    returns)
+    tie.close (tie.spec Inv-loop μ-loop (λ c κs. search needs) loop-holds (λ c. search needs) (λ c. search needs) (λ c. search needs)
+    (λ c. search needs) (λ c. search needs) (λ c. search needs) (λ c. search needs) (λ c. search needs) (λ c. search needs)
+    (λ c. search needs) (λ c. search needs) loop-again (λ c. search needs) (λ c. search needs) (λ c. search needs) (λ c. search needs)
+    (λ c. search needs) returns)

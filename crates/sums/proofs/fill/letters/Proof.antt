@@ -31,26 +31,6 @@ loop-holds : tie.Need-loop-holds Inv-loop μ-loop
 loop-holds c =
     (omega arith, gather-start _)
 
--- src/fill.rt:36:26
-circle-at-requires : tie.Need-circle-at-requires Inv-loop μ-loop
-circle-at-requires c κs = search needs
-
--- src/fill.rt:36:12
-lets-requires : tie.Need-lets-requires Inv-loop μ-loop
-lets-requires c κs = search needs
-
--- src/fill.rt:37:27
-shl-mask : tie.Need-shl-mask Inv-loop μ-loop
-shl-mask c = search needs
-
--- src/fill.rt:39:9
-add-l : tie.Need-add-l Inv-loop μ-loop
-add-l c = search needs
-
--- src/fill.rt:35:5
-loop-less : tie.Need-loop-less Inv-loop μ-loop
-loop-less c = search needs
-
 -- src/fill.rt:35:5
 loop-again : tie.Need-loop-again Inv-loop μ-loop
 loop-again c =
@@ -77,15 +57,5 @@ returns c =
 
 pub letters-spec : {M : Type 1} → statement M
 letters-spec =
-    tie.close
-    (tie.spec
-    Inv-loop
-    μ-loop
-    loop-holds
-    circle-at-requires
-    lets-requires
-    shl-mask
-    add-l
-    loop-less
-    loop-again
-    returns)
+    tie.close (tie.spec Inv-loop μ-loop loop-holds (λ c κs. search needs) (λ c κs. search needs) (λ c. search needs) (λ c. search needs)
+    (λ c. search needs) loop-again returns)

@@ -29,18 +29,6 @@ loop-holds : tie.Need-loop-holds Inv-loop μ-loop
 loop-holds c =
     (omega arith, zero-add _)
 
--- src/fill.rt:64:20
-add-if1 : tie.Need-add-if1 Inv-loop μ-loop
-add-if1 c = search needs
-
--- src/fill.rt:64:16
-mul-if1 : tie.Need-mul-if1 Inv-loop μ-loop
-mul-if1 c = search needs
-
--- src/fill.rt:64:16
-element-copy-out-if1 : tie.Need-element-copy-out-if1 Inv-loop μ-loop
-element-copy-out-if1 c = search needs
-
 -- src/fill.rt:65:13
 returns : tie.Need-returns Inv-loop μ-loop
 returns c =
@@ -51,14 +39,6 @@ returns c =
     let e = place-here (a .x) (tab f (a .n)) (d .loop .i) (omega (arith, length-tab f (a .n))) (rw (getD-tab f (a .n) (d .loop .i) nan below) (c .if1 .taken))
     in
     omega (arith, d .loop .inv .1, e)
-
--- src/fill.rt:67:9
-add-i : tie.Need-add-i Inv-loop μ-loop
-add-i c = search needs
-
--- src/fill.rt:63:5
-loop-less : tie.Need-loop-less Inv-loop μ-loop
-loop-less c = search needs
 
 -- src/fill.rt:63:5
 loop-again : tie.Need-loop-again Inv-loop μ-loop
@@ -80,16 +60,5 @@ returns-2 c =
 
 pub place-at-spec : {M : Type 1} → statement M
 place-at-spec =
-    tie.close
-    (tie.spec
-    Inv-loop
-    μ-loop
-    loop-holds
-    add-if1
-    mul-if1
-    element-copy-out-if1
-    returns
-    add-i
-    loop-less
-    loop-again
-    returns-2)
+    tie.close (tie.spec Inv-loop μ-loop loop-holds (λ c. search needs) (λ c. search needs) (λ c. search needs) returns (λ c. search needs)
+    (λ c. search needs) loop-again returns-2)

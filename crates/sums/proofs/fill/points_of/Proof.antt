@@ -39,30 +39,6 @@ returns c =
     let a = c .before .before .before .args in
     count-all (a .j) (pointList (a .t1)) (l .i) (l .count) (omega (arith, length-take (a .t1 .n) (a .t1 .all))) (l .inv .5)
 
--- src/fill.rt:123:26
-mul-has-parent : tie.Need-mul-has-parent Inv-loop μ-loop
-mul-has-parent c = search needs
-
--- src/fill.rt:123:26
-element-copy-out-has-parent : tie.Need-element-copy-out-has-parent Inv-loop μ-loop
-element-copy-out-has-parent c = search needs
-
--- src/fill.rt:123:12
-has-parent-requires : tie.Need-has-parent-requires Inv-loop μ-loop
-has-parent-requires c κs = search needs
-
--- src/fill.rt:124:13
-add-count : tie.Need-add-count Inv-loop μ-loop
-add-count c = search needs
-
--- src/fill.rt:126:9
-add-i : tie.Need-add-i Inv-loop μ-loop
-add-i c = search needs
-
--- src/fill.rt:119:5
-loop-less : tie.Need-loop-less Inv-loop μ-loop
-loop-less c = search needs
-
 -- src/fill.rt:119:5
 loop-again : tie.Need-loop-again Inv-loop μ-loop
 loop-again c =
@@ -103,17 +79,5 @@ returns-2 c =
 
 pub points-of-spec : {M : Type 1} → statement M
 points-of-spec =
-    tie.close
-    (tie.spec
-    Inv-loop
-    μ-loop
-    loop-holds
-    returns
-    mul-has-parent
-    element-copy-out-has-parent
-    has-parent-requires
-    add-count
-    add-i
-    loop-less
-    loop-again
-    returns-2)
+    tie.close (tie.spec Inv-loop μ-loop loop-holds returns (λ c. search needs) (λ c. search needs) (λ c κs. search needs)
+    (λ c. search needs) (λ c. search needs) (λ c. search needs) loop-again returns-2)

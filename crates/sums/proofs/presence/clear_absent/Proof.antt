@@ -43,17 +43,11 @@ same c =
     let i = c .loop .inv in
     ap length (i .2) ∙ length-written (numberOf (entry c)) (c .loop .mask) (entry c .args .areas .now) (omega (arith, i .0, i .1))
 
-row-count-requires : tie.Need-row-count-requires Inv-loop μ-loop
-row-count-requires c κs = search needs
-
 loop-holds : tie.Need-loop-holds Inv-loop μ-loop
 loop-holds c = (omega arith, c .row-count .ensures, written-none _ _)
 
 element-copy-out-row-byte : tie.Need-element-copy-out-row-byte Inv-loop μ-loop
 element-copy-out-row-byte c = let h = below c .0 in omega arith
-
-row-byte-requires : tie.Need-row-byte-requires Inv-loop μ-loop
-row-byte-requires c κs = search needs
 
 mul-areas : tie.Need-mul-areas Inv-loop μ-loop
 mul-areas c = let h = below (c .before .before .before) .0 in omega arith
@@ -98,18 +92,5 @@ returns c =
 
 pub clear-absent-spec : {M : Type 1} → statement M
 clear-absent-spec =
-    tie.close
-    (tie.spec
-    Inv-loop
-    μ-loop
-    row-count-requires
-    loop-holds
-    element-copy-out-row-byte
-    row-byte-requires
-    mul-areas
-    slice-write-areas
-    add-mask
-    loop-less
-    loop-again
-    same-length
-    returns)
+    tie.close (tie.spec Inv-loop μ-loop (λ c κs. search needs) loop-holds element-copy-out-row-byte (λ c κs. search needs) mul-areas
+    slice-write-areas add-mask loop-less loop-again same-length returns)

@@ -17,9 +17,6 @@ use Rattle.sums.proofs.Valuing.{all-known, area-of-none, ready-roomy, r
 use Rattle.sums.proofs.row.clipped_row.Statement.{statement}
 use Rattle.sums.proofs.row.clipped_row.Tie as tie
 
-empty-box-requires : tie.Need-empty-box-requires
-empty-box-requires c κs = search needs
-
 returns : tie.Need-returns
 returns c =
     let s = c .before .before in
@@ -35,8 +32,7 @@ add-integrals-requires c κs =
     let s = w .before .before .before .before in
     let a = s .args in
     let listing = w .walk .ensures .1 in
-    let roomy = ready-roomy (a .c .now) (a .n-sets) (a .mask) (a .counts .now) (a .owners .now) (a .phi .now) (a .lets .now) (s .pre .1 .0) in
-    (
+    let roomy = ready-roomy (a .c .now) (a .n-sets) (a .mask) (a .counts .now) (a .owners .now) (a .phi .now) (a .lets .now) (s .pre .1 .0) in (
       (s .pre .0 .0, (w .walk .ensures .0, listing .long)),
       all-known (a .n-sets) (a .mask) (a .counts .now) (s .pre .0 .0) roomy _ (a .value .now) (s .pre .1 .1 .0) listing,
     )
@@ -51,8 +47,7 @@ returns-2 c =
     let e = w .before .before in
     let s = e .before .before in
     let a = s .args in
-    let listing = w .walk .ensures .1 in
-    (
+    let listing = w .walk .ensures .1 in (
       listing .long,
       λ points few marks. row-in-box (a .c .now) (a .n-sets) points (a .mask) (a .counts .now) (a .phi .now) (a .adopters .now) (s .pre .0 .0) (s .pre .0 .1 .0) few marks
           listing (a .bounds) (sym (e .before .empty-box .ensures) ∙ e .if1 .left) (i .add-integrals .ensures)
@@ -60,12 +55,4 @@ returns-2 c =
     )
 
 pub clipped-row-spec : {M : Type 1} → statement M
-clipped-row-spec =
-    tie.close
-    (tie.spec
-    empty-box-requires
-    returns
-    walk-requires
-    add-integrals-requires
-    add-edges-requires
-    returns-2)
+clipped-row-spec = tie.close (tie.spec (λ c κs. search needs) returns walk-requires add-integrals-requires add-edges-requires returns-2)

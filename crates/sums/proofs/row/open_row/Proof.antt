@@ -14,8 +14,7 @@ add-terms-requires c κs =
     let s = w .before .before in
     let a = s .args in
     let listing = w .walk .ensures .1 in
-    let roomy = ready-roomy (a .c .now) (a .n-sets) (a .mask) (a .counts .now) (a .owners .now) (a .phi .now) (a .lets .now) (s .pre .1 .0) in
-    (
+    let roomy = ready-roomy (a .c .now) (a .n-sets) (a .mask) (a .counts .now) (a .owners .now) (a .phi .now) (a .lets .now) (s .pre .1 .0) in (
       (s .pre .0 .0, (w .walk .ensures .0, listing .long)),
       terms-known (a .n-sets) (a .mask) (circlesIn (a .c .now) (a .n-sets)) (a .counts .now) (a .phi .now) (a .xs .now) (a .ys .now) (a .rs .now) (s .pre .0 .0) roomy
           (s .pre .1 .1) listing,
@@ -26,8 +25,7 @@ returns c =
     let w = c .before .before in
     let s = w .before .before in
     let a = s .args in
-    let listing = w .walk .ensures .1 in
-    (
+    let listing = w .walk .ensures .1 in (
       listing .long,
       λ points few marks. row-open (a .c .now) (a .n-sets) points (a .mask) (a .counts .now) (a .phi .now) (a .adopters .now) (s .pre .0 .0) (s .pre .0 .1 .0) few marks
           listing (c .add-terms .ensures),

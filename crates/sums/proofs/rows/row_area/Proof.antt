@@ -3,17 +3,11 @@ use mathlib.Core.Path.{_≡_}
 use Rattle.sums.proofs.rows.row_area.Statement.{statement}
 use Rattle.sums.proofs.rows.row_area.Tie as tie
 
-clipped-region-area-requires : tie.Need-clipped-region-area-requires
-clipped-region-area-requires c κs = search needs
-
 returns : tie.Need-returns
 returns c = rw (c .before .if1 .taken) (c .clipped-region-area .ensures)
-
-region-area-requires : tie.Need-region-area-requires
-region-area-requires c κs = search needs
 
 returns-2 : tie.Need-returns-2
 returns-2 c = rw (c .before .if1 .left) (c .region-area .ensures)
 
 pub row-area-spec : {M : Type 1} → statement M
-row-area-spec = tie.close (tie.spec clipped-region-area-requires returns region-area-requires returns-2)
+row-area-spec = tie.close (tie.spec (λ c κs. search needs) returns (λ c κs. search needs) returns-2)

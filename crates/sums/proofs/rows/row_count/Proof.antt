@@ -8,12 +8,6 @@ use Rattle.sums.specs.Rows.{rowsOf}
 use Rattle.sums.proofs.rows.row_count.Statement.{statement}
 use Rattle.sums.proofs.rows.row_count.Tie as tie
 
-at-most-ten-requires : tie.Need-at-most-ten-requires
-at-most-ten-requires c κs = search needs
-
-shl-rows : tie.Need-shl-rows
-shl-rows c = search needs
-
 -- as many rows as the circles that count have
 rows : (c : tie.After-at-most-ten) → shifted 64 (c .at-most-ten .result) ≡ rowsOf (c .before .args .n-sets)
 rows c = let few = c .at-most-ten .ensures in shifted-is 64 (c .at-most-ten .result) (omega arith) ∙ ap (λ (n : ℕ). 2 ^ n) few
@@ -25,4 +19,4 @@ returns-2 : tie.Need-returns-2
 returns-2 c = omega (arith, rows (c .before), c .if1 .left)
 
 pub row-count-spec : {M : Type 1} → statement M
-row-count-spec = tie.close (tie.spec at-most-ten-requires shl-rows returns returns-2)
+row-count-spec = tie.close (tie.spec (λ c κs. search needs) (λ c. search needs) returns returns-2)

@@ -17,33 +17,12 @@ use Rattle.sums.proofs.Valuing.{term-is}
 use Rattle.sums.proofs.terms.add_arc.Statement.{statement}
 use Rattle.sums.proofs.terms.add_arc.Tie as tie
 
-mul-result : tie.Need-mul-result
-mul-result c = search needs
-
-element-copy-out-result : tie.Need-element-copy-out-result
-element-copy-out-result c = search needs
-
-mul-result-2 : tie.Need-mul-result-2
-mul-result-2 c = search needs
-
-element-copy-out-result-2 : tie.Need-element-copy-out-result-2
-element-copy-out-result-2 c = search needs
-
-mul-result-3 : tie.Need-mul-result-3
-mul-result-3 c = search needs
-
-element-copy-out-result-3 : tie.Need-element-copy-out-result-3
-element-copy-out-result-3 c = search needs
-
 returns : tie.Need-returns
 returns c =
     let d = c .before .before .before in
     let s = d .before in
     let known = s .pre .1 in
     rw (known .x .held (d .if1 .taken), known .y .held (d .if1 .taken), known .r .held (d .if1 .taken))
-
-head-of-requires : tie.Need-head-of-requires
-head-of-requires c κs = search needs
 
 circle-at-requires : tie.Need-circle-at-requires
 circle-at-requires c κs =
@@ -52,15 +31,6 @@ circle-at-requires c κs =
 
 arc-at-requires : tie.Need-arc-at-requires
 arc-at-requires c κs = c .before .before .before .pre .1 .x .readable
-
-term-x-requires : tie.Need-term-x-requires
-term-x-requires c κs = search needs
-
-term-y-requires : tie.Need-term-y-requires
-term-y-requires c κs = search needs
-
-term-r-requires : tie.Need-term-r-requires
-term-r-requires c κs = search needs
 
 returns-2 : tie.Need-returns-2
 returns-2 c =
@@ -78,19 +48,6 @@ returns-2 c =
 
 pub add-arc-spec : {M : Type 1} → statement M
 add-arc-spec =
-    tie.close
-    (tie.spec
-    mul-result
-    element-copy-out-result
-    mul-result-2
-    element-copy-out-result-2
-    mul-result-3
-    element-copy-out-result-3
-    returns
-    head-of-requires
-    circle-at-requires
-    arc-at-requires
-    term-x-requires
-    term-y-requires
-    term-r-requires
-    returns-2)
+    tie.close (tie.spec (λ c. search needs) (λ c. search needs) (λ c. search needs) (λ c. search needs) (λ c. search needs)
+    (λ c. search needs) returns (λ c κs. search needs) circle-at-requires arc-at-requires (λ c κs. search needs) (λ c κs. search needs)
+    (λ c κs. search needs) returns-2)

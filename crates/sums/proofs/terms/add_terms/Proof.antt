@@ -30,12 +30,6 @@ abbrev μ-loop : tie.MeasureT-loop
 loop-holds : tie.Need-loop-holds Inv-loop μ-loop
 loop-holds c = (c .pre .0 .1 .1, omega arith, refl)
 
-mul-add-arc : tie.Need-mul-add-arc Inv-loop μ-loop
-mul-add-arc c = search needs
-
-element-copy-out-add-arc : tie.Need-element-copy-out-add-arc Inv-loop μ-loop
-element-copy-out-add-arc c = search needs
-
 add-arc-requires : tie.Need-add-arc-requires Inv-loop μ-loop
 add-arc-requires c κs =
     let d = c .before in
@@ -45,18 +39,11 @@ add-arc-requires c κs =
     let inside : i < length (take (a .k) (a .list .now)) = omega (arith, length-take (a .k) (a .list .now)) in
     (s .pre .0 .0, rw (getD-take (a .k) (a .list .now) i 0 (omega arith)) at (every-at _ (take (a .k) (a .list .now)) i 0 inside (s .pre .1)))
 
-add-i : tie.Need-add-i Inv-loop μ-loop
-add-i c = search needs
-
-loop-less : tie.Need-loop-less Inv-loop μ-loop
-loop-less c = search needs
-
 loop-again : tie.Need-loop-again Inv-loop μ-loop
 loop-again c =
     let d = c .before .before .before in
     let a = d .before .args in
-    let l = d .loop in
-    (
+    let l = d .loop in (
       l .inv .0,
       omega arith,
       c .add-arc .ensures ∙ rw (l .inv .2) (fold-suc (addTerms (circlesIn (a .c .now) (a .n-sets)) (a .counts .now) (a .phi .now)) zero64 (a .list .now) (l .i) 0 (omega arith)),
@@ -70,15 +57,5 @@ returns c =
 
 pub add-terms-spec : {M : Type 1} → statement M
 add-terms-spec =
-    tie.close
-    (tie.spec
-    Inv-loop
-    μ-loop
-    loop-holds
-    mul-add-arc
-    element-copy-out-add-arc
-    add-arc-requires
-    add-i
-    loop-less
-    loop-again
-    returns)
+    tie.close (tie.spec Inv-loop μ-loop loop-holds (λ c. search needs) (λ c. search needs) add-arc-requires (λ c. search needs)
+    (λ c. search needs) loop-again returns)

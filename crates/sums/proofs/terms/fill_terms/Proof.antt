@@ -31,12 +31,6 @@ abbrev μ-loop : tie.MeasureT-loop
 loop-holds : tie.Need-loop-holds Inv-loop μ-loop
 loop-holds c = (c .pre .1 .0, c .pre .1 .1 .0, c .pre .1 .1 .1, omega arith, held-none _, held-none _, held-none _)
 
-is-standing-requires : tie.Need-is-standing-requires Inv-loop μ-loop
-is-standing-requires c κs = search needs
-
-head-of-requires : tie.Need-head-of-requires Inv-loop μ-loop
-head-of-requires c κs = search needs
-
 circle-at-requires : tie.Need-circle-at-requires Inv-loop μ-loop
 circle-at-requires c κs =
     let i = c .before .before in
@@ -60,39 +54,6 @@ arc-at-requires c κs =
     let is = sym (i .is-standing .ensures) ∙ c .before .before .if1 .taken in
     standing-readable (a .n-sets) (a .needed) (a .counts .now) (s .pre .0 .1 .0) (s .pre .0 .1 .1) (d .before .loop .p) (d .loop-test .taken) is
 
-term-x-requires : tie.Need-term-x-requires Inv-loop μ-loop
-term-x-requires c κs = search needs
-
-mul-xs : tie.Need-mul-xs Inv-loop μ-loop
-mul-xs c = search needs
-
-element-write-xs : tie.Need-element-write-xs Inv-loop μ-loop
-element-write-xs c = search needs
-
-term-y-requires : tie.Need-term-y-requires Inv-loop μ-loop
-term-y-requires c κs = search needs
-
-mul-ys : tie.Need-mul-ys Inv-loop μ-loop
-mul-ys c = search needs
-
-element-write-ys : tie.Need-element-write-ys Inv-loop μ-loop
-element-write-ys c = search needs
-
-term-r-requires : tie.Need-term-r-requires Inv-loop μ-loop
-term-r-requires c κs = search needs
-
-mul-rs : tie.Need-mul-rs Inv-loop μ-loop
-mul-rs c = search needs
-
-element-write-rs : tie.Need-element-write-rs Inv-loop μ-loop
-element-write-rs c = search needs
-
-add-p : tie.Need-add-p Inv-loop μ-loop
-add-p c = search needs
-
-loop-less : tie.Need-loop-less Inv-loop μ-loop
-loop-less c = search needs
-
 loop-again : tie.Need-loop-again Inv-loop μ-loop
 loop-again c =
     let k = c .before .before .before in
@@ -104,8 +65,7 @@ loop-again c =
     let l = d .before .loop in
     let is = sym (i .is-standing .ensures) ∙ h .before .if1 .taken in
     let head = standing-below (a .n-sets) (a .needed) (a .counts .now) (s .pre .0 .1 .0) (s .pre .0 .1 .1) (l .p) (d .loop-test .taken) is in
-    let circle = k .before .circle-at .ensures ∙ ap (circleIn (a .c .now)) (h .head-of .ensures) in
-    (
+    let circle = k .before .circle-at .ensures ∙ ap (circleIn (a .c .now)) (h .head-of .ensures) in (
       simp length-set (l .inv .0),
       simp length-set (l .inv .1),
       simp length-set (l .inv .2),
@@ -118,9 +78,6 @@ loop-again c =
           ∙ term-is termR (a .c .now) (a .n-sets) (a .counts .now) (a .phi .now) (l .p) head circle (k .arc-at .ensures)) (l .inv .6),
     )
 
-past-requires : tie.Need-past-requires Inv-loop μ-loop
-past-requires c κs = search needs
-
 loop-less-2 : tie.Need-loop-less-2 Inv-loop μ-loop
 loop-less-2 c = omega (arith, c .past .ensures .0 .0, c .past .ensures .0 .1)
 
@@ -130,8 +87,7 @@ loop-again-2 c =
     let l = i .before .before .loop in
     let a = i .before .before .before .args in
     let none : (q : ℕ) → l .p ≤ q → q < _ → standing (a .needed) (a .counts .now) q ≡ true → ⊥ =
-        λ q h k is. true≢false (sym is ∙ c .past .ensures .1 (a .needed) (a .counts .now) (sym (i .is-standing .ensures) ∙ c .before .if1 .left) q h k) in
-    (
+    λ q h k is. true≢false (sym is ∙ c .past .ensures .1 (a .needed) (a .counts .now) (sym (i .is-standing .ensures) ∙ c .before .if1 .left) q h k) in (
       l .inv .0,
       l .inv .1,
       l .inv .2,
@@ -153,28 +109,7 @@ returns c =
 
 pub fill-terms-spec : {M : Type 1} → statement M
 fill-terms-spec =
-    tie.close
-    (tie.spec
-    Inv-loop
-    μ-loop
-    loop-holds
-    is-standing-requires
-    head-of-requires
-    circle-at-requires
-    arc-at-requires
-    term-x-requires
-    mul-xs
-    element-write-xs
-    term-y-requires
-    mul-ys
-    element-write-ys
-    term-r-requires
-    mul-rs
-    element-write-rs
-    add-p
-    loop-less
-    loop-again
-    past-requires
-    loop-less-2
-    loop-again-2
-    returns)
+    tie.close (tie.spec Inv-loop μ-loop loop-holds (λ c κs. search needs) (λ c κs. search needs) circle-at-requires arc-at-requires
+    (λ c κs. search needs) (λ c. search needs) (λ c. search needs) (λ c κs. search needs) (λ c. search needs) (λ c. search needs)
+    (λ c κs. search needs) (λ c. search needs) (λ c. search needs) (λ c. search needs) (λ c. search needs) loop-again
+    (λ c κs. search needs) loop-less-2 loop-again-2 returns)

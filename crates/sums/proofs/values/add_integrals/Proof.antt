@@ -36,12 +36,6 @@ abbrev μ-loop : tie.MeasureT-loop
 loop-holds : tie.Need-loop-holds Inv-loop μ-loop
 loop-holds c = (c .pre .0 .1 .1, omega arith, refl)
 
-mul-integral-at : tie.Need-mul-integral-at Inv-loop μ-loop
-mul-integral-at c = search needs
-
-element-copy-out-integral-at : tie.Need-element-copy-out-integral-at Inv-loop μ-loop
-element-copy-out-integral-at c = search needs
-
 integral-at-requires : tie.Need-integral-at-requires Inv-loop μ-loop
 integral-at-requires c κs =
     let d = c .before in
@@ -51,18 +45,11 @@ integral-at-requires c κs =
     let inside : i < length (take (a .k) (a .list .now)) = omega (arith, length-take (a .k) (a .list .now)) in
     (s .pre .0 .0, rw (getD-take (a .k) (a .list .now) i 0 (omega arith)) at (every-at _ (take (a .k) (a .list .now)) i 0 inside (s .pre .1)))
 
-add-i : tie.Need-add-i Inv-loop μ-loop
-add-i c = search needs
-
-loop-less : tie.Need-loop-less Inv-loop μ-loop
-loop-less c = search needs
-
 loop-again : tie.Need-loop-again Inv-loop μ-loop
 loop-again c =
     let d = c .before .before .before in
     let a = d .before .args in
-    let l = d .loop in
-    (
+    let l = d .loop in (
       l .inv .0,
       omega arith,
       rw (c .integral-at .ensures, l .inv .2) (fold-suc _ zero64 (a .list .now) (l .i) 0 (omega arith)),
@@ -76,15 +63,5 @@ returns c =
 
 pub add-integrals-spec : {M : Type 1} → statement M
 add-integrals-spec =
-    tie.close
-    (tie.spec
-    Inv-loop
-    μ-loop
-    loop-holds
-    mul-integral-at
-    element-copy-out-integral-at
-    integral-at-requires
-    add-i
-    loop-less
-    loop-again
-    returns)
+    tie.close (tie.spec Inv-loop μ-loop loop-holds (λ c. search needs) (λ c. search needs) integral-at-requires (λ c. search needs)
+    (λ c. search needs) loop-again returns)

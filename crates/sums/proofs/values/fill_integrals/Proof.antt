@@ -35,9 +35,6 @@ abbrev μ-loop : tie.MeasureT-loop
 loop-holds : tie.Need-loop-holds Inv-loop μ-loop
 loop-holds c = (c .pre .1, omega arith, held-none _)
 
-is-standing-requires : tie.Need-is-standing-requires Inv-loop μ-loop
-is-standing-requires c κs = search needs
-
 integral-of-requires : tie.Need-integral-of-requires Inv-loop μ-loop
 integral-of-requires c κs =
     let i = c .before in
@@ -45,34 +42,18 @@ integral-of-requires c κs =
     let s = d .before .before in
     let a = s .args in
     let p = d .before .loop .p in
-    let is = sym (i .is-standing .ensures) ∙ c .if1 .taken in
-    (
+    let is = sym (i .is-standing .ensures) ∙ c .if1 .taken in (
       s .pre .0 .0,
       (
-      standing-below (a .n-sets) (a .needed) (a .counts .now) (s .pre .0 .1 .0) (s .pre .0 .1 .1) p (d .loop-test .taken) is,
-      standing-readable (a .n-sets) (a .needed) (a .counts .now) (s .pre .0 .1 .0) (s .pre .0 .1 .1) p (d .loop-test .taken) is,
+        standing-below (a .n-sets) (a .needed) (a .counts .now) (s .pre .0 .1 .0) (s .pre .0 .1 .1) p (d .loop-test .taken) is,
+        standing-readable (a .n-sets) (a .needed) (a .counts .now) (s .pre .0 .1 .0) (s .pre .0 .1 .1) p (d .loop-test .taken) is,
       ),
     )
-
-mul-value : tie.Need-mul-value Inv-loop μ-loop
-mul-value c = search needs
-
-element-write-value : tie.Need-element-write-value Inv-loop μ-loop
-element-write-value c = search needs
-
-add-p : tie.Need-add-p Inv-loop μ-loop
-add-p c = search needs
-
-loop-less : tie.Need-loop-less Inv-loop μ-loop
-loop-less c = search needs
 
 loop-again : tie.Need-loop-again Inv-loop μ-loop
 loop-again c =
     let l = c .before .before .before .before .loop in
     (simp length-set (l .inv .0), omega arith, held-put _ (omega arith) (c .integral-of .ensures) (l .inv .2))
-
-past-requires : tie.Need-past-requires Inv-loop μ-loop
-past-requires c κs = search needs
 
 loop-less-2 : tie.Need-loop-less-2 Inv-loop μ-loop
 loop-less-2 c = omega (arith, c .past .ensures .0 .0, c .past .ensures .0 .1)
@@ -82,8 +63,7 @@ loop-again-2 c =
     let i = c .before .before in
     let l = i .before .before .loop in
     let a = i .before .before .before .args in
-    let none = sym (i .is-standing .ensures) ∙ c .before .if1 .left in
-    (
+    let none = sym (i .is-standing .ensures) ∙ c .before .if1 .left in (
       l .inv .0,
       omega (arith, c .past .ensures .0 .1),
       held-jump (λ q h k is. true≢false (sym is ∙ c .past .ensures .1 (a .needed) (a .counts .now) none q h k)) (l .inv .2),
@@ -97,19 +77,5 @@ returns c =
 
 pub fill-integrals-spec : {M : Type 1} → statement M
 fill-integrals-spec =
-    tie.close
-    (tie.spec
-    Inv-loop
-    μ-loop
-    loop-holds
-    is-standing-requires
-    integral-of-requires
-    mul-value
-    element-write-value
-    add-p
-    loop-less
-    loop-again
-    past-requires
-    loop-less-2
-    loop-again-2
-    returns)
+    tie.close (tie.spec Inv-loop μ-loop loop-holds (λ c κs. search needs) integral-of-requires (λ c. search needs) (λ c. search needs)
+    (λ c. search needs) (λ c. search needs) loop-again (λ c κs. search needs) loop-less-2 loop-again-2 returns)

@@ -19,23 +19,10 @@ use borrow.Author.Needs.{needs}
 use Rattle.sums.proofs.values.integral_at.Statement.{statement}
 use Rattle.sums.proofs.values.integral_at.Tie as tie
 
-mul-result : tie.Need-mul-result
-mul-result c = search needs
-
-element-copy-out-result : tie.Need-element-copy-out-result
-element-copy-out-result c = search needs
-
 returns : tie.Need-returns
 returns c =
     let s = c .before .before in
     s .pre .1 .held (c .before .if1 .taken)
 
-integral-of-requires : tie.Need-integral-of-requires
-integral-of-requires c κs = search needs
-
-returns-2 : tie.Need-returns-2
-returns-2 c = search needs
-
 pub integral-at-spec : {M : Type 1} → statement M
-integral-at-spec =
-    tie.close (tie.spec mul-result element-copy-out-result returns integral-of-requires returns-2)
+integral-at-spec = tie.close (tie.spec (λ c. search needs) (λ c. search needs) returns (λ c κs. search needs) (λ c. search needs))

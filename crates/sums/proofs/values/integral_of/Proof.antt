@@ -22,18 +22,6 @@ use Rattle.sums.proofs.Valuing.{term-is}
 use Rattle.sums.proofs.values.integral_of.Statement.{statement}
 use Rattle.sums.proofs.values.integral_of.Tie as tie
 
-head-of-requires : tie.Need-head-of-requires
-head-of-requires c κs = search needs
-
-circle-at-requires : tie.Need-circle-at-requires
-circle-at-requires c κs = search needs
-
-arc-at-requires : tie.Need-arc-at-requires
-arc-at-requires c κs = search needs
-
-clipped-arc-integral-requires : tie.Need-clipped-arc-integral-requires
-clipped-arc-integral-requires c κs = search needs
-
 returns : tie.Need-returns
 returns c =
     let k = c .before .before in
@@ -44,11 +32,4 @@ returns c =
     (k .circle-at .ensures ∙ ap (circleIn (a .c .now)) (k .before .head-of .ensures)) (c .before .arc-at .ensures)
 
 pub integral-of-spec : {M : Type 1} → statement M
-integral-of-spec =
-    tie.close
-    (tie.spec
-    head-of-requires
-    circle-at-requires
-    arc-at-requires
-    clipped-arc-integral-requires
-    returns)
+integral-of-spec = tie.close (tie.spec (λ c κs. search needs) (λ c κs. search needs) (λ c κs. search needs) (λ c κs. search needs) returns)

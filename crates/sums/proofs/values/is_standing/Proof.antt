@@ -20,15 +20,6 @@ use Rattle.sums.proofs.Valuing.{standing-near, standing-whole}
 use Rattle.sums.proofs.values.is_standing.Statement.{statement}
 use Rattle.sums.proofs.values.is_standing.Tie as tie
 
-shr-if2 : tie.Need-shr-if2
-shr-if2 c = search needs
-
-mul-result : tie.Need-mul-result
-mul-result c = search needs
-
-element-copy-out-result : tie.Need-element-copy-out-result
-element-copy-out-result c = search needs
-
 returns : tie.Need-returns
 returns c =
     let s = c .before .before in
@@ -41,9 +32,6 @@ returns-2 c =
     let a = s .before .args in
     sym (standing-near (a .needed) (a .counts .now) (a .place) (omega arith) ∙ rw (sym (in-by-shift (a .needed) (a .place / 32)) ∙ ne-eqb _ _ (c .if2 .left)))
 
-shr-result : tie.Need-shr-result
-shr-result c = search needs
-
 returns-3 : tie.Need-returns-3
 returns-3 c =
     let a = c .before .args in
@@ -51,5 +39,4 @@ returns-3 c =
 
 pub is-standing-spec : {M : Type 1} → statement M
 is-standing-spec =
-    tie.close
-    (tie.spec shr-if2 mul-result element-copy-out-result returns returns-2 shr-result returns-3)
+    tie.close (tie.spec (λ c. search needs) (λ c. search needs) (λ c. search needs) returns returns-2 (λ c. search needs) returns-3)

@@ -20,20 +20,11 @@ use Rattle.sums.proofs.Valuing.{standing-past}
 use Rattle.sums.proofs.values.past.Statement.{statement}
 use Rattle.sums.proofs.values.past.Tie as tie
 
-add-result : tie.Need-add-result
-add-result c = search needs
-
-mul-result : tie.Need-mul-result
-mul-result c = search needs
-
 returns : tie.Need-returns
 returns c = ((omega arith, omega arith), λ needed counts none q l u. standing-past needed counts (c .before .args .place) (omega arith) none q l u)
-
-add-result-2 : tie.Need-add-result-2
-add-result-2 c = search needs
 
 returns-2 : tie.Need-returns-2
 returns-2 c = ((omega arith, omega arith), λ needed counts none q l u. let same : q ≡ c .before .args .place = omega (arith, l, u) in rw same none)
 
 pub past-spec : {M : Type 1} → statement M
-past-spec = tie.close (tie.spec add-result mul-result returns add-result-2 returns-2)
+past-spec = tie.close (tie.spec (λ c. search needs) (λ c. search needs) returns (λ c. search needs) returns-2)

@@ -13,32 +13,12 @@ use Rattle.boundary.proofs.angles.point_at.Reads as point-at-reads
 use Rattle.sums.proofs.walk.circle_at.Reads as circle-at-reads
 use Rattle.sums.proofs.walk.owned_in.Reads as owned-in-reads
 
--- src/walk.rt:58:9
-gap-requires : tie.Need-gap-requires
-gap-requires c κs = search needs
-
--- src/walk.rt:59:8
-collapsed-requires : tie.Need-collapsed-requires
-collapsed-requires c κs = search needs
-
 -- src/walk.rt:60:9
 returns : tie.Need-returns
 returns c =
     let a = c .before .before .before .args in
     arc-none (circlesIn (a .c .now) (a .n-sets)) (a .mask) (a .j) (a .phi-a) (a .phi-b) _ (c .before .before .gap .ensures)
     (sym (c .before .collapsed .ensures) ∙ c .if1 .taken)
-
--- src/walk.rt:62:9
-circle-at-requires : tie.Need-circle-at-requires
-circle-at-requires c κs = search needs
-
--- src/walk.rt:68:9
-point-at-requires : tie.Need-point-at-requires
-point-at-requires c κs = search needs
-
--- src/walk.rt:63:5
-owned-in-requires : tie.Need-owned-in-requires
-owned-in-requires c κs = search needs
 
 -- src/walk.rt:54:1
 returns-2 : tie.Need-returns-2
@@ -55,12 +35,5 @@ returns-2 c =
 
 pub is-arc-spec : {M : Type 1} → statement M
 is-arc-spec =
-    tie.close
-    (tie.spec
-    gap-requires
-    collapsed-requires
-    returns
-    circle-at-requires
-    point-at-requires
-    owned-in-requires
-    returns-2)
+    tie.close (tie.spec (λ c κs. search needs) (λ c κs. search needs) returns (λ c κs. search needs) (λ c κs. search needs)
+    (λ c κs. search needs) returns-2)

@@ -22,46 +22,6 @@ abbrev μ-loop : tie.MeasureT-loop
 μ-loop mask c n-sets j counts owners phi adopters lets list₀ k at n first r₀ last₀ b₀ list r last b =
     n - b
 
--- src/walk.rt:154:14
-mul-at : tie.Need-mul-at Inv-loop μ-loop
-mul-at c = search needs
-
--- src/walk.rt:155:13
-mul-n : tie.Need-mul-n Inv-loop μ-loop
-mul-n c = search needs
-
--- src/walk.rt:155:13
-element-copy-out-n : tie.Need-element-copy-out-n Inv-loop μ-loop
-element-copy-out-n c = search needs
-
--- src/walk.rt:156:9
-next-in-requires : tie.Need-next-in-requires Inv-loop μ-loop
-next-in-requires c κs = search needs
-
--- src/walk.rt:158:19
-mul-if2 : tie.Need-mul-if2 Inv-loop μ-loop
-mul-if2 c = search needs
-
--- src/walk.rt:158:19
-element-copy-out-if2 : tie.Need-element-copy-out-if2 Inv-loop μ-loop
-element-copy-out-if2 c = search needs
-
--- src/walk.rt:159:23
-add-list : tie.Need-add-list Inv-loop μ-loop
-add-list c = search needs
-
--- src/walk.rt:159:13
-mul-list : tie.Need-mul-list Inv-loop μ-loop
-mul-list c = search needs
-
--- src/walk.rt:159:13
-element-write-list : tie.Need-element-write-list Inv-loop μ-loop
-element-write-list c = search needs
-
--- src/walk.rt:160:20
-add-result : tie.Need-add-result Inv-loop μ-loop
-add-result c = search needs
-
 -- src/walk.rt:160:13
 returns : tie.Need-returns Inv-loop μ-loop
 returns c =
@@ -90,14 +50,6 @@ returns-2 c =
           (getD (a .owners .now) (a .j) 0) (rw (circles-many (a .c .now) (a .n-sets)) (p .0 .1 .1 .0)) (p .1 .0 .probed) (p .1 .1 .1) (c .if2 .left),
     )
 
--- src/walk.rt:166:45
-add-next-in : tie.Need-add-next-in Inv-loop μ-loop
-add-next-in c = search needs
-
--- src/walk.rt:166:9
-next-in-requires-2 : tie.Need-next-in-requires-2 Inv-loop μ-loop
-next-in-requires-2 c κs = search needs
-
 -- src/walk.rt:167:5
 loop-holds : tie.Need-loop-holds Inv-loop μ-loop
 loop-holds c =
@@ -124,18 +76,6 @@ list-gap-requires c κs =
         (p .1 .0 .gaps (l .last) (w .last-below), (omega (arith, p .0 .0, p .0 .1 .0, p .1 .0 .few, w .room, w .last-below), w .kept)),
       ),
     )
-
--- src/walk.rt:182:41
-add-next-in-2 : tie.Need-add-next-in-2 Inv-loop μ-loop
-add-next-in-2 c = search needs
-
--- src/walk.rt:182:9
-next-in-requires-3 : tie.Need-next-in-requires-3 Inv-loop μ-loop
-next-in-requires-3 c κs = search needs
-
--- src/walk.rt:167:5
-loop-less : tie.Need-loop-less Inv-loop μ-loop
-loop-less c = search needs
 
 -- src/walk.rt:167:5
 loop-again : tie.Need-loop-again Inv-loop μ-loop
@@ -181,29 +121,7 @@ returns-3 c =
 
 pub list-head-spec : {M : Type 1} → statement M
 list-head-spec =
-    tie.close
-    (tie.spec
-    Inv-loop
-    μ-loop
-    mul-at
-    mul-n
-    element-copy-out-n
-    next-in-requires
-    mul-if2
-    element-copy-out-if2
-    add-list
-    mul-list
-    element-write-list
-    add-result
-    returns
-    returns-2
-    add-next-in
-    next-in-requires-2
-    loop-holds
-    list-gap-requires
-    add-next-in-2
-    next-in-requires-3
-    loop-less
-    loop-again
-    list-gap-requires-2
-    returns-3)
+    tie.close (tie.spec Inv-loop μ-loop (λ c. search needs) (λ c. search needs) (λ c. search needs) (λ c κs. search needs)
+    (λ c. search needs) (λ c. search needs) (λ c. search needs) (λ c. search needs) (λ c. search needs) (λ c. search needs) returns
+    returns-2 (λ c. search needs) (λ c κs. search needs) loop-holds list-gap-requires (λ c. search needs) (λ c κs. search needs)
+    (λ c. search needs) loop-again list-gap-requires-2 returns-3)

@@ -6,14 +6,6 @@ use Rattle.sums.proofs.walk.next.Tie as tie
 use Rattle.sums.proofs.walk.next.Reads as reads
 use Rattle.sums.proofs.walk.next.Lts as lts
 
--- src/walk.rt:92:8
-add-if1 : tie.Need-add-if1
-add-if1 c = search needs
-
--- src/walk.rt:93:16
-add-result : tie.Need-add-result
-add-result c = search needs
-
 -- src/walk.rt:93:9
 returns : tie.Need-returns
 returns c = let a = c .before .args in next-inside (a .a) (a .n) (c .if1 .taken)
@@ -23,4 +15,4 @@ returns-2 : tie.Need-returns-2
 returns-2 c = let a = c .before .args in next-round (a .a) (a .n) (c .before .pre) (omega arith)
 
 pub next-spec : {M : Type 1} → statement M
-next-spec = tie.close (tie.spec add-if1 add-result returns returns-2)
+next-spec = tie.close (tie.spec (λ c. search needs) (λ c. search needs) returns returns-2)

@@ -25,18 +25,6 @@ loop-holds c =
     let a = c .args in
     (c .pre .1, omega arith, next-start (a .mask) (a .adopters .now) (a .at) (a .from) (a .from) refl)
 
--- src/walk.rt:136:28
-add-if1 : tie.Need-add-if1 Inv-loop μ-loop
-add-if1 c = search needs
-
--- src/walk.rt:136:19
-mul-if1 : tie.Need-mul-if1 Inv-loop μ-loop
-mul-if1 c = search needs
-
--- src/walk.rt:136:19
-element-copy-out-if1 : tie.Need-element-copy-out-if1 Inv-loop μ-loop
-element-copy-out-if1 c = search needs
-
 -- src/walk.rt:137:13
 returns : tie.Need-returns Inv-loop μ-loop
 returns c =
@@ -48,14 +36,6 @@ returns c =
       none = d .loop .inv .2;
       here = λ _. sym (and-test 64 (a .mask) (getD (a .adopters .now) (a .at + d .loop .i) 0) (d .before .fits .mask .fits)) ∙ eq-eqb _ _ (c .if1 .taken);
     }
-
--- src/walk.rt:139:9
-add-i : tie.Need-add-i Inv-loop μ-loop
-add-i c = search needs
-
--- src/walk.rt:135:5
-loop-less : tie.Need-loop-less Inv-loop μ-loop
-loop-less c = search needs
 
 -- src/walk.rt:135:5
 loop-again : tie.Need-loop-again Inv-loop μ-loop
@@ -83,16 +63,5 @@ returns-2 c =
 
 pub next-in-spec : {M : Type 1} → statement M
 next-in-spec =
-    tie.close
-    (tie.spec
-    Inv-loop
-    μ-loop
-    loop-holds
-    add-if1
-    mul-if1
-    element-copy-out-if1
-    returns
-    add-i
-    loop-less
-    loop-again
-    returns-2)
+    tie.close (tie.spec Inv-loop μ-loop loop-holds (λ c. search needs) (λ c. search needs) (λ c. search needs) returns (λ c. search needs)
+    (λ c. search needs) loop-again returns-2)

@@ -30,18 +30,6 @@ loop-holds : tie.Need-loop-holds Inv-loop μ-loop
 unfolding every
 loop-holds c = (omega arith, refl)
 
--- src/walk.rt:46:12
-shr-if1 : tie.Need-shr-if1 Inv-loop μ-loop
-shr-if1 c = search needs
-
--- src/walk.rt:47:31
-circle-at-requires : tie.Need-circle-at-requires Inv-loop μ-loop
-circle-at-requires c κs = search needs
-
--- src/walk.rt:47:17
-lets-requires : tie.Need-lets-requires Inv-loop μ-loop
-lets-requires c κs = search needs
-
 -- src/walk.rt:48:17
 returns : tie.Need-returns Inv-loop μ-loop
 returns c =
@@ -53,14 +41,6 @@ returns c =
     (sym (in-by-shift (a .mask) l) ∙ eq-eqb _ _ (c .before .before .before .if1 .taken))
     (ap (lets (a .j) (a .p) l) (circle-of (a .c .now) (a .n-sets) l below ∙ sym (c .before .before .circle-at .ensures)) ∙ sym (c .before .lets .ensures)
     ∙ not-true _ (c .if2 .taken))
-
--- src/walk.rt:51:9
-add-l : tie.Need-add-l Inv-loop μ-loop
-add-l c = search needs
-
--- src/walk.rt:45:5
-loop-less : tie.Need-loop-less Inv-loop μ-loop
-loop-less c = search needs
 
 -- src/walk.rt:45:5
 loop-again : tie.Need-loop-again Inv-loop μ-loop
@@ -94,16 +74,5 @@ returns-2 c =
 
 pub owned-in-spec : {M : Type 1} → statement M
 owned-in-spec =
-    tie.close
-    (tie.spec
-    Inv-loop
-    μ-loop
-    loop-holds
-    shr-if1
-    circle-at-requires
-    lets-requires
-    returns
-    add-l
-    loop-less
-    loop-again
-    returns-2)
+    tie.close (tie.spec Inv-loop μ-loop loop-holds (λ c. search needs) (λ c κs. search needs) (λ c κs. search needs) returns
+    (λ c. search needs) (λ c. search needs) loop-again returns-2)

@@ -35,10 +35,6 @@ add-list c =
     let p = s .pre .0 in
     omega (arith, single-below (s .args .n-sets) (s .args .mask) (p .0) (p .1 .0) (c .if1 .taken), p .0)
 
--- src/walk.rt:217:9
-element-write-list : tie.Need-element-write-list Inv-loop μ-loop
-element-write-list c = search needs
-
 -- src/walk.rt:218:9
 returns : tie.Need-returns Inv-loop μ-loop
 returns c =
@@ -60,10 +56,6 @@ loop-holds c =
     let cs = circlesIn (a .c .now) (a .n-sets) in
     (omega arith, omega arith, heads-none cs (a .counts .now) (a .phi .now) (a .adopters .now) (a .n-sets) (a .mask) (a .list .now) (s .pre .0 .1 .1))
 
--- src/walk.rt:223:12
-shr-if2 : tie.Need-shr-if2 Inv-loop μ-loop
-shr-if2 c = search needs
-
 -- src/walk.rt:224:13
 list-head-requires : tie.Need-list-head-requires Inv-loop μ-loop
 list-head-requires c κs =
@@ -76,14 +68,6 @@ list-head-requires c κs =
       (s .pre .0 .0, (t .before .loop-test .taken, (s .pre .0 .1 .0, in-S))),
       (h, (l .inv .1, listing-self (circlesIn (a .c .now) (a .n-sets)) (a .counts .now) (a .phi .now) (a .n-sets) (a .mask) _ (l .r) (l .list) (l .inv .2))),
     )
-
--- src/walk.rt:238:9
-add-j : tie.Need-add-j Inv-loop μ-loop
-add-j c = search needs
-
--- src/walk.rt:222:5
-loop-less : tie.Need-loop-less Inv-loop μ-loop
-loop-less c = search needs
 
 -- src/walk.rt:222:5
 loop-again : tie.Need-loop-again Inv-loop μ-loop
@@ -122,18 +106,5 @@ returns-2 c =
 
 pub walk-spec : {M : Type 1} → statement M
 walk-spec =
-    tie.close
-    (tie.spec
-    Inv-loop
-    μ-loop
-    cast-list
-    add-list
-    element-write-list
-    returns
-    loop-holds
-    shr-if2
-    list-head-requires
-    add-j
-    loop-less
-    loop-again
-    returns-2)
+    tie.close (tie.spec Inv-loop μ-loop cast-list add-list (λ c. search needs) returns loop-holds (λ c. search needs) list-head-requires
+    (λ c. search needs) (λ c. search needs) loop-again returns-2)

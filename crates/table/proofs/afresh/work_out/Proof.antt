@@ -38,38 +38,11 @@ answered c = c .check-call .ensures ∙ ap (callAnswer (entry c .args .plan) Non
 room : (c : tie.After-enum-told) → let d = given (entry (checked c)) in Room (d .plan .n) (d .tables)
 room c = let s = entry (checked c) in afresh-room (given s) (ten s) (sym (answered (checked c)) ∙ c .enum-told .given .1)
 
-lent-by-requires : tie.Need-lent-by-requires
-lent-by-requires c κs = search needs
-
-check-call-requires : tie.Need-check-call-requires
-check-call-requires c κs = search needs
-
 enum-told : tie.Need-enum-told
 enum-told c = search needs
 
-ready-of-requires : tie.Need-ready-of-requires
-ready-of-requires c κs = search needs
-
-sets-of-requires : tie.Need-sets-of-requires
-sets-of-requires c κs = search needs
-
 write-afresh-requires : tie.Need-write-afresh-requires
 write-afresh-requires c κs = let r = c .before .before .before .before .before .before in (room (r .before), made-so (r .ready-of .ensures))
-
-enum-known-answer : tie.Need-enum-known-answer
-enum-known-answer c = search needs
-
-same-length : tie.Need-same-length
-same-length c = search needs
-
-same-length-2 : tie.Need-same-length-2
-same-length-2 c = search needs
-
-same-length-3 : tie.Need-same-length-3
-same-length-3 c = search needs
-
-same-length-4 : tie.Need-same-length-4
-same-length-4 c = search needs
 
 returns : tie.Need-returns
 returns c =
@@ -92,18 +65,6 @@ returns-2 c =
 
 pub work-out-spec : {M : Type 1} → statement M
 work-out-spec =
-    tie.close
-    (tie.spec
-    lent-by-requires
-    check-call-requires
-    enum-told
-    ready-of-requires
-    sets-of-requires
-    write-afresh-requires
-    enum-known-answer
-    same-length
-    same-length-2
-    same-length-3
-    same-length-4
-    returns
+    tie.close (tie.spec (λ c κs. search needs) (λ c κs. search needs) enum-told (λ c κs. search needs) (λ c κs. search needs)
+    write-afresh-requires (λ c. search needs) (λ c. search needs) (λ c. search needs) (λ c. search needs) (λ c. search needs) returns
     returns-2)

@@ -15,12 +15,6 @@ use Rattle.table.proofs.Calls.{serves, afresh-written}
 use Rattle.table.proofs.afresh.write_afresh.Statement.{statement}
 use Rattle.table.proofs.afresh.write_afresh.Tie as tie
 
-box-of-requires : tie.Need-box-of-requires
-box-of-requires c κs = search needs
-
-area-requires : tie.Need-area-requires
-area-requires c κs = search needs
-
 abbrev entry : tie.After-area → tie.Start
 entry c = c .before .before .before .before .before .before .before
 
@@ -51,20 +45,11 @@ room c =
 write-tables-requires : tie.Need-write-tables-requires
 write-tables-requires c κs = room (c .before .before .before .before .before)
 
-same-length : tie.Need-same-length
-same-length c = search needs
-
 same-length-2 : tie.Need-same-length-2
 same-length-2 c =
     let b = boxed c in
     c .before .before .before .before .before .before .before .before .write-tables .kept .1 .1 .1 .1 .1 .0
     ∙ length-set (entry b .args .rows .now) 0 (b .area .result)
-
-same-length-3 : tie.Need-same-length-3
-same-length-3 c = search needs
-
-same-length-4 : tie.Need-same-length-4
-same-length-4 c = search needs
 
 returns : tie.Need-returns
 returns c =
@@ -83,14 +68,5 @@ returns c =
 
 pub write-afresh-spec : {M : Type 1} → statement M
 write-afresh-spec =
-    tie.close
-    (tie.spec
-    box-of-requires
-    area-requires
-    slice-write-rows
-    write-tables-requires
-    same-length
-    same-length-2
-    same-length-3
-    same-length-4
-    returns)
+    tie.close (tie.spec (λ c κs. search needs) (λ c κs. search needs) slice-write-rows write-tables-requires (λ c. search needs)
+    same-length-2 (λ c. search needs) (λ c. search needs) returns)

@@ -40,29 +40,8 @@ answered c = let a = entry c .args in c .decide .ensures ∙ ap (editAnswer (a .
 room : (c : tie.After-enum-told) → let s = entry (decided c) in Room (s .args .plan .n) (given s .tables) × (s .args .edit .head < s .args .plan .n)
 room c = let s = entry (decided c) in edit-room (given s) (s .args .edit) (ten s) (sym (answered (decided c)) ∙ c .enum-told .given .1)
 
-lent-by-requires : tie.Need-lent-by-requires
-lent-by-requires c κs = search needs
-
-decide-requires : tie.Need-decide-requires
-decide-requires c κs = search needs
-
 enum-told : tie.Need-enum-told
 enum-told c = search needs
-
-apply-requires : tie.Need-apply-requires
-apply-requires c κs = search needs
-
-ready-of-requires : tie.Need-ready-of-requires
-ready-of-requires c κs = search needs
-
-ready-of-requires-2 : tie.Need-ready-of-requires-2
-ready-of-requires-2 c κs = search needs
-
-sets-of-requires : tie.Need-sets-of-requires
-sets-of-requires c κs = search needs
-
-sets-of-requires-2 : tie.Need-sets-of-requires-2
-sets-of-requires-2 c κs = search needs
 
 -- what the rows are worked out from is made of the plan after the edit
 made : (c : tie.After-ready-of2) → let a = entry (decided (c .before .before .before)) .args in Of (applied (a .plan) (a .edit)) true (c .ready-of2 .result)
@@ -73,21 +52,6 @@ write-edited-requires c κs =
     let r = c .before .before .before .before .before .before .before .before in
     let h = room (r .before .before .before) in
     (h .0, h .1, made r)
-
-enum-known-answer : tie.Need-enum-known-answer
-enum-known-answer c = search needs
-
-same-length : tie.Need-same-length
-same-length c = search needs
-
-same-length-2 : tie.Need-same-length-2
-same-length-2 c = search needs
-
-same-length-3 : tie.Need-same-length-3
-same-length-3 c = search needs
-
-same-length-4 : tie.Need-same-length-4
-same-length-4 c = search needs
 
 returns : tie.Need-returns
 returns c =
@@ -115,21 +79,6 @@ returns-2 c =
 
 pub edit-one-spec : {M : Type 1} → statement M
 edit-one-spec =
-    tie.close
-    (tie.spec
-    lent-by-requires
-    decide-requires
-    enum-told
-    apply-requires
-    ready-of-requires
-    ready-of-requires-2
-    sets-of-requires
-    sets-of-requires-2
-    write-edited-requires
-    enum-known-answer
-    same-length
-    same-length-2
-    same-length-3
-    same-length-4
-    returns
-    returns-2)
+    tie.close (tie.spec (λ c κs. search needs) (λ c κs. search needs) enum-told (λ c κs. search needs) (λ c κs. search needs)
+    (λ c κs. search needs) (λ c κs. search needs) (λ c κs. search needs) write-edited-requires (λ c. search needs) (λ c. search needs)
+    (λ c. search needs) (λ c. search needs) (λ c. search needs) returns returns-2)

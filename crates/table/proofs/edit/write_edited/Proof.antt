@@ -25,18 +25,6 @@ change-of-requires c κs = let s = c .before .before .before .before in (s .pre 
 write-tables-requires : tie.Need-write-tables-requires
 write-tables-requires c κs = let s = entry (c .before .before .before .before) in subst (λ n. Room n (given s)) (sym (s .pre .2 .n)) (s .pre .0)
 
-same-length : tie.Need-same-length
-same-length c = search needs
-
-same-length-2 : tie.Need-same-length-2
-same-length-2 c = search needs
-
-same-length-3 : tie.Need-same-length-3
-same-length-3 c = search needs
-
-same-length-4 : tie.Need-same-length-4
-same-length-4 c = search needs
-
 returns : tie.Need-returns
 returns c =
     let changed = c .before .before .before .before .before .before .before .before .before .before .before .before .before in
@@ -52,12 +40,5 @@ returns c =
 
 pub write-edited-spec : {M : Type 1} → statement M
 write-edited-spec =
-    tie.close
-    (tie.spec
-    change-of-requires
-    write-tables-requires
-    same-length
-    same-length-2
-    same-length-3
-    same-length-4
-    returns)
+    tie.close (tie.spec change-of-requires write-tables-requires (λ c. search needs) (λ c. search needs) (λ c. search needs)
+    (λ c. search needs) returns)

@@ -2,11 +2,8 @@ use borrow.Author.Needs.{needs}
 use Rattle.table.proofs.ready.sets_of.Statement.{statement}
 use Rattle.table.proofs.ready.sets_of.Tie as tie
 
-discover-regions-requires : tie.Need-discover-regions-requires
-discover-regions-requires c κs = search needs
-
 returns : tie.Need-returns
 returns c = c .discover-regions .ensures
 
 pub sets-of-spec : {M : Type 1} → statement M
-sets-of-spec = tie.close (tie.spec discover-regions-requires returns)
+sets-of-spec = tie.close (tie.spec (λ c κs. search needs) returns)

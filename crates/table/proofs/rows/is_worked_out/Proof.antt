@@ -14,13 +14,10 @@ returns-2 c =
     let a = c .before .before .args in
     worked-gone (a .change) (λ T. eqb (a .was) 1) (a .is) (a .mask) (c .before .if1 .left) (c .if2 .taken)
 
-is-reworked-requires : tie.Need-is-reworked-requires
-is-reworked-requires c κs = search needs
-
 returns-3 : tie.Need-returns-3
 returns-3 c =
     let a = c .before .before .before .args in
     worked-set (a .change) (λ T. eqb (a .was) 1) (a .is) (a .mask) (c .before .before .if1 .left) (c .before .if2 .left) (c .is-reworked .ensures)
 
 pub is-worked-out-spec : {M : Type 1} → statement M
-is-worked-out-spec = tie.close (tie.spec returns returns-2 is-reworked-requires returns-3)
+is-worked-out-spec = tie.close (tie.spec returns returns-2 (λ c κs. search needs) returns-3)

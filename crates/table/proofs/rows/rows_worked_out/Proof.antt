@@ -27,24 +27,6 @@ byteOf s S = let a = s .args in byte (workedOut (a .change) (stands (a .earlier 
 loop-holds : tie.Need-loop-holds Inv-loop μ-loop
 loop-holds c = (omega arith, c .pre, written-none (byteOf c) (replicate 1024 0))
 
-element-copy-out-is-worked-out : tie.Need-element-copy-out-is-worked-out Inv-loop μ-loop
-element-copy-out-is-worked-out c = search needs
-
-element-copy-out-is-worked-out-2 : tie.Need-element-copy-out-is-worked-out-2 Inv-loop μ-loop
-element-copy-out-is-worked-out-2 c = search needs
-
-is-worked-out-requires : tie.Need-is-worked-out-requires Inv-loop μ-loop
-is-worked-out-requires c κs = search needs
-
-array-write-wanted : tie.Need-array-write-wanted Inv-loop μ-loop
-array-write-wanted c = search needs
-
-add-mask : tie.Need-add-mask Inv-loop μ-loop
-add-mask c = search needs
-
-loop-less : tie.Need-loop-less Inv-loop μ-loop
-loop-less c = search needs
-
 loop-again : tie.Need-loop-again Inv-loop μ-loop
 loop-again c =
     let m = c .before .before .before .before in
@@ -72,16 +54,5 @@ returns c =
 
 pub rows-worked-out-spec : {M : Type 1} → statement M
 rows-worked-out-spec =
-    tie.close
-    (tie.spec
-    Inv-loop
-    μ-loop
-    loop-holds
-    element-copy-out-is-worked-out
-    element-copy-out-is-worked-out-2
-    is-worked-out-requires
-    array-write-wanted
-    add-mask
-    loop-less
-    loop-again
-    returns)
+    tie.close (tie.spec Inv-loop μ-loop loop-holds (λ c. search needs) (λ c. search needs) (λ c κs. search needs) (λ c. search needs)
+    (λ c. search needs) (λ c. search needs) loop-again returns)

@@ -60,18 +60,6 @@ wanted-say c S h =
 rows-worked-out-requires : tie.Need-rows-worked-out-requires
 rows-worked-out-requires c κs = let p = entry c .pre in omega (arith, p .1, rows-most (entry c .args .ready .n) (p .0))
 
-write-areas-requires : tie.Need-write-areas-requires
-write-areas-requires c κs = search needs
-
-clear-absent-requires : tie.Need-clear-absent-requires
-clear-absent-requires c κs = search needs
-
-write-presence-requires : tie.Need-write-presence-requires
-write-presence-requires c κs = search needs
-
-same-length : tie.Need-same-length
-same-length c = search needs
-
 same-length-2 : tie.Need-same-length-2
 same-length-2 c = cleared c .clear-absent .kept .1 .1 .1 .0 ∙ first (cleared c) .write-areas .kept .1 .1 .1 .1 .1 .1 .0
 
@@ -108,12 +96,5 @@ returns c =
 
 pub write-rows-spec : {M : Type 1} → statement M
 write-rows-spec =
-    tie.close
-    (tie.spec
-    rows-worked-out-requires
-    write-areas-requires
-    clear-absent-requires
-    write-presence-requires
-    same-length
-    same-length-2
-    returns)
+    tie.close (tie.spec rows-worked-out-requires (λ c κs. search needs) (λ c κs. search needs) (λ c κs. search needs) (λ c. search needs)
+    same-length-2 returns)
