@@ -9,7 +9,7 @@ use lib.Pow.{pow-mono}
 use borrow.Author.Tests.{eqb-true, eqb-false}
 use lib.Dec.{eqb, ltb}
 use lib.Count.{ones, trailingZeros}
-use lib.ListN.{length, length-append, length-map}
+use lib.ListN.{length, getD, length-append, length-map}
 use lib.Ieee.{Float}
 use Rattle.masks.specs.Mask.{inSet, bit, size, Subset}
 use Rattle.masks.specs.Operations.{one-of-in, zero-of-in}
@@ -19,11 +19,11 @@ use Rattle.lists.specs.Lists.{upTo}
 use Rattle.lists.proofs.Lists.{upTo-cong}
 use Rattle.geometry.specs.declared.circle.Circle.{Circle}
 use Rattle.intersections.specs.declared.points.IntersectionPoint.{IntersectionPoint}
-use Rattle.intersections.specs.Members.{Member, headsOf, circleAt, memberAt, membersOf}
+use Rattle.intersections.specs.Members.{Member, circlesOf, noCircle, headsOf, circleAt, memberAt, membersOf}
 use Rattle.intersections.proofs.Gathering.{single-heads}
 use Rattle.boundary.specs.Outline.{anglesOf, arcsAt, fullCircle, outlineFrom, outline}
 use Rattle.boundary.specs.Set.{numbered}
-use Rattle.outline.proofs.Walking.{circles-of-members, members-many, outline-one, outline-other}
+use Rattle.outline.proofs.Walking.{circles-of-members, members-many}
 use Rattle.sums.specs.Marks.{Mark, marksAt, anglesIn}
 use Rattle.sums.specs.Walk.{rank, Few, marksIn, headIn, partIn, headsIn, arcsBy, Ready, Marked}
 use Rattle.sums.proofs.Sorting.{angles-in}
@@ -45,6 +45,19 @@ outline-append cs k (m ∷ a) b =
 outline-single : (cs : List Circle) (k : ℕ) (m : Member) → outlineFrom cs k (m ∷ []) ≡ arcsAt cs k (m .circle) (anglesOf m)
 unfolding outlineFrom
 outline-single cs k m = append-nil (arcsAt cs k (m .circle) (anglesOf m))
+
+-- the outline of one member, and of any other number
+outline-one : (ms : List Member) → length ms ≡ 1 → outline ms ≡ fullCircle 0 (getD (circlesOf ms) 0 noCircle) ∷ []
+unfolding outline
+outline-one [] h = absurd (omega arith)
+outline-one (m ∷ []) h = refl
+outline-one (m ∷ (m' ∷ ms)) h = absurd (omega arith)
+
+outline-other : (ms : List Member) → (length ms ≡ 1 → ⊥) → outline ms ≡ outlineFrom (circlesOf ms) 0 ms
+unfolding outline outlineFrom
+outline-other [] h = refl
+outline-other (m ∷ []) h = absurd (h refl)
+outline-other (m ∷ (m' ∷ ms)) h = refl
 
 module _ (circles : List Circle) (points : List IntersectionPoint) (S : ℕ) (few : Few circles points) where
   heads : List ℕ
