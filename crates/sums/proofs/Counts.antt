@@ -14,3 +14,11 @@ rows-all n places few h =
     let e : min n 10 ≡ n = omega arith in
     let r = ap (λ (m : ℕ). 2 ^ m) e in
     omega (arith, r)
+
+-- of at most ten circles no more rows are counted than they have, nor than there are places
+pub count-few : (n count places : ℕ) → n ≤ 10 → count ≡ min (rowsOf n) places → (count ≤ 1024) × ((count ≤ 2 ^ n) × (count ≤ places))
+count-few n count places few e =
+    let most = pow-mono {i = n} {j = 10} few in
+    let same : min n 10 ≡ n = omega arith in
+    let r = ap (λ (m : ℕ). 2 ^ m) same in
+    (omega (arith, e, r, most), (omega (arith, e, r), omega (arith, e)))
