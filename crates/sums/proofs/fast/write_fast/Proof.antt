@@ -77,7 +77,7 @@ returns c =
         λ cs k. written (numberAt (stands (a .wanted .now)) (λ S. areaOf (a .clipped) (a .bounds) (membersOf cs points S)) (a .areas .now)) k (a .areas .now) in
     m .write-marked .ensures points (subst (λ cs. Few cs points) (sym (n .numbers-of .ensures)) (s .pre .1))
     (λ j h i. f .fill-heads .ensures .1 .marks j (rw (circles-many _ (a .n-sets)) at h) i)
-    ∙ ap (λ cs. done cs _) (n .numbers-of .ensures)
+    ∙ ap (λ cs. done cs (f .before .before .before .before .before .before .before .before .row-count .result)) (n .numbers-of .ensures)
     ∙ ap (done (take (a .n-sets) (a .circles))) (f .before .before .before .before .before .before .before .before .row-count .ensures)
 
 pub write-fast-spec : {M : Type 1} → statement M
