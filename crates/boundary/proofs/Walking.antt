@@ -66,7 +66,8 @@ circles-with points S [] (c ∷ cs) e = absurd (omega arith)
 circles-with points S (j ∷ js) [] e = absurd (omega arith)
 circles-with points S (j ∷ js) (c ∷ cs) e = ap (λ l. c ∷ l) (circles-with points S js cs (omega arith))
 
-members-many : (points : List IntersectionPoint) (S : ℕ) (js : List ℕ) (cs : List Circle) → length js ≡ length cs → length (membersWith points S js cs) ≡ length js
+members-many : (points : List IntersectionPoint) (S : ℕ) (js : List ℕ) (cs : List Circle) → length js ≡ length cs
+    → length (membersWith points S js cs) ≡ length js
 unfolding membersWith
 members-many points S [] cs e = refl
 members-many points S (j ∷ js) [] e = absurd (omega arith)
@@ -173,8 +174,8 @@ module _ {points : List IntersectionPoint} {S : ℕ} {set : Members} {n : ℕ} {
 module _ {points : List IntersectionPoint} {S : ℕ} {set : Members} {n k : ℕ} {c : Circle} {phis : List Float} {many : ℕ} {all : List BoundaryArc} {held i : ℕ}
     (g : Gaps-to points S set n k c phis many all held i) where
   -- there is a place free
-  pub gap-place : i < many → held < 320
-  gap-place h = omega (arith, h, g .room, g .most, g .few)
+  pub gap-free : i < many → held < 320
+  gap-free h = omega (arith, h, g .room, g .most, g .few)
 
   -- a gap more: its arcs are added to those that are held
   gaps-more : (all' : List BoundaryArc) (held' : ℕ) → i < many → length all' ≡ 320 → held' ≤ held + 1
@@ -206,7 +207,7 @@ module _ {points : List IntersectionPoint} {S : ℕ} {set : Members} {n k : ℕ}
       → Gaps-to points S set n k c phis many (put all held arc) (held + 1) (i + 1)
   gaps-with kept arc h e t =
       gaps-more (put all held arc) (held + 1) h (length-set all held arc ∙ g .places) (omega arith)
-      (rw (add-one held, take-suc-set all held arc (omega (arith, gap-place h, g .places)), ← e, t))
+      (rw (add-one held, take-suc-set all held arc (omega (arith, gap-free h, g .places)), ← e, t))
 
   pub gaps-without : (kept : Bool) (arc : BoundaryArc) → i < many → cond kept (arc ∷ []) [] ≡ gapArc (circleList set) k c phis i → kept ≡ false
       → Gaps-to points S set n k c phis many all held (i + 1)

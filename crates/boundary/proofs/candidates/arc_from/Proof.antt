@@ -42,7 +42,9 @@ element-copy-out-phi-b c = omega (arith, few (c .before .before), next (c .befor
 
 returns-2 : tie.Need-returns-2
 unfolding gapArc
-returns-2 c = let d = c .before .before in let e = d .before .before .before .before in let s = e .before .before in let a = s .args in let n = e .before .count in
+returns-2 c =
+    let d = c .before .before in let e = d .before .before .before .before in let s = e .before .before in let a = s .args in
+    let n = e .before .count in
     rw (
       lt-ltb (a .i) (length (angleList (a .t3))) (omega (arith, n .ensures)),
       gap-arc (circleList (a .set)) (a .k) (a .circle) (a .t3 .phi) (a .t3 .n) (n .result) (a .i) (n .ensures) (e .if1 .left),

@@ -10,7 +10,7 @@ use Rattle.lists.proofs.Arrays.{length-of-values}
 use Rattle.intersections.specs.Counted.{pointList}
 use Rattle.boundary.specs.Counted.{angleList}
 use Rattle.boundary.specs.declared.arcs.BoundaryArc.{BoundaryArc}
-use Rattle.boundary.proofs.Walking.{Members-to, Gaps-to, gaps-start, gap-place, gaps-with, gaps-without, gaps-all, all-by-count, all-by-room, all-counted}
+use Rattle.boundary.proofs.Walking.{Members-to, Gaps-to, gaps-start, gap-free, gaps-with, gaps-without, gaps-all, all-by-count, all-by-room, all-counted}
 use Rattle.boundary.proofs.walk.walk.Statement.{statement}
 use Rattle.boundary.proofs.walk.walk.Tie as tie
 
@@ -68,7 +68,7 @@ loop2-holds c =
 
 -- where there is an arc to put, there is a place free
 free : (c : tie.Then2 Inv-loop2 μ-loop2 Inv-loop μ-loop) → c .before .before .before .before .loop2 .held < 320
-free c = gap-place (c .before .before .before .before .loop2 .inv) (c .before .before .before .loop2-test .taken)
+free c = gap-free (c .before .before .before .before .loop2 .inv) (c .before .before .before .loop2-test .taken)
 
 mul-all : tie.Need-mul-all Inv-loop2 μ-loop2 Inv-loop μ-loop
 mul-all c = omega (arith, free c)
