@@ -25,12 +25,6 @@ use Rattle.sums.proofs.Walking.{circles-many}
 use Rattle.sums.proofs.fast.write_fast.Statement.{statement}
 use Rattle.sums.proofs.fast.write_fast.Tie as tie
 
-numbers-of-requires : tie.Need-numbers-of-requires
-numbers-of-requires c κs = search needs
-
-row-count-requires : tie.Need-row-count-requires
-row-count-requires c κs = search needs
-
 wanted-heads-requires : tie.Need-wanted-heads-requires
 wanted-heads-requires c κs =
     let s = c .before .before .before in
@@ -39,8 +33,7 @@ wanted-heads-requires c κs =
 fill-heads-requires : tie.Need-fill-heads-requires
 fill-heads-requires c κs =
     let n = c .before .before .before .before .before .before .before .before in
-    let s = n .before .before in
-    (
+    let s = n .before .before in (
       (s .pre .0, subst (λ cs. Few cs (pointList (s .args .points))) (sym (n .numbers-of .ensures)) (s .pre .1)),
       record { counts-long = search needs; owners-long = search needs; phi-long = search needs; adopters-long = search needs; lets-long = search needs },
     )
@@ -53,17 +46,13 @@ write-marked-requires c κs =
     let n = r .before in
     let s = n .before .before in
     let a = s .args in
-    let counted = count-few (a .n-sets) _ (length (a .areas .now)) (s .pre .0) (r .row-count .ensures) in
-    (
+    let counted = count-few (a .n-sets) _ (length (a .areas .now)) (s .pre .0) (r .row-count .ensures) in (
       (s .pre .0, counted .1),
       (
-      (w .wanted-heads .ensures .1 (a .n-sets) (counted .1 .0), (w .wanted-heads .ensures .0, n .numbers-of .ensures)),
-      λ j h i. f .fill-heads .ensures .1 .ready j (rw (circles-many _ (a .n-sets)) at h) i,
+        (w .wanted-heads .ensures .1 (a .n-sets) (counted .1 .0), (w .wanted-heads .ensures .0, n .numbers-of .ensures)),
+        λ j h i. f .fill-heads .ensures .1 .ready j (rw (circles-many _ (a .n-sets)) at h) i,
       ),
     )
-
-same-length : tie.Need-same-length
-same-length c = search needs
 
 returns : tie.Need-returns
 returns c =
@@ -74,7 +63,7 @@ returns c =
     let a = s .args in
     let points = pointList (a .points) in
     let done : List Circle → ℕ → List Float =
-        λ cs k. written (numberAt (stands (a .wanted .now)) (λ S. areaOf (a .clipped) (a .bounds) (membersOf cs points S)) (a .areas .now)) k (a .areas .now) in
+    λ cs k. written (numberAt (stands (a .wanted .now)) (λ S. areaOf (a .clipped) (a .bounds) (membersOf cs points S)) (a .areas .now)) k (a .areas .now) in
     m .write-marked .ensures points (subst (λ cs. Few cs points) (sym (n .numbers-of .ensures)) (s .pre .1))
     (λ j h i. f .fill-heads .ensures .1 .marks j (rw (circles-many _ (a .n-sets)) at h) i)
     ∙ ap (λ cs. done cs (f .before .before .before .before .before .before .before .before .row-count .result)) (n .numbers-of .ensures)
@@ -82,12 +71,5 @@ returns c =
 
 pub write-fast-spec : {M : Type 1} → statement M
 write-fast-spec =
-    tie.close
-    (tie.spec
-    numbers-of-requires
-    row-count-requires
-    wanted-heads-requires
-    fill-heads-requires
-    write-marked-requires
-    same-length
-    returns)
+    tie.close (tie.spec (λ c κs. search needs) (λ c κs. search needs) wanted-heads-requires fill-heads-requires write-marked-requires
+    (λ c. search needs) returns)

@@ -25,12 +25,6 @@ use Rattle.sums.proofs.Collected.{few-means}
 use Rattle.sums.proofs.rows.write_areas.Statement.{statement}
 use Rattle.sums.proofs.rows.write_areas.Tie as tie
 
-at-most-ten-requires : tie.Need-at-most-ten-requires
-at-most-ten-requires c κs = search needs
-
-few-requires : tie.Need-few-requires
-few-requires c κs = search needs
-
 write-fast-requires : tie.Need-write-fast-requires
 write-fast-requires c κs =
     let f = c .before .before in
@@ -40,14 +34,10 @@ write-fast-requires c κs =
     let ten : length (a .circles) ≡ 10 = search length-of-values in
     let n : ℕ = min (a .n-sets) 10 in
     let whole : length (take n (a .circles)) ≡ n = omega (arith, length-take n (a .circles), ten) in
-    let few : fewPoints n (pointList (a .points)) ≡ true = ap (λ (m : ℕ). fewPoints m (pointList (a .points))) (sym (t .at-most-ten .ensures)) ∙ sym (f .few .ensures) ∙ c .before .if1 .taken in
-    (
+    let few : fewPoints n (pointList (a .points)) ≡ true = ap (λ (m : ℕ). fewPoints m (pointList (a .points))) (sym (t .at-most-ten .ensures)) ∙ sym (f .few .ensures) ∙ c .before .if1 .taken in (
       omega (arith, t .at-most-ten .ensures),
       rw (t .at-most-ten .ensures) (few-means (take n (a .circles)) (pointList (a .points)) (ap (λ (m : ℕ). fewPoints m (pointList (a .points))) whole ∙ few)),
     )
-
-same-length : tie.Need-same-length
-same-length c = search needs
 
 returns : tie.Need-returns
 returns c =
@@ -58,31 +48,14 @@ returns c =
     let ten : length (a .circles) ≡ 10 = search length-of-values in
     let points = pointList (a .points) in
     let done : List Circle → ℕ → List Float =
-        λ cs k. written (numberAt (stands (a .wanted .now)) (λ S. areaOf (a .clipped) (a .bounds) (membersOf cs points S)) (a .areas .now))
-        (min (2 ^ k) (length (a .areas .now))) (a .areas .now) in
+    λ cs k. written (numberAt (stands (a .wanted .now)) (λ S. areaOf (a .clipped) (a .bounds) (membersOf cs points S)) (a .areas .now))
+    (min (2 ^ k) (length (a .areas .now))) (a .areas .now) in
     let same : take (min (a .n-sets) 10) (a .circles) ≡ take (a .n-sets) (a .circles) = capped-take (a .circles) (a .n-sets) 10 ten in
     let once : min (min (a .n-sets) 10) 10 ≡ min (a .n-sets) 10 = omega arith in
     w .write-fast .ensures ∙ ap (λ (m : ℕ). done (take m (a .circles)) (min m 10)) (t .at-most-ten .ensures)
     ∙ ap (λ cs. done cs (min (min (a .n-sets) 10) 10)) same ∙ ap (done (take (a .n-sets) (a .circles))) once
 
-write-plain-requires : tie.Need-write-plain-requires
-write-plain-requires c κs = search needs
-
-same-length-2 : tie.Need-same-length-2
-same-length-2 c = search needs
-
-returns-2 : tie.Need-returns-2
-returns-2 c = search needs
-
 pub write-areas-spec : {M : Type 1} → statement M
 write-areas-spec =
-    tie.close
-    (tie.spec
-    at-most-ten-requires
-    few-requires
-    write-fast-requires
-    same-length
-    returns
-    write-plain-requires
-    same-length-2
-    returns-2)
+    tie.close (tie.spec (λ c κs. search needs) (λ c κs. search needs) write-fast-requires (λ c. search needs) returns
+    (λ c κs. search needs) (λ c. search needs) (λ c. search needs))
