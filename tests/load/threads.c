@@ -1,6 +1,7 @@
 /* threads [PLANS]: every call of include/watered.h that is lent anything, over PLANS plans (default 60), first from one thread, then from eight
  * at once, each with tables and plans of its own: every answer and every byte must be what the one thread got. The threads begin together,
- * each at another place of the list, and have small stacks. The comparison is first tried on a thread that is told a wrong byte. */
+ * each at another place of the list, and have just the 128 KB of stack that the header promises to be enough. The comparison is first tried on
+ * a thread that is told a wrong byte. */
 #define _DEFAULT_SOURCE
 #include "calls.h"
 
@@ -8,7 +9,7 @@
 #include <stdio.h>
 #include <stdlib.h>
 
-enum { THREADS = 8, STACK = 1 << 16 };
+enum { THREADS = 8, STACK = 1 << 17 };
 
 /* A call with a plan of its own, and what one thread got. */
 typedef struct {
