@@ -1,8 +1,8 @@
 // One plan for both sides: the Rust's circles, box and meeting points, what they give, and the numbers that our exports take.
 
 use crate::geometry::diagram::{
-    collect_intersections, compute_exclusive_regions, compute_exclusive_regions_with_gradient_circles, discover_regions, to_exclusive_areas,
-    to_exclusive_areas_and_gradients, IntersectionPoint,
+    collect_intersections, compute_exclusive_regions, compute_exclusive_regions_with_gradient_circles, discover_regions, mask_to_indices,
+    to_exclusive_areas, to_exclusive_areas_and_gradients, IntersectionPoint,
 };
 use crate::geometry::primitives::{Bounds, Point};
 use crate::geometry::operations::overlaps::compute_overlaps_circles;
@@ -178,6 +178,14 @@ impl Case {
             slopes.insert(mask, grad);
         }
         to_exclusive_areas_and_gradients(&self.open_rows(), &slopes, 3 * self.n)
+    }
+
+    // What the heads of a mask water together, as if they were all there are.
+    pub fn overlap_of(&self, mask: usize) -> f64 {
+        let own = mask_to_indices(mask, self.n);
+        let heads: Vec<Head> = own.iter().map(|i| self.heads[*i]).collect();
+        let circles: Vec<Circle> = own.iter().map(|i| self.circles[*i].clone()).collect();
+        overlap(&heads, &circles)
     }
 
     // All sets of at most four heads; of more, at most 40: none, singles, all, some that the Rust finds (pairs first), some others.

@@ -1,9 +1,8 @@
 // What stands above the outlines of a plan: discover_regions, to_exclusive_areas, compute_overlaps_circles.
 
 use crate::case::{overlap, Case, OurCircles, Rows};
-use crate::geometry::diagram::{mask_to_indices, to_exclusive_areas};
-use crate::geometry::shapes::Circle;
-use crate::inputs::{Head, Random};
+use crate::geometry::diagram::to_exclusive_areas;
+use crate::inputs::Random;
 use crate::regions;
 use crate::tally::Tally;
 
@@ -131,12 +130,9 @@ fn overlaps(tally: &mut Tally, case: &Case, masks: &[usize]) {
     let ours = unsafe { probe_compute_overlaps_circles(case.ours, case.n) };
     tally.float("compute_overlaps_circles", ours, overlap(&case.heads, &case.circles), || case.input());
     for &mask in masks {
-        let own = mask_to_indices(mask, case.n);
-        let heads: Vec<Head> = own.iter().map(|i| case.heads[*i]).collect();
-        let circles: Vec<Circle> = own.iter().map(|i| case.circles[*i].clone()).collect();
         let ours = unsafe { probe_compute_overlaps_of(case.ours, case.n, mask) };
         let input = || format!("{}, set {mask:X}", case.input());
-        tally.float("compute_overlaps_circles of the heads of a mask", ours, overlap(&heads, &circles), input);
+        tally.float("compute_overlaps_circles of the heads of a mask", ours, case.overlap_of(mask), input);
     }
 }
 

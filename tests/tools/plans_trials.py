@@ -142,7 +142,7 @@ def text_trial(chance):
     expect('texts to bytes', data, trials.plan_file(box, heads, edits))
     normal = text.normal(plan)
     expect('texts in normal form to bytes to text: the same text', text.normal(file.decode(data)), normal)
-    refused = re.fullmatch('refused ([0-9]) at ([0-9]+)', trials.file_lines(data)[-1])
+    refused = re.fullmatch('refused ([0-9]+) at ([0-9]+)', trials.file_lines(data)[-1])
     expect('texts: taken, or the refusal', table.refusal(plan, places), refused and (int(refused.group(1)), int(refused.group(2))))
     if refused:
         number, offset = int(refused.group(1)), int(refused.group(2))

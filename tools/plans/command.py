@@ -5,6 +5,7 @@ import os
 import sys
 
 from . import file, library, picture, table, text, why
+from .places import PLAN
 
 HELP = """Plans as text, as plan files, as tables and as pictures.
 
@@ -38,7 +39,8 @@ class Failure(Exception):
 
 
 def parser():
-    made = argparse.ArgumentParser(prog='plan', description=HELP, epilog=EXAMPLES, formatter_class=argparse.RawDescriptionHelpFormatter)
+    examples = EXAMPLES.replace('tools/plan', PLAN)
+    made = argparse.ArgumentParser(prog='plan', description=HELP, epilog=examples, formatter_class=argparse.RawDescriptionHelpFormatter)
     mode = made.add_mutually_exclusive_group()
     mode.add_argument('--text', action='store_true', help='INPUT is a plan file: write its text')
     mode.add_argument('--table', action='store_true', help='run rows on the plan and write its table, areas in square metres')
@@ -48,8 +50,8 @@ def parser():
     made.add_argument('--set', metavar='HEADS', type=picture.set_of, help='with --svg: outline the ground that these heads share, such as 0,2')
     made.add_argument('--zoom', metavar='HEADS', type=picture.set_of, help='with --svg: draw only the ground that these heads reach')
     made.add_argument('--edit', metavar='N', type=int, help='with --svg: the N-th move (from 1; default the last); 0: the plan before its moves')
-    made.add_argument('--rows', metavar='PROGRAM', help='the program rows (default: target/bin/rows, else the one in PATH)')
-    made.add_argument('--library', metavar='FILE', help='with --why: the shared library (default: that of target/staticlib, else installed)')
+    made.add_argument('--rows', metavar='PROGRAM', help='the program rows (default: the one built or installed with this)')
+    made.add_argument('--library', metavar='FILE', help='with --why: the shared library (default: the one built or installed with this)')
     made.add_argument('input', metavar='INPUT', help='a text, or a plan file with --text; - is standard input')
     return made
 
@@ -141,5 +143,5 @@ def main(arguments):
     options = options_of(arguments)
     plan_bytes = not (options.text or options.table or options.svg or options.why)
     if plan_bytes and os.isatty(1):
-        parser().error('plan bytes are not for a terminal: send them into a file, as in tools/plan TEXT > FILE')
+        parser().error('plan bytes are not for a terminal: send them into a file, as in %s TEXT > FILE' % PLAN)
     return finish('plan', lambda: output(options))

@@ -3,10 +3,9 @@ import ctypes
 import ctypes.util
 import os
 import subprocess
-import tempfile
 
-ROOT = os.path.dirname(os.path.dirname(os.path.dirname(os.path.abspath(__file__))))
-ARCHIVE = os.path.join(ROOT, 'target', 'staticlib', 'libwatered.a')
+from .places import ARCHIVE, INSTALLED, LIBRARY, LINK
+
 Numbers = ctypes.POINTER(ctypes.c_int32)
 SIZE = ctypes.c_size_t
 TABLES = [ctypes.POINTER(ctypes.c_uint8), SIZE, ctypes.POINTER(ctypes.c_double), SIZE] * 2
@@ -17,31 +16,25 @@ class NoLibrary(Exception):
 
 
 def linked():
-    """The shared library beside the archive, linked anew if the archive is younger."""
-    made = os.path.join(os.path.dirname(ARCHIVE), 'libwatered.so')
-    if os.path.exists(made) and os.path.getmtime(made) >= os.path.getmtime(ARCHIVE):
-        return made
-    handle, new = tempfile.mkstemp(dir=os.path.dirname(ARCHIVE))
-    os.close(handle)
-    command = ['gcc', '-shared', '-o', new, '-Wl,--whole-archive', ARCHIVE, '-Wl,--no-whole-archive', '-lm']
+    """The shared library of this tree, linked anew if its archive is younger; none if there is neither."""
+    if os.path.exists(LIBRARY) and (INSTALLED or not os.path.exists(ARCHIVE) or os.path.getmtime(LIBRARY) >= os.path.getmtime(ARCHIVE)):
+        return LIBRARY
+    if INSTALLED or not os.path.exists(ARCHIVE):
+        return None
     try:
-        done = subprocess.run(command, capture_output=True)
-        if done.returncode:
-            raise NoLibrary('cannot link %s: %s' % (ARCHIVE, done.stderr.decode('utf-8', 'replace').strip()))
-        os.replace(new, made)
-        return made
+        done = subprocess.run([LINK, LIBRARY], capture_output=True)
     except OSError as error:
         raise NoLibrary('cannot link %s: %s' % (ARCHIVE, error.strerror))
-    finally:
-        if os.path.exists(new):
-            os.unlink(new)
+    if done.returncode:
+        raise NoLibrary('cannot link %s: %s' % (ARCHIVE, done.stderr.decode('utf-8', 'replace').strip()))
+    return LIBRARY
 
 
 def load(chosen=None):
-    """The library: the one chosen, the one proved here, or one that is installed; with the types of its calls."""
-    path = chosen or (linked() if os.path.exists(ARCHIVE) else ctypes.util.find_library('watered'))
+    """The library: the one chosen, the one of this tree, or, from the sources, one that is installed; with the types of its calls."""
+    path = chosen or linked() or (None if INSTALLED else ctypes.util.find_library('watered'))
     if not path:
-        raise NoLibrary('the library is not there; build it with: rt staticlib watered')
+        raise NoLibrary('the library is not there; ' + ('install it anew' if INSTALLED else 'build it with: rt staticlib watered'))
     try:
         library = ctypes.CDLL(path)
         afresh, edit = library.watered_afresh, library.watered_edit

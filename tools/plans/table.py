@@ -6,8 +6,8 @@ import struct
 import subprocess
 
 from .file import BOX, HEAD, encode, values
+from .places import BUILT_ROWS, INSTALLED, ROWS
 
-ROOT = os.path.dirname(os.path.dirname(os.path.dirname(os.path.abspath(__file__))))
 ROW = re.compile(r'([0-9A-F]{3}) ([0-9A-F]{16})\Z')
 REFUSED = re.compile(r'refused ([0-9]+) at ([0-9]+)\n\Z')
 
@@ -26,24 +26,24 @@ class NoProgram(Exception):
 
 
 def program(chosen=None):
-    """The program `rows`: the one chosen, the one built here (by tools/rows, which sees that it starts), or one that is installed."""
-    built = os.path.exists(os.path.join(ROOT, 'target', 'bin', 'rows'))
-    found = chosen or (os.path.join(ROOT, 'tools', 'rows') if built else shutil.which('rows'))
+    """The program `rows`: the one chosen, the one of this tree, or, from the sources, one in PATH."""
+    found = chosen or (ROWS if os.path.exists(BUILT_ROWS) else None if INSTALLED else shutil.which('rows'))
     if not found:
-        raise NoProgram('the program rows is not there; build it with: rt check rows')
+        raise NoProgram('the program rows is not there; ' + ('install it anew' if INSTALLED else 'build it with: rt check rows'))
     return found
 
 
 def answer(data, chosen=None):
-    """What `rows` prints for the bytes of a plan file."""
+    """What `rows` prints for the bytes of a plan file: a table, or a refusal (status 0 of the program itself, 1 of tools/rows)."""
     path = program(chosen)
     try:
         done = subprocess.run([path], input=data, capture_output=True)
     except OSError as error:
         raise NoProgram('cannot run %s: %s' % (path, error.strerror))
-    if done.returncode or done.stderr:
+    printed = done.stdout.decode('utf-8', 'replace')
+    if done.stderr or done.returncode not in (0, 1) or (done.returncode == 1 and not REFUSED.match(printed)):
         raise NoProgram('%s failed (status %d): %s' % (path, done.returncode, done.stderr.decode('utf-8', 'replace').strip()))
-    return done.stdout.decode('utf-8', 'replace')
+    return printed
 
 
 def parsed(printed):

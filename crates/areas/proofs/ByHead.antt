@@ -26,10 +26,10 @@ use Rattle.intersections.specs.Points.{collected}
 use Rattle.drawn.specs.Drawn.{planCircles}
 use Rattle.drawn.proofs.Circles.{circles-few}
 use Rattle.areas.specs.Scatter.{PlanByHead, entriesOf, boxEntries, put, scatter, scatterClipped, Fits, circlesIn, ByHead}
-use Rattle.areas.proofs.Naming.{Below, outline-named}
+use Rattle.clip.proofs.Naming.{Below, outline-named}
 use Rattle.areas.proofs.Scattering.{heads-increasing, entries-below, entries-increasing, entries-many, places-increasing, places-below}
 use Rattle.areas.proofs.Scattering.{put-equal, entries-stand, box-stands, stand-append}
-use Rattle.areas.proofs.Summing.{arcs-sum, clipped-sum}
+use Rattle.clip.proofs.Summing.{arcs-sum, clipped-sum}
 use Rattle.areas.proofs.Slopes.{gradient-kept, clipped-kept}
 
 module _ (circles : List Circle) (points : List IntersectionPoint) (S : ℕ) (fits : Fits circles points S) where

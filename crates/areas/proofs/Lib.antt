@@ -1,5 +1,3 @@
-pub mod Naming
-pub mod Summing
 pub mod Scattering
 pub mod Slopes
 pub mod ByHead

@@ -26,7 +26,7 @@ use Rattle.clip.specs.Area.{emptyBox}
 use Rattle.clip.specs.Gradient.{WithGradient, with-gradient, subArcByDifferences, partSlopes, subArcWithGradient, addPartWithGradient}
 use Rattle.clip.specs.Gradient.{clippedArcIntegralWithGradient, addClippedArcWithGradient, addClippedArcsWithGradient, moved, edgeSlopes}
 use Rattle.clip.specs.Gradient.{addSpanWithGradient, bottomEdge, rightEdge, topEdge, leftEdge, addEdgesWithGradient, clippedWithGradient}
-use Rattle.areas.proofs.Naming.{own, Below, has-own, has-head, same-circle}
+use Rattle.clip.proofs.Naming.{own, Below, has-own, has-head, same-circle}
 use Rattle.lists.proofs.Folds.{pairs-related, fold-related}
 use Rattle.areas.proofs.Scattering.{Increasing, Scattered, Stands, StandFrom, stands-first, entry-changed}
 

@@ -1,5 +1,6 @@
 pub mod Sort
 pub mod Outline
+pub mod Gaps
 pub mod Set
 pub mod Counted
 pub mod NoArc

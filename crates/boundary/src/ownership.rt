@@ -29,7 +29,7 @@ fn tolerance(c: Circle) -> f64
 }
 
 // The member at l, whose circle is c, lets the one at k have the point p.
-fn lets(k: usize, p: Point, l: usize, c: Circle) -> bool
+pub fn lets(k: usize, p: Point, l: usize, c: Circle) -> bool
     ensures { λ r. ⌜ r ≡ lets k p l c ⌝ }
 {
     if l == k {

@@ -1,14 +1,9 @@
-// The area of a set inside the box: of a list of arcs, and of a set straight from its members, with no list in memory.
-// Rests on specs/Area.antt.
+// The area of a set inside the box: of a list of arcs, and of a set. Rests on specs/Area.antt.
 use boundary::arcs::Arcs;
 use boundary::arcs::BoundaryArc;
-use boundary::arcs::Candidate;
-use boundary::arcs::full_circle;
-use boundary::candidates::arc_from;
-use boundary::candidates::whole_circle;
-use boundary::members::angles_for;
-use boundary::sort::Angles;
-use boundary::sort::count;
+use boundary::arcs::Outline;
+use boundary::walk::outline_from;
+use boundary::walk::outline_of;
 use geometry::bounds::Bounds;
 use geometry::circle::Circle;
 use inside::parts::clipped_arc_integral;
@@ -22,15 +17,14 @@ ghost use mathlib.Core.Path.{_≡_};
 ghost use mathlib.Core.List.{map};
 ghost use lib.ListN.{take, length};
 ghost use Rattle.binary64.specs.Constants.{zero64};
-ghost use Rattle.boundary.specs.Outline.{arcsAt, outlineFrom};
-ghost use Rattle.intersections.specs.Members.{headsOf, circleAt, membersOf, membersWith};
-ghost use Rattle.intersections.specs.Counted.{pointList, headList, circleList};
-ghost use Rattle.boundary.specs.Counted.{angleList, candidateList, arcList};
+ghost use Rattle.intersections.specs.Members.{headsOf, circleAt, membersOf};
+ghost use Rattle.intersections.specs.Counted.{pointList, circleList};
+ghost use Rattle.boundary.specs.Counted.{arcList, outlineList};
 ghost use Rattle.inside.specs.Span.{spans};
 ghost use Rattle.clip.specs.Area.{emptyBox, addClippedArc, addClippedArcs, addSpan, addEdges, clippedAreaOf, clippedArea};
 
 // Whether the box has no inside.
-pub(crate) fn empty_box(bounds: Bounds) -> bool
+pub fn empty_box(bounds: Bounds) -> bool
     ensures { λ r. ⌜ r ≡ emptyBox bounds ⌝ }
 {
     bounds.x_max <= bounds.x_min || bounds.y_max <= bounds.y_min
@@ -84,14 +78,14 @@ fn add_edges(total: f64, bounds: Bounds, set: Members) -> f64
     add_span(-x_min, with_top, left)
 }
 
-// The arcs of a list, added up.
-fn arcs_sum(arcs: Arcs, bounds: Bounds, circles: [Circle; 10], n_sets: usize) -> f64
-    ensures { λ r. ⌜ r ≡ addClippedArcs bounds (take «n_sets» circles) zero64 (arcList arcs) ⌝ }
+// The arcs of an outline, added up.
+fn arcs_sum(arcs: Outline, bounds: Bounds, circles: [Circle; 10], n_sets: usize) -> f64
+    ensures { λ r. ⌜ r ≡ addClippedArcs bounds (take «n_sets» circles) zero64 (outlineList arcs) ⌝ }
 {
     let n = arcs.n;
     let mut total = 0.0;
     let mut i: usize = 0;
-    while i < 180 {
+    while i < 320 {
         if n <= i {
             return total;
         }
@@ -114,61 +108,8 @@ pub fn area_from_clipped_arcs(
     if empty_box(bounds) {
         return 0.0;
     }
-    let total = arcs_sum(arcs, bounds, circles, n_sets);
+    let total = arcs_sum(outline_from(arcs), bounds, circles, n_sets);
     0.5 * add_edges(total, bounds, members_of(mask, circles, n_sets))
-}
-
-fn add_candidate(total: f64, bounds: Bounds, candidate: Candidate, set: Members) -> f64
-    ensures { λ r. ⌜ r ≡ addClippedArcs bounds (circleList set) total (candidateList candidate) ⌝ }
-{
-    let circles = set.circles;
-    match candidate {
-        Candidate::Arc(arc) => add_clipped_arc(total, bounds, circles, set.n, arc),
-        Candidate::Nothing => total,
-    }
-}
-
-// The arcs of the member at k, added to a sum.
-fn add_member(
-    total: f64,
-    bounds: Bounds,
-    k: usize,
-    circle: Circle,
-    angles: Angles,
-    set: Members,
-) -> f64
-    ensures { λ r. ⌜ r ≡ addClippedArcs bounds (circleList set) total (arcsAt (circleList set) k circle (angleList angles)) ⌝ }
-{
-    let n = count(angles);
-    if n == 0 {
-        return add_candidate(total, bounds, whole_circle(k, circle, set), set);
-    }
-    let mut sum = total;
-    let mut i: usize = 0;
-    while i < n {
-        sum = add_candidate(sum, bounds, arc_from(k, circle, angles, i, set), set);
-        i += 1;
-    }
-    sum
-}
-
-// The arcs of all members of a set, added up.
-fn outline_sum(mask: usize, bounds: Bounds, set: Members, points: Intersections) -> f64
-    ensures { λ r. ⌜ r ≡ addClippedArcs bounds (circleList set) zero64 (outlineFrom (circleList set) 0 (membersWith (pointList points) mask (headList set) (circleList set))) ⌝ }
-{
-    let n = set.n;
-    let mut total = 0.0;
-    let mut k: usize = 0;
-    while k < 10 {
-        if n <= k {
-            return total;
-        }
-        let circle = set.circles[k];
-        let angles = angles_for(mask, set.heads[k], circle, points);
-        total = add_member(total, bounds, k, circle, angles, set);
-        k += 1;
-    }
-    total
 }
 
 // The area that the heads of a set water together inside the box.
@@ -185,10 +126,7 @@ pub fn clipped_region_area(
         return 0.0;
     }
     let set = members_of(mask, circles, n_sets);
-    if set.n == 1 {
-        let theirs = set.circles;
-        let whole = add_clipped_arc(0.0, bounds, theirs, 1, full_circle(0, theirs[0]));
-        return 0.5 * add_edges(whole, bounds, set);
-    }
-    0.5 * add_edges(outline_sum(mask, bounds, set, points), bounds, set)
+    let theirs = set.circles;
+    let total = arcs_sum(outline_of(mask, set, points), bounds, theirs, set.n);
+    0.5 * add_edges(total, bounds, set)
 }

@@ -1,15 +1,18 @@
 -- One row as the code works it out, branch by branch: row 0, a set, an absent row; and a row looks at its own set only.
 use mathlib.Core.Path.{_≡_, refl, sym, ap, _∙_}
 use mathlib.Core.Bool.{Bool, true, false, cond}
-use mathlib.Core.List.{[], _∷_, _++_}
-use Prim.Native.Nat.{ℕ, zero, suc}
+use mathlib.Core.List.{List, [], _∷_, _++_}
+use Prim.Native.Nat.{ℕ, zero, suc, _≤_, _<_}
 use native.Mathlib.Omega.{arith}
-use borrow.Author.Tests.{eq-eqb, ne-eqb}
-use lib.Dec.{eqb}
-use lib.ListN.{replicate}
-use Rattle.masks.specs.Presence.{byte}
-use Rattle.lists.specs.Written.{tab}
-use Rattle.diagram.specs.Rows.{among, inRow}
+use lib.Ieee.{Float, nan}
+use lib.ListN.{getD, length, replicate, set}
+use lib.Seq.{getD-set-same, getD-set-other}
+use Rattle.binary64.specs.Constants.{zero64}
+use Rattle.lists.specs.Written.{tab, written}
+use Rattle.lists.proofs.Writing.{length-written, written-before}
+use Rattle.sums.specs.Rows.{numberAt}
+use Rattle.sums.specs.Presence.{among}
+use Rattle.diagram.specs.Rows.{inRow}
 
 module _ {A : Type 0} (hasBox : Bool) (sets : ℕ → Bool) (box : A) (row : ℕ → A) (absent : A) where
   pub row-box : (x : A) (S : ℕ) → S ≡ 0 → hasBox ≡ true → x ≡ box → x ≡ inRow hasBox sets box row absent S
@@ -33,20 +36,29 @@ module _ {A : Type 0} (hasBox : Bool) (sets : ℕ → Bool) (box : A) (row : ℕ
   row-own zero = refl
   row-own (suc S) = refl
 
--- ---- presence bytes
+-- ---- the areas of sets written, the box's area put into row 0, absent rows cleared
 
-module _ (hasBox : Bool) where
-  pub byte-set : (is S : ℕ) → (S ≡ 0 → ⊥) → is ≡ 1 → 1 ≡ byte (among hasBox (λ T. eqb is 1) S)
-  byte-set is zero z e = absurd (z refl)
-  byte-set is (suc S) z e = rw (eq-eqb is 1 e) refl
+module _ (hasBox : Bool) (sets : ℕ → Bool) (box x : Float) (area : ℕ → Float) (l k : List Float) (m : ℕ)
+    (areas : k ≡ written (numberAt sets area l) m l) (room : m ≤ length l) (same : x ≡ box) where
+  pub row-laid : (S : ℕ) → S < m → cond (among hasBox sets S) (getD (set k 0 x) S nan) zero64 ≡ inRow hasBox sets (cond hasBox box zero64) area zero64 S
+  row-laid zero h = by hasBox
+    where
+      first : getD (set k 0 x) 0 nan ≡ box
+      first = getD-set-same k 0 x nan (omega (arith, ap length areas, length-written (numberAt sets area l) m l room)) ∙ same
 
-  pub byte-gone : (is S : ℕ) → (S ≡ 0 → ⊥) → (is ≡ 1 → ⊥) → 0 ≡ byte (among hasBox (λ T. eqb is 1) S)
-  byte-gone is zero z e = absurd (z refl)
-  byte-gone is (suc S) z e = rw (ne-eqb is 1 e) refl
+      by : (b : Bool) → cond b (getD (set k 0 x) 0 nan) zero64 ≡ cond b (cond b box zero64) zero64
+      by true = first
+      by false = refl
+  row-laid (suc S) h = by (sets (suc S)) refl
+    where
+      other : getD (set k 0 x) (suc S) nan ≡ numberAt sets area l (suc S)
+      other =
+          getD-set-other k 0 (suc S) x nan (λ e. absurd (omega arith))
+          ∙ ap (λ (t : List Float). getD t (suc S) nan) areas ∙ written-before (numberAt sets area l) m (suc S) l nan h
 
-  pub byte-own : (sets : ℕ → Bool) (S : ℕ) → byte (among hasBox (λ T. sets S) S) ≡ byte (among hasBox sets S)
-  byte-own sets zero = refl
-  byte-own sets (suc S) = refl
+      by : (b : Bool) → sets (suc S) ≡ b → cond b (getD (set k 0 x) (suc S) nan) zero64 ≡ cond b (area (suc S)) zero64
+      by true e = other ∙ ap (λ (b : Bool). cond b (area (suc S)) (getD l (suc S) nan)) e
+      by false e = refl
 
 -- ---- numbers all alike
 

@@ -8,6 +8,7 @@ use lib.ListN.{getD, replicate}
 use Rattle.lists.specs.Written.{written}
 use Rattle.masks.specs.Presence.{byte}
 use Rattle.binary64.specs.Constants.{zero64}
+use Rattle.sums.specs.Presence.{among}
 use Rattle.exclusive.specs.Exclusive.{exclusiveRow}
 use Rattle.exclusive.specs.Gradient.{unlessReplaced, exclusiveWithGradient}
 
@@ -19,10 +20,6 @@ pub record Rows : Type 0 where
   pub area : ℕ → Float
 
 -- row S is there
-abbrev pub among : Bool → (ℕ → Bool) → ℕ → Bool
-among hasBox sets zero = hasBox
-among hasBox sets (suc S) = sets (suc S)
-
 abbrev pub isThere : Rows → ℕ → Bool
 isThere r = among (r .hasBox) (r .sets)
 

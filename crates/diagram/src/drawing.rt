@@ -1,10 +1,8 @@
 // What the rows of a diagram are worked out from: circles, their meeting points, and the box where there is one.
 ghost use mathlib.Core.Path.{_≡_};
-ghost use lib.ListN.{take};
 ghost use Rattle.masks.specs.Presence.{stands};
 ghost use Rattle.clip.specs.Gradient.{with-gradient};
 ghost use Rattle.diagram.specs.Drawing as spec;
-use clip::area::clipped_region_area;
 use clip::gradient::area_and_gradient_from_clipped_arcs;
 use geometry::circle::Circle;
 use geometry::point::Point;
@@ -12,7 +10,6 @@ use geometry::rectangle::Rectangle;
 use intersections::members::at_most_ten;
 use intersections::points::Intersections;
 use outline::area::area_from_boundary_arcs;
-use outline::area::region_area;
 use outline::gradient::accumulate_region_overlap_gradient;
 use outline::outline::region_boundary_arcs;
 
@@ -23,19 +20,6 @@ pub struct Drawing {
     pub circles: [Circle; 10],
     pub points: Intersections,
     pub container: Rectangle,
-}
-
-// The area of the set `mask`, in the box or without it.
-pub fn set_area(drawing: Drawing, mask: usize) -> f64
-    ensures { λ r. ⌜ r ≡ spec.setArea drawing mask ⌝ }
-{
-    let circles = drawing.circles;
-    let points = drawing.points;
-    if drawing.boxed {
-        let container = drawing.container;
-        return clipped_region_area(mask, circles, points, drawing.n, container.bounds());
-    }
-    region_area(mask, circles, points, drawing.n)
 }
 
 // The area of the set `mask`, as it comes with its gradient, which is added to grad by head: from the arcs of its outline, made once.

@@ -1,7 +1,7 @@
 // Exclusive areas of circles in lent slices: over any list of sets, and under the Rust's names over those that discover_regions finds.
 // Rests on specs/Diagram.antt.
 ghost use mathlib.Core.Path.{_≡_};
-ghost use Prim.Native.Nat.{min, _≤_, _^_};
+ghost use Prim.Native.Nat.{_≤_, _^_};
 ghost use lib.ListN.{length, take};
 ghost use Rattle.masks.specs.Presence.{stands};
 ghost use Rattle.diagram.specs.Rows.{presenceWritten, exclusivesWritten};
@@ -30,7 +30,7 @@ fn write_exclusives(
     ensures { λ r. ⌜ now (exclusives .exit) ≡ exclusivesWritten (drawing .n) (rowsOf drawing (stands (now (sets .entry)))) (now (exclusives .entry)) ⌝ }
 {
     let n = drawing.n;
-    write_rows(drawing, sets, 1usize << n, presence, exclusives);
+    write_rows(drawing, sets, presence, exclusives);
     to_exclusive_areas_in_place(presence, exclusives, n);
 }
 

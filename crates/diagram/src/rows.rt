@@ -1,9 +1,7 @@
 // The rows of a diagram in lent slices, before anything is subtracted: presence bytes, areas, and gradients by head. The sets come as
 // presence bytes. Rests on specs/Rows.antt.
 ghost use mathlib.Core.Path.{_≡_};
-ghost use mathlib.Core.Bool.{Bool};
-ghost use Prim.Native.Nat.{_*_, _≤_};
-ghost use lib.Dec.{eqb};
+ghost use Prim.Native.Nat.{_*_, _≤_, _^_};
 ghost use lib.Ieee.{nan};
 ghost use lib.ListN.{length, replicate, set};
 ghost use Rattle.lists.specs.Written.{written};
@@ -11,62 +9,36 @@ ghost use Rattle.masks.specs.Presence.{byte, stands};
 ghost use Rattle.binary64.specs.Constants.{zero64};
 ghost use Rattle.clip.specs.Gradient.{with-gradient};
 ghost use Rattle.exclusive.proofs.TableRows.{byRow};
-ghost use Rattle.diagram.specs.Rows.{among, isThere, areaAt, slopesAt};
+ghost use Rattle.diagram.specs.Rows.{isThere, areaAt, slopesAt, presenceWritten};
 ghost use Rattle.diagram.specs.Drawing.{rowsOf, slopesBy, rowWith};
 use crate::drawing::Drawing;
-use crate::drawing::set_area;
 use crate::drawing::set_with_gradient;
 use intersections::members::at_most_ten;
+use sums::presence::clear_absent;
+use sums::presence::row_byte;
+use sums::presence::write_presence;
+use sums::rows::write_areas;
 
-// The byte of row `mask`, whose byte among the sets is `is`: row 0 is there where there is a box.
-fn row_byte(boxed: bool, is: u8, mask: usize) -> u8
-    ensures { λ r. ⌜ r ≡ byte (among boxed (λ T. eqb is 1) mask) ⌝ }
-{
-    if mask == 0 {
-        return if boxed { 1 } else { 0 };
-    }
-    if is == 1 {
-        return 1;
-    }
-    0
-}
-
-// The area of row `mask`, and +0 where it is absent.
-fn row_area(drawing: Drawing, is: u8, mask: usize) -> f64
-    ensures { λ r. ⌜ r ≡ areaAt (rowsOf drawing (λ T. eqb is 1)) mask ⌝ }
-{
-    if mask == 0 {
-        if drawing.boxed {
-            let container = drawing.container;
-            return container.area();
-        }
-        return 0.0;
-    }
-    if is == 1 {
-        return set_area(drawing, mask);
-    }
-    0.0
-}
-
-// Rows 0 to count - 1: presence bytes and areas.
+// Rows 0 to 2^n - 1: presence bytes and areas. Row 0 has the box's area, which is cleared again where there is no box.
 pub(crate) fn write_rows(
     drawing: Drawing,
     sets: &[u8; 1024],
-    count: usize,
     presence: &mut [u8],
     areas: &mut [f64],
 )
-    requires { ⌜ (count ≤ 1024) × (count ≤ length (now presence)) × (count ≤ length (now areas)) ⌝ }
-    ensures { λ r. ⌜ now (presence .exit) ≡ written (λ S. byte (isThere (rowsOf drawing (stands (now (sets .entry)))) S)) count (now (presence .entry)) ⌝ }
-    ensures { λ r. ⌜ now (areas .exit) ≡ written (areaAt (rowsOf drawing (stands (now (sets .entry))))) count (now (areas .entry)) ⌝ }
+    requires { ⌜ (drawing .n ≤ 10) × (2 ^ drawing .n ≤ length (now presence)) × (2 ^ drawing .n ≤ length (now areas)) ⌝ }
+    ensures { λ r. ⌜ now (presence .exit) ≡ presenceWritten (drawing .n) (rowsOf drawing (stands (now (sets .entry)))) (now (presence .entry)) ⌝ }
+    ensures { λ r. ⌜ now (areas .exit) ≡ written (areaAt (rowsOf drawing (stands (now (sets .entry))))) (2 ^ drawing .n) (now (areas .entry)) ⌝ }
 {
+    let n = drawing.n;
     let boxed = drawing.boxed;
-    let mut mask: usize = 0;
-    while mask < count {
-        presence[mask] = row_byte(boxed, sets[mask], mask);
-        areas[mask] = row_area(drawing, sets[mask], mask);
-        mask += 1;
-    }
+    let circles = drawing.circles;
+    let points = drawing.points;
+    let container = drawing.container;
+    write_areas(boxed, circles, points, n, container.bounds(), sets, areas);
+    areas[0] = container.area();
+    clear_absent(boxed, n, sets, areas);
+    write_presence(boxed, n, sets, presence);
 }
 
 // All numbers of a slice made +0.

@@ -15,6 +15,7 @@ use Rattle.binary64.specs.Functions.{clampToZero}
 use Rattle.exclusive.specs.Exclusive.{unclamped, exclusiveRow}
 use Rattle.exclusive.specs.Entries.{entry, Subtracted}
 use Rattle.exclusive.proofs.RowOrder.{row-of}
+use Rattle.exclusive.proofs.Entries.{one-wide}
 use Rattle.exclusive.proofs.Unclamped.{unclamped-cong, exclusive-alike}
 
 -- of an absent row the number is not looked at
@@ -28,10 +29,6 @@ module _ (n : ℕ) (present : ℕ → Bool) (before after : List Float) where
       → entry width after k S ≡ unclamped n present (entry width before k) S
   subtracted-row width k S s hk hs p =
       row-of present (λ T. entry width after k T ≡ unclamped n present (entry width before k) T) n S hs p (s .rows k hk)
-
-  -- a table of one number a row
-  one-wide : (S : ℕ) (l : List Float) → entry 1 l 0 S ≡ getD l S nan
-  one-wide S l = let e : S * 1 + 0 ≡ S = omega arith in ap (λ (x : ℕ). getD l x nan) e
 
   pub subtracted-one : (S : ℕ) → Subtracted n present 1 before after → S < 2 ^ n → present S ≡ true
       → getD after S nan ≡ unclamped n present (λ T. getD before T nan) S

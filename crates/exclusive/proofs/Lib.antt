@@ -4,6 +4,8 @@ pub mod Unclamped
 pub mod Sums
 pub mod Entries
 pub mod Passing
+pub mod Zero
+pub mod LevelSums
 pub mod Answers
 pub mod Closing
 pub mod TableRows

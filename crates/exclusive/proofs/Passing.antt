@@ -4,21 +4,22 @@ use mathlib.Core.Path.{_≡_, refl, sym, ap, ap₂, _∙_, subst}
 use mathlib.Core.Bool.{Bool, true, false}
 use mathlib.Core.List.{List, [], _∷_}
 use Prim.Native.Nat.{ℕ, suc, _+_, _*_, _^_, _≤_, _<_}
-use native.Mathlib.Nat.{mul-le-mul-right}
+use native.Mathlib.Nat.{le-refl, mul-le-mul-right}
 use native.Mathlib.Numerals.{add-one}
+use lib.Count.{ones}
 use lib.Dec.{eqb}
 use lib.Ieee.{Float}
 use lib.ListN.{length, getD, take, drop, drop-of-length-le}
 use lib.Seq.{drop-cons, take-suc}
 use borrow.Author.Tests.{eqb-true, eqb-false}
 use Rattle.lists.specs.Lists.{keep}
-use Rattle.lists.specs.Every.{Every, every-map, every-both, every-left, every-right, every-kept}
+use Rattle.lists.specs.Every.{Every, every-map, every-both, every-left, every-right, every-keep}
 use Rattle.masks.specs.Mask.{strictSubset}
 use Rattle.binary64.specs.Constants.{zero64}
 use Rattle.binary64.specs.Floats.{_-ᶠ_}
 use Rattle.exclusive.specs.RowOrder.{rowOrder, Ordered}
 use Rattle.exclusive.specs.Exclusive.{sumOnto, above, unclamped}
-use Rattle.exclusive.specs.Entries.{entry, RowSubtracted, Subtracted}
+use Rattle.exclusive.specs.Entries.{entry, rowSums, RowSubtracted, Subtracted}
 use Rattle.exclusive.proofs.RowOrder.{rows-ordered, all-earlier, earlier-other}
 use Rattle.exclusive.proofs.Sums.{cut, later}
 use Rattle.exclusive.proofs.Unclamped.{sum-same, unclamped-is}
@@ -48,6 +49,10 @@ module _ (n : ℕ) (present : ℕ → Bool) (width : ℕ) where
   pub pass-end : (before after : List Float) → Pass n present width 0 before after → Subtracted n present width before after
   pass-end before after p = record { rows = p .reached; rest = p .rest; many = p .many }
 
+  -- what is to be subtracted from number k of row S
+  abbrev pub due : ℕ → List Float → ℕ → Float
+  due S before k = sumOnto (unclamped n present (entry width before k)) zero64 (above n present S)
+
   module _ (i S : ℕ) (hs : S < 2 ^ n) (inside : i < length (rowOrder present n)) (here : getD (rowOrder present n) i 0 ≡ S) where
     abbrev L : List ℕ
     L = rowOrder present n
@@ -56,16 +61,25 @@ module _ (n : ℕ) (present : ℕ → Bool) (width : ℕ) where
     earlier =
         every-map (take i L) (λ T e. earlier-other T S e)
         (all-earlier (take i L) (drop (suc i) L) S
-        (subst Ordered (cut n L i S hs inside here (rows-ordered present n)) (rows-ordered present n)))
+        (subst Ordered (cut L i S inside here) (rows-ordered present n)))
 
     -- the strict supersets that come after a row are all of them
     pub all-above : keep (strictSubset n S) (drop (i + 1) L) ≡ above n present S
     unfolding above
-    all-above = sym (later n L i S hs inside here (rows-ordered present n))
+    all-above = sym (later L i S inside here n S hs (le-refl (ones S)) (rows-ordered present n))
 
-    pub pass-next : (before mid after : List Float) (rows : List ℕ) → rows ≡ keep (strictSubset n S) (drop (i + 1) L)
-        → Pass n present width (i + 1) before mid → RowSubtracted width S rows width mid after → Pass n present width i before after
-    pass-next before mid after rows e p r =
+    -- the sums of the rows after it, which are reached
+    pub sums-due : (before mid : List Float) (rows : List ℕ) → rows ≡ keep (strictSubset n S) (drop (i + 1) L) → Pass n present width (i + 1) before mid
+        → (k : ℕ) → k < width → rowSums width mid rows k ≡ due S before k
+    sums-due before mid rows e p k hk =
+        ap (sumOnto (entry width mid k) zero64) e
+        ∙ sum-same (entry width mid k) (unclamped n present (entry width before k)) zero64 (keep (strictSubset n S) (drop (i + 1) L))
+        (every-keep (λ T. entry width mid k T ≡ unclamped n present (entry width before k) T) (strictSubset n S) (drop (i + 1) L) (p .reached k hk))
+        ∙ ap (sumOnto (unclamped n present (entry width before k)) zero64) all-above
+
+    pub pass-next : (before mid after : List Float) (sums : ℕ → Float) → ((k : ℕ) → k < width → sums k ≡ due S before k)
+        → Pass n present width (i + 1) before mid → RowSubtracted width S sums width mid after → Pass n present width i before after
+    pass-next before mid after sums e p r =
         record {
           reached = λ k hk. subst (Every (Reached after k)) (sym (drop-cons L i 0 inside ∙ ap₂ (λ (x j : ℕ). x ∷ drop j L) here (sym (add-one i))))
               (own k hk, every-map (drop (i + 1) L) (λ T t. keeps k hk T t (eqb T S) refl) (p .reached k hk));
@@ -88,16 +102,8 @@ module _ (n : ℕ) (present : ℕ → Bool) (width : ℕ) where
               subst (Stayed k) here (every-right (Stayed k) (take i L) (getD L i 0 ∷ []) e .0),
             )
 
-        sums : (k : ℕ) → k < width → sumOnto (entry width mid k) zero64 rows
-            ≡ sumOnto (unclamped n present (entry width before k)) zero64 (above n present S)
-        sums k hk =
-            ap (sumOnto (entry width mid k) zero64) e
-            ∙ sum-same (entry width mid k) (unclamped n present (entry width before k)) zero64 (keep (strictSubset n S) (drop (i + 1) L))
-            (every-kept (Reached mid k) (Reached mid k) (strictSubset n S) (drop (i + 1) L) (p .reached k hk) (λ T t e. t))
-            ∙ ap (sumOnto (unclamped n present (entry width before k)) zero64) all-above
-
         own : (k : ℕ) → k < width → Reached after k S
-        own k hk = r .own k hk ∙ ap₂ _-ᶠ_ (first k hk .1) (sums k hk) ∙ sym (unclamped-is n present (entry width before k) S hs)
+        own k hk = r .own k hk ∙ ap₂ _-ᶠ_ (first k hk .1) (e k hk) ∙ sym (unclamped-is n present (entry width before k) S hs)
 
         keeps : (k : ℕ) → k < width → (T : ℕ) → Reached mid k T → (b : Bool) → eqb T S ≡ b → Reached after k T
         keeps k hk T t true e = subst (Reached after k) (sym (eqb-true T S e)) (own k hk)

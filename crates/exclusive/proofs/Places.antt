@@ -7,7 +7,7 @@ use native.Mathlib.Decide.{ℕ-discrete, le-ind}
 use native.Mathlib.Nat.{le-refl, lt-of-lt-of-le}
 use native.Mathlib.Numerals.{add-one}
 use native.Mathlib.Omega.{arith}
-use borrow.Author.Tests.{ne-eqb}
+use borrow.Author.Tests.{eq-eqb, ne-eqb}
 use lib.Count.{ones}
 use lib.Dec.{eqb}
 use lib.ListN.{length, take, set, length-append}
@@ -114,6 +114,15 @@ module _ (present : ℕ → Bool) where
         ap (λ (b : Bool). length (cond b (s ∷ []) [])) e,
         few-rows m (suc c),
       )
+
+-- A row is told by the number of its heads, 11 of an absent one.
+pub is-row : (b : Bool) (o c h : ℕ) → h ≡ cond b o 11 → c ≤ 10 → h ≡ c → (b && eqb o c) ≡ true
+is-row true o c h e few k = eq-eqb o c (sym e ∙ k)
+is-row false o c h e few k = absurd (omega (arith, e, k))
+
+pub no-row : (b : Bool) (o c h : ℕ) → h ≡ cond b o 11 → (h ≡ c → ⊥) → (b && eqb o c) ≡ false
+no-row true o c h e k = ne-eqb o c (λ f. k (e ∙ f))
+no-row false o c h e k = refl
 
 -- the write of one row
 pub put : (all R : List ℕ) (k s : ℕ) → k < length all → take k all ≡ R → take (k + 1) (set all k s) ≡ R ++ (s ∷ [])

@@ -88,6 +88,11 @@ all-earlier (T ∷ a) b S h = (at a (h .0), all-earlier a b S (h .1))
     at [] e = e .0
     at (U ∷ a) e = at a (e .1)
 
+-- and after it only later ones
+pub all-later : (a b : List ℕ) (S : ℕ) → Ordered (a ++ S ∷ b) → Every (Earlier S) b
+all-later [] b S h = h .0
+all-later (T ∷ a) b S h = all-later a b S (h .1)
+
 -- an earlier row has no more heads, and is another
 pub earlier-heads : (S T : ℕ) → Earlier S T → ones S ≤ ones T
 earlier-heads S T e = ⊎-elim (λ h. omega arith) (λ h. omega (arith, h .0)) e

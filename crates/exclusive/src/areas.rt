@@ -1,5 +1,5 @@
 // Exclusive areas from presence bytes and areas (the Rust's to_exclusive_areas). Rests on specs/Exclusive.antt.
-use crate::subtract::subtract_supersets;
+use crate::levels::subtract_levels;
 use binary64::clamp_to_zero;
 ghost use mathlib.Core.Path.{_≡_};
 ghost use mathlib.Core.Bool.{cond};
@@ -75,7 +75,7 @@ fn exclude(present: &[u8], areas: &mut [f64], n: usize)
     requires { ⌜ (n ≤ 10) × (2 ^ n ≤ length (now present)) × (2 ^ n ≤ length (now areas)) ⌝ }
     ensures { λ r. ⌜ now (areas .exit) ≡ written (exclusiveRow n (stands (now (present .entry))) (λ S. getD (now (areas .entry)) S nan)) (2 ^ n) (now (areas .entry)) ⌝ }
 {
-    subtract_supersets(present, areas, n, 1);
+    subtract_levels(present, areas, n);
     clamp_rows(present, areas, n);
 }
 

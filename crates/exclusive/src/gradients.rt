@@ -1,6 +1,7 @@
 // Exclusive areas and their gradients, in place (the Rust's to_exclusive_areas_and_gradients). Rests on specs/Gradient.antt.
 use crate::areas::rows_answer;
 use crate::areas::shorter;
+use crate::levels::subtract_levels;
 use crate::subtract::subtract_supersets;
 ghost use mathlib.Core.Path.{_≡_};
 ghost use mathlib.Core.Bool.{cond, not, _&&_};
@@ -82,7 +83,7 @@ fn write_exclusives_and_gradients(
     ensures { λ r. ⌜ now (areas .exit) ≡ written (exclusiveWithGradient n (stands (now (present .entry))) (λ S. getD (now (areas .entry)) S nan)) (2 ^ n) (now (areas .entry)) ⌝ }
     ensures { λ r. ⌜ now (gradients .exit) ≡ written (gradientEntry n width (now (present .entry)) (now (areas .entry)) (now (gradients .entry))) (2 ^ n * width) (now (gradients .entry)) ⌝ }
 {
-    subtract_supersets(present, areas, n, 1);
+    subtract_levels(present, areas, n);
     subtract_supersets(present, gradients, n, width);
     replace_rows(present, areas, gradients, n, width);
 }

@@ -2,5 +2,6 @@
 // Rests on presence bytes, one a mask, and knows nothing of heads or plans.
 pub mod areas;
 pub mod gradients;
+pub mod levels;
 pub mod rows;
 pub mod subtract;

@@ -1,10 +1,11 @@
 // The present rows of a table in row order. Rests on specs/RowOrder.antt.
 ghost use mathlib.Core.Path.{_≡_};
-ghost use mathlib.Core.Bool.{_&&_};
-ghost use Prim.Native.Nat.{_≤_, _<_, _^_};
+ghost use mathlib.Core.Bool.{cond};
+ghost use Prim.Native.Nat.{_≤_, _^_};
 ghost use lib.Count.{ones};
 ghost use lib.Dec.{eqb};
-ghost use lib.ListN.{length};
+ghost use lib.ListN.{length, replicate};
+ghost use Rattle.lists.specs.Written.{written};
 ghost use Rattle.masks.specs.Presence.{stands};
 ghost use Rattle.exclusive.specs.RowOrder.{rowOrder, rowList};
 
@@ -14,15 +15,29 @@ pub struct Rows {
     pub all: [usize; 1024],
 }
 
-// Whether a row is present and has c heads.
-fn is_row(present: &[u8], c: u32, s: usize) -> bool
-    requires { ⌜ s < length (now present) ⌝ }
-    ensures { λ r. ⌜ r ≡ (stands (now (present .entry)) s && eqb (ones s) c) ⌝ }
+// How many heads a row has; of an absent row 11, more than a row can have.
+fn heads_of(byte: u8, s: usize) -> u32
+    ensures { λ r. ⌜ r ≡ cond (eqb byte 1) (ones s) 11 ⌝ }
 {
-    if present[s] == 1 {
-        return usize::count_ones(s) == c;
+    if byte == 1 {
+        return usize::count_ones(s);
     }
-    false
+    11
+}
+
+// The same of each row, looked up once for all numbers of heads.
+fn row_heads(present: &[u8], n: usize) -> [u32; 1024]
+    requires { ⌜ (n ≤ 10) × (2 ^ n ≤ length (now present)) ⌝ }
+    ensures { λ r. ⌜ r ≡ written (λ S. cond (stands (now (present .entry)) S) (ones S) 11) (2 ^ n) (replicate 1024 0) ⌝ }
+{
+    let masks = 1usize << n;
+    let mut heads = [0u32; 1024];
+    let mut s: usize = 0;
+    while s < masks {
+        heads[s] = heads_of(present[s], s);
+        s += 1;
+    }
+    heads
 }
 
 // The present rows of n heads: by number of heads, then by mask.
@@ -32,13 +47,14 @@ pub(crate) fn row_order(present: &[u8], n: usize) -> Rows
     ensures { λ r. ⌜ (r .n ≤ 1024) × (length (r .all) ≡ 1024) ⌝ }
 {
     let masks = 1usize << n;
+    let heads = row_heads(present, n);
     let mut all = [0usize; 1024];
     let mut k: usize = 0;
     let mut c: usize = 0;
     while c <= n {
         let mut s: usize = 0;
         while s < masks {
-            if is_row(present, c as u32, s) {
+            if heads[s] == c as u32 {
                 all[k] = s;
                 k += 1;
             }

@@ -31,7 +31,8 @@ use Rattle.plan.specs.Checks.{callAnswer}
 use Rattle.plan.proofs.Exactly.{call-taken}
 use Rattle.drawn.specs.Drawn.{planCircles, boxOf}
 use Rattle.drawn.proofs.Circles.{circles-many}
-use Rattle.diagram.specs.Rows.{Slopes, among, inRow, isThere, areaAt, slopesAt, presenceWritten}
+use Rattle.sums.specs.Presence.{among}
+use Rattle.diagram.specs.Rows.{Slopes, inRow, isThere, areaAt, slopesAt, presenceWritten}
 use Rattle.diagram.specs.Drawing.{openOnto, clippedOnto, openSlopes, clippedSlopes}
 use Rattle.diagram.specs.Diagram.{answerWith, presenceLeftWith, areasLeft, gradientsLeft}
 use Rattle.diagram.proofs.Alike.{Alike, bytes-alike, areas-alike, rows-alike}

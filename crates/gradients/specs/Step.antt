@@ -3,6 +3,7 @@
 use Prim.Native.Nat.{ℕ, _+_, _*_, _^_, _≤_}
 use mathlib.Core.Bool.{Bool, true, false, cond}
 use mathlib.Core.List.{List, [], _∷_}
+use mathlib.Core.Path.{_≡_}
 use lib.Ieee.{Float}
 use lib.ListN.{length}
 use Rattle.lists.specs.Run.{Step}
@@ -17,8 +18,11 @@ use Rattle.plan.specs.Book.{leaves}
 use Rattle.plan.specs.Checks.{callAnswer}
 use Rattle.plan.specs.Table.{lentBy}
 use Rattle.geometry.specs.Rectangle.{area}
-use Rattle.drawn.specs.Drawn.{boxOf}
+use Rattle.intersections.specs.Points.{collected}
+use Rattle.drawn.specs.Drawn.{planCircles, boxOf}
 use Rattle.outline.specs.Area.{openArea}
+use Rattle.diagram.specs.declared.drawing.Drawing.{Drawing}
+use Rattle.diagram.specs.Drawing.{circlesOf, pointsOf}
 use Rattle.diagram.specs.Rows.{Slopes, presenceWritten, areasWritten, slopesWritten}
 use Rattle.regions.specs.Table.{planMembers}
 use Rattle.areas.specs.Clipped.{clippedGradientRow}
@@ -93,3 +97,11 @@ pub record Room (p : Plan) (clipped : Bool) (t : GradientSlices) : Type 0 where
   pub bytes : 2 ^ p .n ≤ length (t .presence)
   pub numbers : 2 ^ p .n ≤ length (t .exclusives)
   pub slopes : 2 ^ p .n * planSlopes clipped (λ q S. false) p .width ≤ length (t .gradients)
+
+-- d is drawn from the plan p, in its box or without it
+pub record Of (p : Plan) (clipped : Bool) (d : Drawing) : Type 0 where
+  pub boxed : d .boxed ≡ clipped
+  pub n : d .n ≡ p .n
+  pub circles : circlesOf d ≡ planCircles p
+  pub points : pointsOf d ≡ collected (planCircles p)
+  pub container : d .container ≡ boxOf (p .ground)

@@ -3,11 +3,8 @@ ghost use mathlib.Core.Path.{_≡_};
 ghost use mathlib.Core.List.{[], _∷_};
 ghost use Rattle.masks.specs.Presence.{stands};
 ghost use Rattle.plan.specs.Table.{lentBy};
-ghost use Rattle.intersections.specs.Points.{collected};
-ghost use Rattle.sets.specs.Regions.{setBytes};
-ghost use Rattle.drawn.specs.Drawn.{planCircles};
 ghost use Rattle.areas.specs.Sets.{planSets};
-ghost use Rattle.gradients.specs.Step.{gradientSlices, stepTo, gradientsWritten, gradientsStep, clippedStep, openStep, whichOf, planSlopes, Room};
+ghost use Rattle.gradients.specs.Step.{gradientSlices, stepTo, gradientsWritten, gradientsStep, clippedStep, openStep, whichOf, planSlopes, Room, Of};
 use diagram::drawing::Drawing;
 use diagram::gradients::exclusive_areas_and_gradients_of;
 use drawn::box_of;
@@ -31,43 +28,40 @@ fn lent_by(presence: usize, exclusives: usize, gradients: usize) -> Lent
     }
 }
 
-// The rows of an accepted plan over the sets of these bytes, in its box or without it.
-fn write_gradients(
-    plan: Plan,
-    clipped: bool,
-    sets: &[u8; 1024],
-    presence: &mut [u8],
-    exclusives: &mut [f64],
-    gradients: &mut [f64],
-)
-    requires { ⌜ Room plan clipped (gradientSlices (now presence) (now exclusives) (now gradients)) ⌝ }
-    ensures { λ r. ⌜
-        gradientSlices (now (presence .exit)) (now (exclusives .exit)) (now (gradients .exit))
-        ≡ gradientsWritten (plan .n) (planSlopes clipped (λ q. stands (now (sets .entry))) plan)
-        (gradientSlices (now (presence .entry)) (now (exclusives .entry)) (now (gradients .entry)))
-        ⌝ }
+// What the sets and rows of a plan are worked out from, in its box or without it: made once a call.
+fn drawing_of(plan: Plan, clipped: bool) -> Drawing
+    ensures { λ r. ⌜ Of plan clipped r ⌝ }
 {
     let ground = plan.ground;
     let circles = circles_of(plan);
     let points = collect_intersections(circles, plan.n);
     let container = box_of(ground);
-    let drawing = Drawing {
+    Drawing {
         boxed: clipped,
         n: plan.n,
         circles: circles,
         points: points,
         container: container,
-    };
-    exclusive_areas_and_gradients_of(sets, drawing, presence, exclusives, gradients);
+    }
 }
 
-// The presence bytes of a plan's sets.
-fn sets_of(plan: Plan) -> [u8; 1024]
-    ensures { λ r. ⌜ r ≡ setBytes (planCircles plan) (collected (planCircles plan)) ⌝ }
+// The rows of an accepted plan drawn, over the sets of these bytes.
+fn write_gradients(
+    plan: Plan,
+    drawing: Drawing,
+    sets: &[u8; 1024],
+    presence: &mut [u8],
+    exclusives: &mut [f64],
+    gradients: &mut [f64],
+)
+    requires { ⌜ Room plan (drawing .boxed) (gradientSlices (now presence) (now exclusives) (now gradients)) × Of plan (drawing .boxed) drawing ⌝ }
+    ensures { λ r. ⌜
+        gradientSlices (now (presence .exit)) (now (exclusives .exit)) (now (gradients .exit))
+        ≡ gradientsWritten (plan .n) (planSlopes (drawing .boxed) (λ q. stands (now (sets .entry))) plan)
+        (gradientSlices (now (presence .entry)) (now (exclusives .entry)) (now (gradients .entry)))
+        ⌝ }
 {
-    let circles = circles_of(plan);
-    let points = collect_intersections(circles, plan.n);
-    discover_regions(circles, points, plan.n)
+    exclusive_areas_and_gradients_of(sets, drawing, presence, exclusives, gradients);
 }
 
 // Which gradient rows a call writes.
@@ -97,8 +91,11 @@ fn work_out(
     let answer = check_call(plan, which(clipped), lent);
     match answer {
         Answer::Taken => {
-            let sets = sets_of(plan);
-            write_gradients(plan, clipped, &sets, presence, exclusives, gradients);
+            let drawing = drawing_of(plan, clipped);
+            let circles = drawing.circles;
+            let points = drawing.points;
+            let sets = discover_regions(circles, points, drawing.n);
+            write_gradients(plan, drawing, &sets, presence, exclusives, gradients);
             Answer::Taken
         }
         Answer::Refused(refusal, at) => Answer::Refused(refusal, at),

@@ -17,7 +17,7 @@ pub enum Span {
 }
 
 // Whether a circle does not reach the line at y.
-fn misses(y: f64, c: Circle) -> bool
+pub fn misses(y: f64, c: Circle) -> bool
     ensures { λ r. ⌜ r ≡ misses y c ⌝ }
 {
     let dy = y - c.center.y;
@@ -25,20 +25,20 @@ fn misses(y: f64, c: Circle) -> bool
 }
 
 // Half the chord that a circle cuts from the line at y.
-fn half_chord(y: f64, c: Circle) -> f64
+pub fn half_chord(y: f64, c: Circle) -> f64
     ensures { λ r. ⌜ r ≡ halfChord y c ⌝ }
 {
     let dy = y - c.center.y;
     root(larger(c.radius * c.radius - dy * dy, 0.0))
 }
 
-fn raised(lo: f64, end: f64) -> f64
+pub fn raised(lo: f64, end: f64) -> f64
     ensures { λ r. ⌜ r ≡ raised lo end ⌝ }
 {
     if end > lo { end } else { lo }
 }
 
-fn lowered(hi: f64, end: f64) -> f64
+pub fn lowered(hi: f64, end: f64) -> f64
     ensures { λ r. ⌜ r ≡ lowered hi end ⌝ }
 {
     if end < hi { end } else { hi }
@@ -56,7 +56,7 @@ fn open_between(lo: f64, hi: f64) -> Span
 }
 
 // A circle as an edge sees it: for a vertical edge x and y change places.
-fn seen(upright: bool, c: Circle) -> Circle
+pub fn seen(upright: bool, c: Circle) -> Circle
     ensures { λ r. ⌜ r ≡ seen upright c ⌝ }
 {
     if upright {

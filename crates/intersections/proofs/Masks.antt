@@ -1,6 +1,6 @@
--- A mask gathered by a test, seen from a set.
+-- A mask gathered by a test, seen from a set; the heads of a mask.
 use mathlib.Core.Path.{_≡_, refl, sym, ap, ap₂, _∙_}
-use mathlib.Core.Bool.{Bool, true, false, not, _&&_, _||_}
+use mathlib.Core.Bool.{Bool, true, false, not, _&&_, _||_, true≢false}
 use Prim.Native.Nat.{ℕ, zero, suc, _<_, _^_}
 use native.Mathlib.Omega.{arith}
 use lib.Dec.{ltb}
@@ -27,3 +27,11 @@ subset-alike w n S p p' e = every-cong w _ _ (λ l h. at l (inSet S l) refl)
     at : (l : ℕ) (b : Bool) → inSet S l ≡ b → (not b || inSet (gather n p) l) ≡ (not b || inSet (gather n p') l)
     at l true i = gathered l (e l i) (ltb l n) refl
     at l false i = refl
+
+-- the heads of a mask below 2 ^ n are below n
+pub head-below : (S n l : ℕ) → S < 2 ^ n → inSet S l ≡ true → l < n
+head-below S n l h i = at (ltb l n) refl
+  where
+    at : (b : Bool) → ltb l n ≡ b → l < n
+    at true e = ltb-true l n e
+    at false e = absurd (true≢false (sym i ∙ in-beyond n S l h (ltb-false l n e)))

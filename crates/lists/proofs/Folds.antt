@@ -1,5 +1,4 @@
--- Laws of a fold: one element more of a list, of a loop that appends, or of a list gone through from its start; a bound along it; two
--- folds that stay related.
+-- Laws of a fold: one element more of a list, or of a list gone through from its start; a bound along it; two folds that stay related.
 use mathlib.Core.Path.{_≡_, refl, sym, subst}
 use mathlib.Core.List.{List, [], _∷_, map, foldl, foldl-append}
 use Prim.Native.Nat.{ℕ, suc, _+_, _≤_, _<_}
@@ -7,7 +6,7 @@ use native.Mathlib.Numerals.{add-one}
 use native.Mathlib.Omega.{arith}
 use lib.ListN.{length, getD, take, drop, length-drop}
 use lib.Seq.{take-suc, drop-cons}
-use Rattle.lists.specs.Lists.{upTo, overPairs}
+use Rattle.lists.specs.Lists.{overPairs}
 use Rattle.lists.specs.Every.{Every}
 
 -- ---- one more
@@ -16,11 +15,6 @@ module _ {A S : Type 0} (f : S → A → S) (s : S) where
   -- one element more of the first so many
   pub fold-suc : (l : List A) (i : ℕ) (d : A) → i < length l → f (foldl f s (take i l)) (getD l i d) ≡ foldl f s (take (i + 1) l)
   fold-suc l i d h = rw (add-one i, take-suc l i d h) (sym (foldl-append f s (take i l) (getD l i d ∷ [])))
-
-  -- one list more of a loop that appends
-  pub fold-upTo : (g : ℕ → List A) (i : ℕ) → foldl f (foldl f s (upTo g i)) (g i) ≡ foldl f s (upTo g (i + 1))
-  unfolding upTo
-  fold-upTo g i = rw (add-one i) (sym (foldl-append f s (upTo g i) (g i)))
 
 module _ {A S : Type 0} (f : S → A → A → S) (s : S) (l : List A) (i : ℕ) where
   -- one pair more, the rest to come

@@ -1,7 +1,7 @@
 -- Laws of an array of which the first so many count, for the loops that push onto it while there is room.
 use mathlib.Core.Path.{_≡_, refl, sym, ap, _∙_}
 use mathlib.Core.Bool.{Bool, true, false, cond}
-use mathlib.Core.List.{List, [], _∷_, _++_, append-assoc, append-nil, map, foldl}
+use mathlib.Core.List.{List, [], _∷_, _++_, append-assoc, append-nil}
 use Prim.Native.Nat.{ℕ, zero, suc, _+_, _≤_, _<_}
 use native.Mathlib.Numerals.{add-one}
 use native.Mathlib.Omega.{arith}
@@ -30,15 +30,6 @@ take-push (suc n) (y ∷ l) x = by (ltb (length (take n l)) n) refl (take-push n
 -- what is pushed after what was pushed
 pub pushed-on : {A : Type 0} (m : ℕ) (first l more b c : List A) → l ≡ take m (first ++ b) → more ≡ take m (l ++ c) → more ≡ take m (first ++ (b ++ c))
 pushed-on m first l more b c e f = f ∙ rw e (take-compose m (first ++ b) c ∙ ap (take m) (append-assoc first b c))
-
--- pushing one after another is a fold
-pub pushed-fold : {A B : Type 0} (m : ℕ) (g : A → B) (l : List B) (xs : List A) → length l ≤ m
-    → foldl (λ t x. take m (t ++ (g x ∷ []))) l xs ≡ take m (l ++ map g xs)
-pushed-fold m g l [] h = sym (ap (take m) (append-nil l) ∙ take-all m l h)
-pushed-fold m g l (x ∷ xs) h =
-    pushed-fold m g (take m (l ++ (g x ∷ []))) xs (omega (arith, length-take m (l ++ (g x ∷ []))))
-    ∙ take-compose m (l ++ (g x ∷ [])) (map g xs)
-    ∙ ap (take m) (append-assoc l (g x ∷ []) (map g xs))
 
 -- one is pushed while there is room: a count that was exact is exact again
 pub pushed-count : {A : Type 0} (m : ℕ) (l : List A) (x : A) {n k : ℕ} {more : List A} → length l ≤ m

@@ -77,10 +77,6 @@ module _ {A : Type 0} (p : A → Bool) where
 
 -- ---- how many
 
-pub none-of-length : {A : Type 0} (l : List A) → length l ≡ 0 → l ≡ []
-none-of-length [] h = refl
-none-of-length (x ∷ l) h = absurd (omega arith)
-
 pub one-or-none : {A : Type 0} (b : Bool) (x : A) → length (cond b (x ∷ []) []) ≤ 1
 one-or-none true x = omega arith
 one-or-none false x = omega arith

@@ -28,7 +28,8 @@ use Rattle.regions.specs.Demand.{AfreshRows, ExclusivesOf, BeyondStays, 
 use Rattle.regions.specs.Demand.{RefusedLeavesAll, DemandThree}
 use Rattle.masks.specs.Operations.{in-power}
 use Rattle.masks.specs.Gather.{in-gather}
-use Rattle.regions.proofs.Masks.{overlap-at, overlap-none, head-below}
+use Rattle.intersections.proofs.Masks.{head-below}
+use Rattle.regions.proofs.Masks.{overlap-at, overlap-none}
 use Rattle.regions.proofs.Rows.{edited-afresh}
 use Rattle.regions.proofs.Steps.{rows-over, overlaid-below, settled-exclusives, settled-beyond, after-keeps, any-taken, none-taken}
 use Rattle.lists.specs.Run as Run

@@ -27,7 +27,8 @@ use Rattle.exact.proofs.Theorem.{no-points-unless-met}
 use Rattle.intersections.specs.Members.{noCircle, circleAt, membersOf, isSingle}
 use Rattle.intersections.specs.Points.{collected}
 use Rattle.regions.specs.Edit.{Row, absent, present, boxRow, afreshRow, overlaps, meetsAny, met, reworked, editedRow}
-use Rattle.regions.proofs.Masks.{no-overlap, own-head, head-below}
+use Rattle.intersections.proofs.Masks.{head-below}
+use Rattle.regions.proofs.Masks.{no-overlap, own-head}
 use Rattle.regions.specs.Table.{Method, headAt, planMembers, areaAt, afresh, metBy}
 use Rattle.intersections.proofs.Kept.{Apart, area-same}
 

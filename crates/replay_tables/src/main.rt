@@ -1,8 +1,9 @@
-// Holds whole tables of plans, worked out by crate `table`, against a stored list, with no Rust at hand. The list comes from standard input
-// and was made by tests/tables/list from the Rust's answers; those of plans with identical heads by the Rust's functions from the meeting
-// points that document 01 leaves. A line is a letter and numbers in hexadecimal, one space before each; f64s are their bits. What a line of
-// each letter holds is said in tables.rt.
+// Holds whole tables of plans, worked out by crates `table` and `gradients`, and overlaps against a stored list, with no Rust at hand. The list
+// comes from standard input and was made by tests/tables/list from the Rust's answers; those of plans with identical heads by the Rust's
+// functions from the meeting points that document 01 leaves. A line is a letter and numbers in hexadecimal, one space before each; f64s are
+// their bits. What a line of each letter holds is said in tables.rt. tests/stored/run shows that a changed bit is seen.
 mod numbers;
+mod slopes;
 mod tables;
 
 use libc::STDOUT_FILENO;
@@ -48,10 +49,17 @@ fn count(counts: &mut [u64; 128], letter: u8) {
 }
 
 // The line is whole: it is compared, and the next begins.
-fn line_ended(words: &mut [u64; 40], letter: u8, r: Reading, held: Held) -> Reading {
+fn line_ended(
+    words: &mut [u64; 40],
+    letter: u8,
+    r: Reading,
+    held: Held,
+    clipped_gradients: &[f64; 34816],
+    open_gradients: &[f64; 34816],
+) -> Reading {
     let lines = std::num::wrapping_add_u64(r.lines, 1);
     let mut differing = r.differing;
-    if !tables::agrees(letter, words, r.at, held) {
+    if !tables::agrees(letter, words, r.at, held, clipped_gradients, open_gradients) {
         io::write_all(STDOUT_FILENO, b"differs: line ");
         io::print_decimal(STDOUT_FILENO, lines);
         io::write_all(STDOUT_FILENO, b"\n");
@@ -93,6 +101,8 @@ fn fed(words: &mut [u64; 40], r: Reading, b: u8) -> Reading {
 fn fed_all(
     words: &mut [u64; 40],
     counts: &mut [u64; 128],
+    clipped_gradients: &mut [f64; 34816],
+    open_gradients: &mut [f64; 34816],
     start: Reading,
     before: Held,
     bytes: &[u8],
@@ -105,9 +115,9 @@ fn fed_all(
             let letter = letter(words[0]);
             count(counts, letter);
             if letter == b'H' {
-                held = tables::held_of(words);
+                held = tables::held_of(words, clipped_gradients, open_gradients);
             }
-            r = line_ended(words, letter, r, held);
+            r = line_ended(words, letter, r, held, clipped_gradients, open_gradients);
         } else {
             r = fed(words, r, b);
         }
@@ -120,10 +130,25 @@ fn fed_all(
 }
 
 // Reads the next part of the list.
-fn next_part(words: &mut [u64; 40], counts: &mut [u64; 128], r: Reading, held: Held) -> Part {
+fn next_part(
+    words: &mut [u64; 40],
+    counts: &mut [u64; 128],
+    clipped_gradients: &mut [f64; 34816],
+    open_gradients: &mut [f64; 34816],
+    r: Reading,
+    held: Held,
+) -> Part {
     let mut buffer = io::large_buffer();
     let n = io::read_full(0, &mut buffer);
-    fed_all(words, counts, r, held, &buffer[..n])
+    fed_all(
+        words,
+        counts,
+        clipped_gradients,
+        open_gradients,
+        r,
+        held,
+        &buffer[..n],
+    )
 }
 
 fn print_count(counts: &[u64; 128], letter: u8, what: &[u8]) {
@@ -140,6 +165,10 @@ fn print_counts(counts: &[u64; 128]) {
     print_count(counts, b'D', b" D, sets\n");
     print_count(counts, b'R', b" R, rows in the box\n");
     print_count(counts, b'U', b" U, open rows\n");
+    print_count(counts, b'G', b" G, exclusives in the box with gradients\n");
+    print_count(counts, b'F', b" F, open exclusives with gradients\n");
+    print_count(counts, b'O', b" O, overlaps of all heads\n");
+    print_count(counts, b'M', b" M, overlaps of a mask\n");
 }
 
 fn print_sums(r: Reading) {
@@ -157,11 +186,21 @@ fn main() {
         lines: 0,
         differing: 0,
     };
-    let mut held = tables::nothing();
+    // The gradients of the plan held: there is room for 1024 rows of 34 numbers.
+    let mut clipped_gradients = [0.0f64; 34816];
+    let mut open_gradients = [0.0f64; 34816];
+    let mut held = tables::nothing(&mut clipped_gradients, &mut open_gradients);
     // A proved loop has to end: it counts down from a number that no list uses up.
     let mut turns = u64::MAX;
     while 0 < turns {
-        let part = next_part(&mut words, &mut counts, r, held);
+        let part = next_part(
+            &mut words,
+            &mut counts,
+            &mut clipped_gradients,
+            &mut open_gradients,
+            r,
+            held,
+        );
         r = part.reading;
         let kept = part.held;
         held = kept;

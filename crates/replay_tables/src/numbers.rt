@@ -1,4 +1,4 @@
-// Numbers as the list has them: whole ones, those with a sign by 32 bits, and finite f64s by their bits.
+// Numbers as the list has them: whole ones, those with a sign by 32 bits, finite f64s by their bits, and the sets of a line D.
 use file::fields::number32;
 
 pub(crate) fn whole(word: u64) -> usize {
@@ -34,4 +34,17 @@ pub(crate) fn signed(word: u64) -> i32 {
         byte(word >> 16),
         byte(word >> 24),
     )
+}
+
+// Whether mask s is among the sets of a line D, 64 of them to a number.
+pub(crate) fn listed(words: &[u64; 40], s: usize) -> bool {
+    if s < 1024 {
+        return (words[1 + s / 64] >> (s % 64)) % 2 == 1;
+    }
+    false
+}
+
+// Whether a presence byte says so.
+pub(crate) fn is_byte(byte: u8, present: bool) -> bool {
+    if present { byte == 1 } else { byte == 0 }
 }

@@ -4,6 +4,7 @@ use mathlib.Core.Path.{_≡_, refl, sym, ap, ap₂, _∙_, subst}
 use mathlib.Core.Bool.{Bool, true, false, not, cond, _&&_, _||_}
 use mathlib.Core.List.{List}
 use Prim.Native.Nat.{ℕ, zero, suc, _+_, _-_, _*_, _^_, _≤_, _<_}
+use native.Mathlib.Nat.{le-refl}
 use native.Mathlib.Omega.{arith}
 use borrow.Author.Tests.{ltb-true, ltb-false, lt-ltb, le-ltb, ne-eqb}
 use lib.Count.{ones}
@@ -19,13 +20,12 @@ use Rattle.lists.specs.Some.{some}
 use Rattle.sets.specs.Sets.{paired, pair, pairsOf, isPair, witnessed, isPart, withParts, allPairs, oneInAll, inLevel, joined, withLevels}
 use Rattle.sets.specs.Sets.{overlapping, containing, isSet}
 use lib.Pow.{pow-mono}
-use Rattle.sets.proofs.Marks.{length-marked, marked-at, marked-again}
+use Rattle.sets.specs.Steps.{partBelow}
+use Rattle.sets.proofs.Marks.{zeros, marks, marked-again}
+use Rattle.sets.proofs.Taken.{part-is, part-below}
 use Rattle.lists.proofs.Writing.{length-written, written-before, written-past, written-cong, written-again}
 use Rattle.lists.proofs.Somes.{some-cong, some-none}
 use Rattle.intersections.proofs.Masks.{every-cong}
-
-abbrev zeros : ℕ → List ℕ
-zeros m = replicate m 0
 
 -- ---- tests that agree on masks of n heads
 
@@ -36,12 +36,15 @@ gather-same (suc w) p q h =
     ap₂ (λ (g : ℕ) (b : Bool). g + cond b (2 ^ w) 0) (gather-same w p q (λ i k. h i (omega arith))) (h w (omega arith))
 
 module _ (n : ℕ) (f g : ℕ → Bool) (same : (T : ℕ) → T < 2 ^ n → f T ≡ g T) where
-  pub parts-agree : (S : ℕ) → S < 2 ^ n → withParts n f S ≡ withParts n g S
+  part-agree : (S : ℕ) → isPart n f S ≡ isPart n g S
   unfolding isPart
-  parts-agree S hs =
-      ap₂ (λ (x t : Bool). x || (leb 2 (ones S) && t)) (same S hs)
+  part-agree S =
+      ap (λ (t : Bool). leb 2 (ones S) && t)
       (some-cong n (λ i. not (inSet S i) && f (withHead n S i)) (λ i. not (inSet S i) && g (withHead n S i))
       (λ i k. ap (λ (b : Bool). not (inSet S i) && b) (same (withHead n S i) (gather-lt n _))))
+
+  pub parts-agree : (S : ℕ) → S < 2 ^ n → withParts n f S ≡ withParts n g S
+  parts-agree S hs = ap₂ _||_ (same S hs) (part-agree S)
 
   pub overlapping-agree : (i : ℕ) → overlapping n f i ≡ overlapping n g i
   overlapping-agree i = gather-same n (λ j. f (pair n i j)) (λ j. g (pair n i j)) (λ j k. same (pair n i j) (gather-lt n _))
@@ -64,25 +67,6 @@ module _ (n : ℕ) (f g : ℕ → Bool) (same : (T : ℕ) → T < 2 ^ n → f T 
 -- the bytes of a table say what was written
 says : (p : ℕ → Bool) (m S : ℕ) (l : List ℕ) → S < m → stands (written (λ T. byte (p T)) m l) S ≡ p S
 says p m S l h = ap (λ (x : ℕ). eqb x 1) (written-before (λ T. byte (p T)) m S l 0 h) ∙ byte-stands (p S)
-
--- marks of masks of n heads only
-marks : (p q : ℕ → Bool) (m : ℕ) → m ≤ 1024 → ((S : ℕ) → S < m → p S ≡ q S) → ((S : ℕ) → m ≤ S → p S ≡ false)
-    → marked p (zeros 1024) ≡ written (λ S. byte (q S)) m (zeros 1024)
-marks p q m h same beyond =
-    ext-getD 0 (marked p (zeros 1024)) (written (λ S. byte (q S)) m (zeros 1024))
-    (length-marked p (zeros 1024) ∙ sym (length-written (λ S. byte (q S)) m (zeros 1024) (omega (arith, length-replicate {A = ℕ} 1024 0))))
-    (λ S k.
-    let r : S < 1024 = omega (arith, length-marked p (zeros 1024), length-replicate {A = ℕ} 1024 0) in
-    marked-at p (zeros 1024) S (omega (arith, length-replicate {A = ℕ} 1024 0)) ∙ ap (λ (x : ℕ). cond (p S) 1 x) (getD-replicate 1024 S 0 0 r)
-    ∙ at S r (ltb S m) refl)
-  where
-    at : (S : ℕ) → S < 1024 → (b : Bool) → ltb S m ≡ b → cond (p S) 1 0 ≡ getD (written (λ T. byte (q T)) m (zeros 1024)) S 0
-    at S r true e =
-        let k = ltb-true S m e in
-        ap byte (same S k) ∙ sym (written-before (λ T. byte (q T)) m S (zeros 1024) 0 k)
-    at S r false e =
-        let k = ltb-false S m e in
-        ap byte (beyond S k) ∙ sym (written-past (λ T. byte (q T)) m S (zeros 1024) 0 k ∙ getD-replicate 1024 S 0 0 r)
 
 module _ (n : ℕ) (isSingle isAdopters : ℕ → Bool) (meets contains : ℕ → ℕ → Bool) (few : n ≤ 10)
     (beyond : (S : ℕ) → 2 ^ n ≤ S → isSingle S ≡ false) where
@@ -119,10 +103,23 @@ module _ (n : ℕ) (isSingle isAdopters : ℕ → Bool) (meets contains : ℕ �
   abbrev found : ℕ → Bool
   found = withParts n w
 
+  -- the same as marks on masks of n heads
+  abbrev w' : ℕ → Bool
+  w' S = ltb S (2 ^ n) && w S
+
+  within : (S : ℕ) → S < 2 ^ n → w' S ≡ w S
+  within S h = ap (λ (b : Bool). b && w S) (lt-ltb S (2 ^ n) h)
+
+  without : (S : ℕ) → 2 ^ n ≤ S → w' S ≡ false
+  without S h = ap (λ (b : Bool). b && w S) (le-ltb S (2 ^ n) h)
+
+  marked-w : marked w' (zeros 1024) ≡ written (λ S. byte (w S)) (2 ^ n) (zeros 1024)
+  marked-w = marks w' w (2 ^ n) rows within without
+
   -- all steps: what each gives, from what the one before gave
   pub assembled : (W F O C L R : List ℕ)
       → W ≡ marked (isPair n meets contains) (marked (λ S. ltb S (2 ^ n) && isAdopters S) (marked isSingle (zeros 1024)))
-      → F ≡ written (λ S. byte (withParts n (stands W) S)) (2 ^ n) W
+      → F ≡ marked (partBelow n (stands W) (2 ^ n)) W
       → O ≡ written (overlapping n (stands F)) n (zeros 10)
       → C ≡ written (containing n contains) n (zeros 10)
       → L ≡ written (λ S. byte (joined n (stands F) (λ i. getD O i 0) (λ i. getD C i 0) S)) (2 ^ n) (zeros 1024)
@@ -133,9 +130,10 @@ module _ (n : ℕ) (isSingle isAdopters : ℕ → Bool) (meets contains : ℕ �
       let gotW : W ≡ written (λ S. byte (w S)) (2 ^ n) (zeros 1024) = eW ∙ witnesses in
       let sayW : (T : ℕ) → T < 2 ^ n → stands W T ≡ w T = λ T h. ap (λ (l : List ℕ). stands l T) gotW ∙ says w (2 ^ n) T (zeros 1024) h in
       let gotF : F ≡ written (λ S. byte (found S)) (2 ^ n) (zeros 1024) =
-      eF ∙ ap (written (λ S. byte (withParts n (stands W) S)) (2 ^ n)) gotW
-      ∙ written-again (λ S. byte (w S)) (λ S. byte (withParts n (stands W) S)) (2 ^ n) (zeros 1024)
-      ∙ agree (withParts n (stands W)) found (λ S h. parts-agree n (stands W) w sayW S h) in
+      eF ∙ ap (marked (partBelow n (stands W) (2 ^ n))) (gotW ∙ sym marked-w) ∙ marked-again w' (partBelow n (stands W) (2 ^ n)) (zeros 1024)
+      ∙ marks (λ S. w' S || partBelow n (stands W) (2 ^ n) S) found (2 ^ n) rows
+      (λ S h. ap₂ _||_ (within S h) (part-is n (stands W) S h ∙ part-agree n (stands W) w sayW S))
+      (λ S h. ap₂ _||_ (without S h) (part-below n (stands W) (2 ^ n) S (le-refl (2 ^ n)) h)) in
       let sayF : (T : ℕ) → T < 2 ^ n → stands F T ≡ found T = λ T h. ap (λ (l : List ℕ). stands l T) gotF ∙ says found (2 ^ n) T (zeros 1024) h in
       let over : (i : ℕ) → i < n → getD O i 0 ≡ overlapping n found i =
       λ i h. ap (λ (l : List ℕ). getD l i 0) eO ∙ written-before (overlapping n (stands F)) n i (zeros 10) 0 h ∙ overlapping-agree n (stands F) found sayF i in

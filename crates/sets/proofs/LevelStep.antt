@@ -1,69 +1,205 @@
--- The byte of a mask in its level, from the bytes of smaller masks: S without a head is a smaller number and has one head fewer.
+-- One pass from the first mask on gives the masks of all levels: what joins from a mask is a larger number, and a mask that was not found is in
+-- its level exactly if it joins from one before it.
 use mathlib.Core.Path.{_≡_, refl, sym, ap, ap₂, _∙_, subst}
-use mathlib.Core.Bool.{Bool, true, false, not, cond, _&&_, _||_}
+use mathlib.Core.Bool.{Bool, true, false, not, cond, _&&_, _||_, or-false, or-assoc, false≢true}
 use mathlib.Core.List.{List}
 use Prim.Native.Nat.{ℕ, zero, suc, _+_, _-_, _^_, _≤_, _<_}
 use native.Mathlib.Omega.{arith}
-use borrow.Author.Tests.{leb-true, leb-false, eq-eqb, ne-eqb}
+use borrow.Author.Tests.{eqb-true, eqb-false, eq-eqb, ne-eqb, leb-true, leb-false}
+use lib.Bits.{bitOr}
 use lib.Count.{ones}
 use lib.Dec.{eqb, leb}
-use lib.ListN.{getD}
-use Rattle.masks.specs.Mask.{inSet, withoutHead}
-use Rattle.masks.specs.Presence.{byte, stands}
+use lib.ListN.{set}
+use Rattle.masks.specs.Mask.{inSet, withHead, withoutHead, shifted}
+use Rattle.masks.specs.Operations.{zero-of-in}
+use Rattle.masks.specs.Gather.{gather-lt, or-withHead}
+use Rattle.masks.specs.Size.{ones-with}
+use Rattle.masks.specs.Subset.{and-both, with-gt}
 use Rattle.lists.specs.Some.{some}
+use Rattle.lists.proofs.Somes.{some-next, some-of, some-none, some-cong}
+use Rattle.sets.specs.Marked.{marked}
 use Rattle.sets.specs.Sets.{allPairs, oneInAll, inLevel, joined}
-use Rattle.sets.specs.Steps.{levelFrom}
+use Rattle.sets.specs.Steps.{joins, joiningOf, levelBelow}
 use Rattle.sets.proofs.Masks.{ones-less, less}
-use Rattle.lists.proofs.Somes.{some-cong}
+use Rattle.sets.proofs.Marks.{mark-next, marked-again, marked-same}
+use Rattle.sets.proofs.Taken.{and-no, same-truth, some-then, with-without, has, lacks, without-with-it, not-yes}
 
-module _ (n : ℕ) (found below : ℕ → Bool) (overlapping containing : ℕ → ℕ) (S : ℕ) (hs : S < 2 ^ n)
-    (done : (T : ℕ) → T < S → below T ≡ joined n found overlapping containing T) where
-  bases : (d : ℕ) → ones S ≡ suc (suc (suc d))
-      → some n (λ i. inSet S i && below (withoutHead n S i)) ≡ some n (λ i. inSet S i && inLevel n found overlapping containing d (withoutHead n S i))
-  bases d e =
-      some-cong n (λ i. inSet S i && below (withoutHead n S i)) (λ i. inSet S i && inLevel n found overlapping containing d (withoutHead n S i))
-      (λ i h. at i h (inSet S i) refl)
+-- a mask is smaller than with a head that it lacks, and has one head less
+more : (n M i : ℕ) → M < 2 ^ n → i < n → inSet M i ≡ false → M < withHead n M i
+more n M i hm h e = subst (λ (T : ℕ). M < T) (or-withHead n M i hm h) (with-gt n M i h (zero-of-in M i e))
+
+ones-more : (n M i : ℕ) → M < 2 ^ n → i < n → inSet M i ≡ false → ones (withHead n M i) ≡ suc (ones M)
+ones-more n M i hm h e = ap ones (sym (or-withHead n M i hm h)) ∙ ones-with n M i h (zero-of-in M i e)
+
+module _ (n : ℕ) (found : ℕ → Bool) (overlapping containing : ℕ → ℕ) where
+  abbrev inIts : ℕ → Bool
+  inIts = joined n found overlapping containing
+
+  abbrev free : ℕ → Bool
+  free = joins n found overlapping containing
+
+  abbrev from : ℕ → ℕ → Bool
+  from = joiningOf n found overlapping containing
+
+  -- a mask of a level has two heads or more
+  two-heads : (S : ℕ) → inIts S ≡ true → 2 ≤ ones S
+  unfolding inLevel
+  two-heads S e = go (leb 2 (ones S)) refl
+    where
+      go : (b : Bool) → leb 2 (ones S) ≡ b → 2 ≤ ones S
+      go true k = leb-true 2 (ones S) k
+      go false k =
+          let z : ones S - 2 ≡ 0 = omega (arith, leb-false 2 (ones S) k) in
+          absurd (false≢true (sym (ap (λ (b : Bool). b && found S) (ne-eqb (ones S) 2 (λ f. omega (arith, f, leb-false 2 (ones S) k))))
+          ∙ sym (ap (λ (d : ℕ). inLevel n found overlapping containing d S) z) ∙ e))
+
+  -- in its level, of a mask of three heads or more
+  is-more : (S : ℕ) → S < 2 ^ n → 3 ≤ ones S
+      → inIts S ≡ (not (found S) && (allPairs n overlapping S && (oneInAll n containing S && some n (λ i. inSet S i && inIts (withoutHead n S i)))))
+  unfolding inLevel
+  is-more S hs h =
+      let z : ones S - 2 ≡ suc (ones S - 3) = omega (arith, h) in
+      ap (λ (d : ℕ). inLevel n found overlapping containing d S) z
+      ∙ ap (λ (b : Bool). not (found S) && (allPairs n overlapping S && (oneInAll n containing S && b)))
+      (some-cong n (λ i. inSet S i && inLevel n found overlapping containing (ones S - 3) (withoutHead n S i)) (λ i. inSet S i && inIts (withoutHead n S i))
+      (λ i k. at i k (inSet S i) refl))
     where
       at : (i : ℕ) → i < n → (b : Bool) → inSet S i ≡ b
-          → (b && below (withoutHead n S i)) ≡ (b && inLevel n found overlapping containing d (withoutHead n S i))
-      at i h true f =
-          done (withoutHead n S i) (less n S i hs h f)
-          ∙ ap (λ (k : ℕ). inLevel n found overlapping containing k (withoutHead n S i)) (omega (arith, ones-less n S i hs h f))
-      at i h false f = refl
+          → (b && inLevel n found overlapping containing (ones S - 3) (withoutHead n S i)) ≡ (b && inIts (withoutHead n S i))
+      at i k true e =
+          let z : ones S - 3 ≡ ones (withoutHead n S i) - 2 = omega (arith, ones-less n S i hs k e) in
+          ap (λ (d : ℕ). inLevel n found overlapping containing d (withoutHead n S i)) z
+      at i k false e = refl
 
-  pub level-step : levelFrom n (found S) below overlapping containing S ≡ joined n found overlapping containing S
-  unfolding levelFrom inLevel
-  level-step = go (leb (ones S) 2) refl
+  -- of fewer
+  is-few : (S : ℕ) → ones S ≤ 2 → inIts S ≡ (eqb (ones S) 2 && found S)
+  unfolding inLevel
+  is-few S h =
+      let z : ones S - 2 ≡ 0 = omega (arith, h) in
+      ap (λ (d : ℕ). inLevel n found overlapping containing d S) z
+
+  -- with one head more from a mask of a level
+  joined-from : (M S : ℕ) → M < 2 ^ n → inIts M ≡ true → from M S ≡ true → inIts S ≡ true
+  joined-from M S hm e =
+      some-then n (λ i. eqb S (withHead n M i) && (not (inSet M i) && free (withHead n M i))) (inIts S)
+      (λ i h k.
+      let T = withHead n M i in
+      let two = and-both (eqb S T) (not (inSet M i) && free T) k in
+      let three = and-both (not (inSet M i)) (free T) (two .1) in
+      let out : inSet M i ≡ false = not-yes (inSet M i) (three .0) in
+      let many : ones T ≡ suc (ones M) = ones-more n M i hm h out in
+      let four = and-both (not (found T)) (allPairs n overlapping T && oneInAll n containing T) (three .1) in
+      let five = and-both (allPairs n overlapping T) (oneInAll n containing T) (four .1) in
+      ap inIts (eqb-true S T (two .0))
+      ∙ is-more T (gather-lt n _) (omega (arith, many, two-heads M e))
+      ∙ ap₂ _&&_ (four .0) (ap₂ _&&_ (five .0) (ap₂ _&&_ (five .1)
+      (some-of n (λ j. inSet T j && inIts (withoutHead n T j)) i h
+      (ap₂ _&&_ (has n M i h) (ap inIts (sym (without-with-it n M i hm out)) ∙ e))))))
+
+  -- a mask of a level that was not found is one of the level below with one head more
+  joined-base : (S : ℕ) → S < 2 ^ n → found S ≡ false → inIts S ≡ true → some S (λ M. inIts M && (eqb S M || from M S)) ≡ true
+  joined-base S hs f e = go (leb 3 (ones S)) refl
     where
-      go : (b : Bool) → leb (ones S) 2 ≡ b
-          → cond (leb (ones S) 2) (eqb (ones S) 2 && found S)
-          (not (found S) && (allPairs n overlapping S && (oneInAll n containing S && some n (λ i. inSet S i && below (withoutHead n S i)))))
-          ≡ inLevel n found overlapping containing (ones S - 2) S
-      go true e =
-          let z : ones S - 2 ≡ 0 = omega (arith, leb-true (ones S) 2 e) in
-          ap (λ (b : Bool). cond b (eqb (ones S) 2 && found S)
-          (not (found S) && (allPairs n overlapping S && (oneInAll n containing S && some n (λ i. inSet S i && below (withoutHead n S i)))))) e
-          ∙ sym (ap (λ (k : ℕ). inLevel n found overlapping containing k S) z)
-      go false e =
-          let m : ones S ≡ suc (suc (suc (ones S - 3))) = omega (arith, leb-false (ones S) 2 e) in
-          let z : ones S - 2 ≡ suc (ones S - 3) = omega (arith, leb-false (ones S) 2 e) in
-          ap (λ (b : Bool). cond b (eqb (ones S) 2 && found S)
-          (not (found S) && (allPairs n overlapping S && (oneInAll n containing S && some n (λ i. inSet S i && below (withoutHead n S i)))))) e
-          ∙ ap (λ (b : Bool). not (found S) && (allPairs n overlapping S && (oneInAll n containing S && b))) (bases (ones S - 3) m)
-          ∙ sym (ap (λ (k : ℕ). inLevel n found overlapping containing k S) z)
+      whole : Bool
+      whole = some S (λ M. inIts M && (eqb S M || from M S))
 
--- the byte of one step, from its tests
-module _ (n : ℕ) (below : ℕ → Bool) (overlapping containing : ℕ → ℕ) (S : ℕ) where
-  pub few-heads : {f a b : Bool} → leb (ones S) 2 ≡ true → eqb (ones S) 2 ≡ a → f ≡ b → byte (a && b) ≡ byte (levelFrom n f below overlapping containing S)
-  unfolding levelFrom
-  few-heads {f} e ea eb =
-      sym (ap byte (ap (λ (t : Bool). cond t (eqb (ones S) 2 && f)
-      (not f && (allPairs n overlapping S && (oneInAll n containing S && some n (λ i. inSet S i && below (withoutHead n S i)))))) e ∙ ap₂ _&&_ ea eb))
+      or-right : (a : Bool) {b : Bool} → b ≡ true → (a || b) ≡ true
+      or-right true k = refl
+      or-right false k = k
 
-  pub more-heads : {f a b c d : Bool} → leb (ones S) 2 ≡ false → f ≡ a → allPairs n overlapping S ≡ b → oneInAll n containing S ≡ c
-      → some n (λ i. inSet S i && below (withoutHead n S i)) ≡ d → byte (not a && (b && (c && d))) ≡ byte (levelFrom n f below overlapping containing S)
-  unfolding levelFrom
-  more-heads {f} e ea eb ec ed =
-      sym (ap byte (ap (λ (t : Bool). cond t (eqb (ones S) 2 && f)
-      (not f && (allPairs n overlapping S && (oneInAll n containing S && some n (λ i. inSet S i && below (withoutHead n S i)))))) e
-      ∙ ap₂ (λ (x y : Bool). not x && y) ea (ap₂ _&&_ eb (ap₂ _&&_ ec ed))))
+      go : (b : Bool) → leb 3 (ones S) ≡ b → whole ≡ true
+      go true k =
+          let pairs = allPairs n overlapping S in
+          let one = oneInAll n containing S in
+          let bases = some n (λ i. inSet S i && inIts (withoutHead n S i)) in
+          let two = and-both (not (found S)) (pairs && (one && bases)) (sym (is-more S hs (leb-true 3 (ones S) k)) ∙ e) in
+          let three = and-both pairs (one && bases) (two .1) in
+          let four = and-both one bases (three .1) in
+          some-then n (λ i. inSet S i && inIts (withoutHead n S i)) whole
+          (λ i h l.
+          let M = withoutHead n S i in
+          let five = and-both (inSet S i) (inIts M) l in
+          let back : withHead n M i ≡ S = with-without n S i hs h (five .0) in
+          some-of S (λ M. inIts M && (eqb S M || from M S)) M (less n S i hs h (five .0))
+          (ap₂ _&&_ (five .1) (or-right (eqb S M)
+          (some-of n (λ j. eqb S (withHead n M j) && (not (inSet M j) && free (withHead n M j))) i h
+          (ap₂ _&&_ (eq-eqb S (withHead n M i) (sym back))
+          (ap₂ _&&_ (ap not (lacks n S i h)) (ap free back ∙ ap₂ _&&_ (two .0) (ap₂ _&&_ (three .0) (four .0)))))))))
+          (four .1)
+      go false k =
+          absurd (false≢true (sym (is-few S (omega (arith, leb-false 3 (ones S) k)) ∙ and-no (eqb (ones S) 2) (found S) f) ∙ e))
+
+  -- ---- the pass
+
+  -- a mask is in its level by its byte among those found, or by what joined from the masks before it
+  pub level-test : (S : ℕ) → S < 2 ^ n → cond (found S) (eqb (ones S) 2) (levelBelow n found overlapping containing S S) ≡ inIts S
+  level-test S hs = go (found S) refl
+    where
+      and-yes : (a b : Bool) → b ≡ true → a ≡ (a && b)
+      and-yes true b e = sym e
+      and-yes false b e = refl
+
+      pair-or-not : found S ≡ true → (b : Bool) → leb 3 (ones S) ≡ b → eqb (ones S) 2 ≡ inIts S
+      pair-or-not f true k =
+          let h = leb-true 3 (ones S) k in
+          ne-eqb (ones S) 2 (λ e. omega (arith, e, h)) ∙ sym (is-more S hs h ∙ ap (λ (b : Bool). not b && (allPairs n overlapping S &&
+          (oneInAll n containing S && some n (λ i. inSet S i && inIts (withoutHead n S i))))) f)
+      pair-or-not f false k =
+          and-yes (eqb (ones S) 2) (found S) f ∙ sym (is-few S (omega (arith, leb-false 3 (ones S) k)))
+
+      go : (b : Bool) → found S ≡ b → cond b (eqb (ones S) 2) (levelBelow n found overlapping containing S S) ≡ inIts S
+      go true f = pair-or-not f (leb 3 (ones S)) refl
+      go false f =
+          same-truth (levelBelow n found overlapping containing S S) (inIts S)
+          (some-then S (λ M. inIts M && (eqb S M || from M S)) (inIts S)
+          (λ M h k. let two = and-both (inIts M) (eqb S M || from M S) k in
+          joined-from M S (omega (arith, h, hs)) (two .0)
+          (sym (ap (λ (b : Bool). b || from M S) (ne-eqb S M (λ e. omega (arith, e, h)))) ∙ two .1)))
+          (joined-base S hs f)
+
+  -- after all masks
+  pub level-all : (S : ℕ) → S < 2 ^ n → levelBelow n found overlapping containing (2 ^ n) S ≡ inIts S
+  level-all S hs =
+      same-truth (levelBelow n found overlapping containing (2 ^ n) S) (inIts S)
+      (some-then (2 ^ n) (λ M. inIts M && (eqb S M || from M S)) (inIts S)
+      (λ M h k. let two = and-both (inIts M) (eqb S M || from M S) k in which M h (two .0) (eqb S M) refl (two .1)))
+      (λ e. some-of (2 ^ n) (λ M. inIts M && (eqb S M || from M S)) S hs
+      (ap₂ _&&_ e (ap (λ (b : Bool). b || from S S) (eq-eqb S S refl))))
+    where
+      which : (M : ℕ) → M < 2 ^ n → inIts M ≡ true → (b : Bool) → eqb S M ≡ b → (b || from M S) ≡ true → inIts S ≡ true
+      which M h e true k l = ap inIts (eqb-true S M k) ∙ e
+      which M h e false k l = joined-from M S h e l
+
+  pub level-beyond : (S : ℕ) → 2 ^ n ≤ S → levelBelow n found overlapping containing (2 ^ n) S ≡ false
+  level-beyond S hs =
+      some-none (2 ^ n) (λ M. inIts M && (eqb S M || from M S))
+      (λ M h. and-no (inIts M) (eqb S M || from M S)
+      (ap₂ _||_ (ne-eqb S M (λ e. omega (arith, e, h, hs)))
+      (some-none n (λ i. eqb S (withHead n M i) && (not (inSet M i) && free (withHead n M i)))
+      (λ i k. ap (λ (b : Bool). b && (not (inSet M i) && free (withHead n M i)))
+      (ne-eqb S (withHead n M i) (λ e. omega (arith, e, hs, gather-lt n (λ j. inSet M j || eqb j i))))))))
+
+  module _ (s : ℕ) (l : List ℕ) where
+    next-is : (S : ℕ) → levelBelow n found overlapping containing (s + 1) S ≡ (levelBelow n found overlapping containing s S || (inIts s && (eqb S s || from s S)))
+    next-is S = some-next s (λ M. inIts M && (eqb S M || from M S))
+
+    pub level-next : inIts s ≡ true
+        → marked (from s) (set (marked (levelBelow n found overlapping containing s) l) s 1) ≡ marked (levelBelow n found overlapping containing (s + 1)) l
+    level-next e =
+        ap (marked (from s)) (mark-next (levelBelow n found overlapping containing s) l s)
+        ∙ marked-again (λ S. levelBelow n found overlapping containing s S || eqb S s) (from s) l
+        ∙ marked-same (λ S. (levelBelow n found overlapping containing s S || eqb S s) || from s S) (levelBelow n found overlapping containing (s + 1)) l
+        (λ S h. or-assoc (levelBelow n found overlapping containing s S) (eqb S s) (from s S)
+        ∙ sym (next-is S ∙ ap (λ (b : Bool). levelBelow n found overlapping containing s S || (b && (eqb S s || from s S))) e))
+
+    pub level-not : inIts s ≡ false → marked (levelBelow n found overlapping containing s) l ≡ marked (levelBelow n found overlapping containing (s + 1)) l
+    level-not e =
+        marked-same (levelBelow n found overlapping containing s) (levelBelow n found overlapping containing (s + 1)) l
+        (λ S h. sym (next-is S ∙ ap (λ (b : Bool). levelBelow n found overlapping containing s S || (b && (eqb S s || from s S))) e
+        ∙ or-false (levelBelow n found overlapping containing s S)))
+
+-- whether a mask joins, from the three tests
+module _ (n : ℕ) (found : ℕ → Bool) (overlapping containing : ℕ → ℕ) (S : ℕ) where
+  pub joins-by : {a b c : Bool} → found S ≡ a → allPairs n overlapping S ≡ b → oneInAll n containing S ≡ c
+      → (not a && (b && c)) ≡ joins n found overlapping containing S
+  joins-by ea eb ec = sym (ap₂ (λ (x y : Bool). not x && y) ea (ap₂ _&&_ eb ec))

@@ -3,7 +3,7 @@ pub mod Marks
 pub mod EveryHead
 pub mod Pairing
 pub mod Adopted
-pub mod InPlace
+pub mod Taken
 pub mod LevelStep
 pub mod Singles
 pub mod Assembled

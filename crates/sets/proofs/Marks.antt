@@ -2,16 +2,17 @@
 use mathlib.Core.Path.{_≡_, refl, sym, ap, _∙_}
 use mathlib.Core.Bool.{Bool, true, false, cond, _&&_, _||_}
 use mathlib.Core.List.{List}
-use Prim.Native.Nat.{ℕ, _+_, _<_}
+use Prim.Native.Nat.{ℕ, _+_, _≤_, _<_}
 use native.Mathlib.Omega.{arith}
-use borrow.Author.Tests.{eqb-true, eqb-false}
-use lib.Dec.{eqb}
-use lib.ListN.{length, getD, set, length-set}
+use borrow.Author.Tests.{eqb-true, eqb-false, ltb-true, ltb-false}
+use lib.Dec.{eqb, ltb}
+use lib.ListN.{length, getD, set, replicate, length-set, length-replicate, getD-replicate}
 use lib.Seq.{ext-getD, getD-set-same, getD-set-other}
 use Rattle.lists.specs.Some.{some}
-use Rattle.lists.specs.Written.{tab}
+use Rattle.lists.specs.Written.{tab, written}
+use Rattle.masks.specs.Presence.{byte}
 use Rattle.lists.proofs.Somes.{some-next}
-use Rattle.lists.proofs.Writing.{length-tab, getD-tab, tab-cong}
+use Rattle.lists.proofs.Writing.{length-tab, getD-tab, tab-cong, length-written, written-before, written-past}
 use Rattle.sets.specs.Marked.{marked}
 
 pub length-marked : (p : ℕ → Bool) (l : List ℕ) → length (marked p l) ≡ length l
@@ -95,3 +96,27 @@ module _ (v : ℕ → ℕ) (test : ℕ → Bool) (j : ℕ) (l : List ℕ) where
   mark-not e =
       marked-same (λ S. some j (λ k. eqb S (v k) && test k)) (λ S. some (j + 1) (λ k. eqb S (v k) && test k)) l
       (λ S h. and-no (eqb S (v j)) (test j) (some j (λ k. eqb S (v k) && test k)) e ∙ sym (some-next j (λ k. eqb S (v k) && test k)))
+
+-- ---- marks on no bytes
+
+abbrev pub zeros : ℕ → List ℕ
+zeros m = replicate m 0
+
+-- marks of masks of n heads only
+pub marks : (p q : ℕ → Bool) (m : ℕ) → m ≤ 1024 → ((S : ℕ) → S < m → p S ≡ q S) → ((S : ℕ) → m ≤ S → p S ≡ false)
+    → marked p (zeros 1024) ≡ written (λ S. byte (q S)) m (zeros 1024)
+marks p q m h same beyond =
+    ext-getD 0 (marked p (zeros 1024)) (written (λ S. byte (q S)) m (zeros 1024))
+    (length-marked p (zeros 1024) ∙ sym (length-written (λ S. byte (q S)) m (zeros 1024) (omega (arith, length-replicate {A = ℕ} 1024 0))))
+    (λ S k.
+    let r : S < 1024 = omega (arith, length-marked p (zeros 1024), length-replicate {A = ℕ} 1024 0) in
+    marked-at p (zeros 1024) S (omega (arith, length-replicate {A = ℕ} 1024 0)) ∙ ap (λ (x : ℕ). cond (p S) 1 x) (getD-replicate 1024 S 0 0 r)
+    ∙ at S r (ltb S m) refl)
+  where
+    at : (S : ℕ) → S < 1024 → (b : Bool) → ltb S m ≡ b → cond (p S) 1 0 ≡ getD (written (λ T. byte (q T)) m (zeros 1024)) S 0
+    at S r true e =
+        let k = ltb-true S m e in
+        ap byte (same S k) ∙ sym (written-before (λ T. byte (q T)) m S (zeros 1024) 0 k)
+    at S r false e =
+        let k = ltb-false S m e in
+        ap byte (beyond S k) ∙ sym (written-past (λ T. byte (q T)) m S (zeros 1024) 0 k ∙ getD-replicate 1024 S 0 0 r)

@@ -1,15 +1,30 @@
--- What one step of the code gives from the bytes that it looks at; proofs/LevelStep.antt shows that the bytes are those of specs/Sets.antt.
+-- What the steps of the code add from one mask that they look at; proofs/Taken.antt and proofs/LevelStep.antt show that a pass over all masks
+-- adds what specs/Sets.antt says.
 use Prim.Native.Nat.{ℕ}
-use mathlib.Core.Bool.{Bool, not, cond, _&&_}
+use mathlib.Core.Bool.{Bool, not, _&&_, _||_}
 use lib.Count.{ones}
 use lib.Dec.{eqb, leb}
 use Rattle.lists.specs.Some.{some}
-use Rattle.masks.specs.Mask.{inSet, withoutHead}
-use Rattle.sets.specs.Sets.{allPairs, oneInAll}
+use Rattle.masks.specs.Mask.{inSet, withHead, withoutHead}
+use Rattle.sets.specs.Sets.{allPairs, oneInAll, joined}
 
--- S is in its level, where it is found so far or not, and `below` are the masks of the level below
-unfoldable pub levelFrom : ℕ → Bool → (ℕ → Bool) → (ℕ → ℕ) → (ℕ → ℕ) → ℕ → Bool
-unfolding some allPairs oneInAll
-levelFrom n found below overlapping containing S =
-    cond (leb (ones S) 2) (eqb (ones S) 2 && found)
-    (not found && (allPairs n overlapping S && (oneInAll n containing S && some n (λ i. inSet S i && below (withoutHead n S i)))))
+-- S is M without one of its heads
+abbrev pub partOf : ℕ → ℕ → ℕ → Bool
+partOf n M S = some n (λ i. eqb S (withoutHead n M i) && inSet M i)
+
+-- S is a part of a mask below m, of three heads or more, that is found
+abbrev pub partBelow : ℕ → (ℕ → Bool) → ℕ → ℕ → Bool
+partBelow n found m S = some m (λ M. (found M && leb 3 (ones M)) && partOf n M S)
+
+module _ (n : ℕ) (found : ℕ → Bool) (overlapping containing : ℕ → ℕ) where
+  -- S, got from a mask of the level below, is in the next
+  abbrev pub joins : ℕ → Bool
+  joins S = not (found S) && (allPairs n overlapping S && oneInAll n containing S)
+
+  -- S is M with one head more, and joins the next level
+  abbrev pub joiningOf : ℕ → ℕ → Bool
+  joiningOf M S = some n (λ i. eqb S (withHead n M i) && (not (inSet M i) && joins (withHead n M i)))
+
+  -- S is a mask below m of its level, or joins from one
+  abbrev pub levelBelow : ℕ → ℕ → Bool
+  levelBelow m S = some m (λ M. joined n found overlapping containing M && (eqb S M || joiningOf M S))

@@ -1,8 +1,10 @@
 // Masks found level by level, each from one of the level below and one head more. Rests on `inLevel` of specs/Sets.antt and on specs/Steps.antt.
 use geometry::circle::Circle;
 ghost use mathlib.Core.Path.{_≡_};
-ghost use mathlib.Core.Bool.{not, _&&_, _||_};
+ghost use mathlib.Core.Bool.{cond, not, _&&_, _||_};
 ghost use Prim.Native.Nat.{_≤_, _<_, _^_};
+ghost use lib.Count.{ones};
+ghost use lib.Dec.{eqb};
 ghost use lib.ListN.{getD, replicate, take};
 ghost use Rattle.masks.specs.Mask.{inSet, withoutHead, subset, every};
 ghost use Rattle.masks.specs.Presence.{byte, stands};
@@ -10,7 +12,8 @@ ghost use Rattle.lists.specs.Some.{some};
 ghost use Rattle.lists.specs.Written.{written};
 ghost use Rattle.sets.specs.Sets.{joined, overlapping, containing};
 ghost use Rattle.sets.specs.Regions.{containsAt};
-ghost use Rattle.sets.specs.Steps.{levelFrom};
+ghost use Rattle.sets.specs.Marked.{marked};
+ghost use Rattle.sets.specs.Steps.{joins, joiningOf};
 
 // The heads whose pair with head i is found.
 fn overlapping_head(found: &[u8; 1024], i: usize, n: usize) -> usize
@@ -99,17 +102,6 @@ fn others_in(s: usize, i: usize, heads: usize, n: usize) -> bool
     others & heads == others
 }
 
-// Whether head i is a head of s, and s without it is in the level below.
-fn base_at(level: &[u8; 1024], s: usize, i: usize, n: usize) -> bool
-    requires { ⌜ (n ≤ 10) × ((s < 2 ^ n) × (i < n)) ⌝ }
-    ensures { λ r. ⌜ r ≡ (inSet s i && stands (now (level .entry)) (withoutHead n s i)) ⌝ }
-{
-    if s & 1 << i == 0 {
-        return false;
-    }
-    level[s & !(1 << i)] == 1
-}
-
 // Whether each head of s overlaps all others.
 fn all_pairs(overlapping: [usize; 10], s: usize, n: usize) -> bool
     requires { ⌜ (n ≤ 10) × (s < 2 ^ n) ⌝ }
@@ -140,56 +132,60 @@ fn one_in_all(containing: [usize; 10], s: usize, n: usize) -> bool
     false
 }
 
-// Whether s is a mask of the level below and one head more.
-fn has_base(level: &[u8; 1024], s: usize, n: usize) -> bool
-    requires { ⌜ (n ≤ 10) × (s < 2 ^ n) ⌝ }
-    ensures { λ r. ⌜ r ≡ some n (λ i. inSet s i && stands (now (level .entry)) (withoutHead n s i)) ⌝ }
-{
-    let mut i: usize = 0;
-    while i < n {
-        if base_at(level, s, i, n) {
-            return true;
-        }
-        i += 1;
-    }
-    false
-}
-
-// The byte of s in its level, from those of smaller masks.
-fn level_byte(
+// Whether a mask with one head more than one of the level below joins the next level.
+fn joins(
     found: &[u8; 1024],
-    level: &[u8; 1024],
     overlapping: [usize; 10],
     containing: [usize; 10],
     s: usize,
     n: usize,
-) -> u8
+) -> bool
     requires { ⌜ (n ≤ 10) × (s < 2 ^ n) ⌝ }
-    ensures { λ r. ⌜ r ≡ byte (levelFrom n (stands (now (found .entry)) s) (stands (now (level .entry))) (λ i. getD overlapping i 0) (λ i. getD containing i 0) s) ⌝ }
+    ensures { λ r. ⌜ r ≡ joins n (stands (now (found .entry))) (λ i. getD overlapping i 0) (λ i. getD containing i 0) s ⌝ }
 {
-    let many = usize::count_ones(s);
-    if many <= 2 {
-        if many == 2 {
-            return if found[s] == 1 { 1 } else { 0 };
-        }
-        return 0;
-    }
     if found[s] == 1 {
-        return 0;
+        return false;
     }
     if !all_pairs(overlapping, s, n) {
-        return 0;
+        return false;
     }
-    if !one_in_all(containing, s, n) {
-        return 0;
-    }
-    if has_base(level, s, n) {
-        return 1;
-    }
-    0
+    one_in_all(containing, s, n)
 }
 
-// 5. Level by level: each mask once those with one head less, which are smaller numbers, have their byte.
+// The masks of the next level that are s, a mask of its level, and one head more.
+fn add_joining(
+    level: &mut [u8; 1024],
+    found: &[u8; 1024],
+    overlapping: [usize; 10],
+    containing: [usize; 10],
+    s: usize,
+    n: usize,
+)
+    requires { ⌜ (n ≤ 10) × (s < 2 ^ n) ⌝ }
+    ensures { λ r. ⌜ now (level .exit) ≡ marked (joiningOf n (stands (now (found .entry))) (λ i. getD overlapping i 0) (λ i. getD containing i 0) s) (now (level .entry)) ⌝ }
+{
+    let mut i: usize = 0;
+    while i < n {
+        if s & 1 << i == 0 {
+            if joins(found, overlapping, containing, s | 1 << i, n) {
+                level[s | 1 << i] = 1;
+            }
+        }
+        i += 1;
+    }
+}
+
+// Whether s is in its level, from its byte among the masks found and its byte once all masks before it have been looked at.
+fn in_level(found: u8, level: u8, s: usize) -> bool
+    ensures { λ r. ⌜ r ≡ cond (eqb found 1) (eqb (ones s) 2) (eqb level 1) ⌝ }
+{
+    if found == 1 {
+        return usize::count_ones(s) == 2;
+    }
+    level == 1
+}
+
+// 5. Level by level, in one pass from the first mask on: a mask with one head more is a larger number, and is looked at later.
 pub(crate) fn levels(
     found: &[u8; 1024],
     overlapping: [usize; 10],
@@ -203,8 +199,10 @@ pub(crate) fn levels(
     let masks = 1usize << n;
     let mut s: usize = 0;
     while s < masks {
-        let b = level_byte(found, &level, overlapping, containing, s, n);
-        level[s] = b;
+        if in_level(found[s], level[s], s) {
+            level[s] = 1;
+            add_joining(&mut level, found, overlapping, containing, s, n);
+        }
         s += 1;
     }
     level

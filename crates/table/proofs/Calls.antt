@@ -2,14 +2,13 @@
 -- sets say which masks are sets, and so a pass over these bytes leaves what a taken call leaves. Over any list of sets.
 use Prim.Native.Nat.{ℕ, zero, suc, _^_, _≤_, _<_}
 use mathlib.Core.Path.{_≡_, refl, sym, ap, ap₂, _∙_, subst}
-use mathlib.Core.Bool.{Bool, true, false, cond}
+use mathlib.Core.Bool.{Bool, true, false}
 use mathlib.Core.List.{List}
 use native.Mathlib.Nat.{lt-of-lt-of-le}
-use native.Mathlib.Omega.{arith}
 use lib.Dec.{eqb}
 use lib.Ieee.{Float, nan}
 use lib.IntN.{ℤ}
-use lib.ListN.{length, getD, set, drop, replicate, getD-replicate}
+use lib.ListN.{length, set, drop, replicate, getD-replicate}
 use lib.Pow.{pow-pos}
 use lib.Seq.{getD-set-same, drop-set-lt}
 use mir.Facts.{toZ-ofZ}
@@ -24,7 +23,7 @@ use Rattle.plan.specs.declared.Plan.{Plan}
 use Rattle.plan.specs.Book.{applied}
 use Rattle.geometry.specs.Rectangle as Rectangle
 use Rattle.intersections.specs.Points.{collected}
-use Rattle.sets.specs.Regions.{inRegions}
+use Rattle.sets.specs.Regions.{inRegions, setBytes}
 use Rattle.drawn.specs.Drawn.{planCircles, boxOf}
 use Rattle.drawn.proofs.Circles.{circles-many}
 use Rattle.areas.specs.Exclusives.{toExclusives}
@@ -37,14 +36,18 @@ use Rattle.regions.specs.Table.{Method, areaAt, afresh, edited}
 use Rattle.regions.proofs.Run.{slices-rework}
 use Rattle.regions.proofs.Slices.{afresh-taken, edit-step-taken}
 use Rattle.table.specs.declared.ready.Ready.{Ready}
-use Rattle.table.specs.Method.{methodOver, clippedTable}
-use Rattle.table.specs.Ready.{areaOf, Of, setsWritten}
+use Rattle.table.specs.Method.{methodOver}
+use Rattle.table.specs.Ready.{areaOf, Of, setsWritten, setsIn}
 use Rattle.table.specs.Rows.{rowsWritten}
 use Rattle.table.specs.Tables.{editOf, changeOf, tablesWritten, afreshOver, editedOver}
 use Rattle.table.proofs.Second.{rows-most}
 use Rattle.table.proofs.Writing.{row-cong, afresh-edited}
 
 -- ---- a plan made ready
+
+-- with its box or without it, as it says itself
+pub made-so : {p : Plan} {hasBox : Bool} {r : Ready} → Of p hasBox r → Of p (r .clipped) r
+made-so of = record { clipped = refl; n = of .n; circles = of .circles; points = of .points; bounds = of .bounds }
 
 -- what the code works out is what a method says
 pub record Serves (m : Method) (p : Plan) (r : Ready) : Type 0 where
@@ -58,6 +61,11 @@ serves true sets p r of = record { hasBox = of .clipped; area = λ S. rw (of .cl
 serves false sets p r of = record { hasBox = of .clipped; area = λ S. rw (of .clipped, of .circles, of .points); box = refl }
 
 -- ---- the bytes of the sets
+
+-- those found in a plan made ready are the plan's
+pub sets-made : (p : Plan) (hasBox : Bool) (r : Ready) → Of p hasBox r → setsIn r ≡ setsWritten p
+unfolding setsWritten
+sets-made p hasBox r of = ap₂ setBytes (of .circles) (of .points)
 
 -- those of a plan's sets say which masks are its sets
 pub sets-say : (p : Plan) → length (p .heads) ≡ 10 → p .n ≤ 10 → (S : ℕ) → S < 2 ^ p .n → stands (setsWritten p) S ≡ planSets p S

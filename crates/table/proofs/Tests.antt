@@ -1,9 +1,12 @@
 -- The tests of the code, branch by branch, as the definitions put them together.
-use mathlib.Core.Path.{_≡_, refl, sym, ap, _∙_}
+use mathlib.Core.Path.{_≡_, refl}
 use mathlib.Core.Bool.{Bool, true, false, not, _&&_, _||_, or-false}
-use Prim.Native.Nat.{ℕ}
+use Prim.Native.Nat.{ℕ, zero, suc}
 use borrow.Author.Tests.{eq-eqb, ne-eqb}
 use lib.Dec.{eqb}
+use Rattle.regions.specs.Edit.{reworked}
+use Rattle.table.specs.declared.rows.Change.{Change}
+use Rattle.table.specs.Rows.{workedOut}
 
 -- a head of number j is met, not being head k: by the first or the second of two
 pub met-self : (j k : ℕ) (b : Bool) → j ≡ k → false ≡ (not (eqb j k) && b)
@@ -31,3 +34,22 @@ module _ (own was ones met : ℕ) where
 
   pub reworked-met : own ≡ 0 → was ≡ 1 → (ones ≡ 1 → ⊥) → not (eqb met 0) ≡ worked-out
   reworked-met e f g = rw (eq-eqb own 0 e, eq-eqb was 1 f, ne-eqb ones 1 g)
+
+-- a row is worked out at all: row 0 is not, nor one that is no set after the edit; any other if it is reworked
+module _ (c : Change) (before : ℕ → Bool) where
+  pub worked-box : (after : ℕ → Bool) (S : ℕ) → S ≡ 0 → false ≡ workedOut c before after S
+  worked-box after S e = rw e
+
+  pub worked-gone : (is S : ℕ) → (S ≡ 0 → ⊥) → (is ≡ 1 → ⊥) → false ≡ workedOut c before (λ T. eqb is 1) S
+  worked-gone is zero n e = absurd (n refl)
+  worked-gone is (suc S) n e = rw (ne-eqb is 1 e)
+
+  pub worked-set : (is S : ℕ) {r : Bool} → (S ≡ 0 → ⊥) → is ≡ 1 → r ≡ reworked (c .own) (c .met) before S → r ≡ workedOut c before (λ T. eqb is 1) S
+  worked-set is zero n e f = absurd (n refl)
+  worked-set is (suc S) n e f = rw (eq-eqb is 1 e) f
+
+  -- of the sets before and after it looks at its own
+  pub worked-own : (after : ℕ → Bool) (S : ℕ) → workedOut c (λ T. before S) (λ T. after S) S ≡ workedOut c before after S
+  unfolding reworked
+  worked-own after zero = refl
+  worked-own after (suc S) = refl

@@ -1,6 +1,6 @@
 -- What the area of every row of a plan is worked out from, as the code holds it.
 use Prim.Native.Nat.{ℕ}
-use mathlib.Core.Bool.{Bool, cond}
+use mathlib.Core.Bool.{Bool}
 use mathlib.Core.List.{List}
 use mathlib.Core.Path.{_≡_}
 use lib.Ieee.{Float}
@@ -10,8 +10,7 @@ use Rattle.geometry.specs.Rectangle.{bounds}
 use Rattle.intersections.specs.Counted.{pointList}
 use Rattle.intersections.specs.Members.{Member, membersOf}
 use Rattle.intersections.specs.Points.{collected}
-use Rattle.outline.specs.Area.{openArea}
-use Rattle.clip.specs.Area.{clippedArea}
+use Rattle.sums.specs.Rows as Sums
 use Rattle.drawn.specs.Drawn.{planCircles, boxOf}
 use Rattle.sets.specs.Regions.{setBytes}
 use Rattle.table.specs.declared.ready.Ready.{Ready}
@@ -22,7 +21,7 @@ membersIn r S = membersOf (take (r .n) (r .circles)) (pointList (r .points)) S
 
 -- the area of row S
 unfoldable pub areaOf : Ready → ℕ → Float
-areaOf r S = cond (r .clipped) (clippedArea (r .bounds) (membersIn r S)) (openArea (membersIn r S))
+areaOf r S = Sums.areaOf (r .clipped) (r .bounds) (membersIn r S)
 
 -- r is made of the plan p, with its box or without it
 pub record Of (p : Plan) (hasBox : Bool) (r : Ready) : Type 0 where
@@ -35,3 +34,7 @@ pub record Of (p : Plan) (hasBox : Bool) (r : Ready) : Type 0 where
 -- the bytes of a plan's sets, as discover_regions writes them
 unfoldable pub setsWritten : Plan → List ℕ
 setsWritten p = setBytes (planCircles p) (collected (planCircles p))
+
+-- the same of what a plan was made into
+abbrev pub setsIn : Ready → List ℕ
+setsIn r = setBytes (take (r .n) (r .circles)) (pointList (r .points))

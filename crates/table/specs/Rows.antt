@@ -1,11 +1,10 @@
 -- The rows that one pass over lent slices writes, by the bytes of the sets before and after: the rule of `regions`, specs/Edit.antt.
 use Prim.Native.Nat.{ℕ, zero, suc}
-use mathlib.Core.Bool.{Bool, cond}
+use mathlib.Core.Bool.{Bool, false, _&&_}
 use mathlib.Core.List.{List}
-use lib.Dec.{eqb}
 use lib.Ieee.{Float}
-use Rattle.masks.specs.Presence.{byte, stands}
-use Rattle.regions.specs.Edit.{Row, editedRow}
+use Rattle.masks.specs.Presence.{stands}
+use Rattle.regions.specs.Edit.{Row, reworked, editedRow}
 use Rattle.regions.specs.Slices.{slicesOf, rowAt}
 use Rattle.table.specs.declared.ready.Ready.{Ready}
 use Rattle.table.specs.declared.rows.Change.{Change}
@@ -16,11 +15,7 @@ abbrev pub rowsWritten : Ready → Change → List ℕ → List ℕ → List ℕ
 rowsWritten r c before after bytes numbers S =
     editedRow (r .clipped) (c .own) (c .met) (areaOf r) (stands before) (stands after) (rowAt (slicesOf bytes numbers)) S
 
--- its byte, and its number, from the bytes and the number at S
-abbrev pub byteAfter : Bool → ℕ → ℕ → ℕ
-byteAfter hasBox is zero = byte hasBox
-byteAfter hasBox is (suc S) = byte (eqb is 1)
-
-abbrev pub numberAfter : Ready → Change → ℕ → ℕ → ℕ → Float → Float
-numberAfter r c was is S v =
-    editedRow (r .clipped) (c .own) (c .met) (areaOf r) (λ T. eqb was 1) (λ T. eqb is 1) (λ T. record { byte = 0; number = v }) S .number
+-- row S is worked out: that of a set after the edit, if the edit reworks it. Row 0 never is.
+abbrev pub workedOut : Change → (ℕ → Bool) → (ℕ → Bool) → ℕ → Bool
+workedOut c before after zero = false
+workedOut c before after (suc S) = after (suc S) && reworked (c .own) (c .met) before (suc S)

@@ -4,7 +4,9 @@ ghost use Rattle.areas.specs.Sets.{planSets};
 ghost use Rattle.regions.proofs.Slices.{Room};
 ghost use Rattle.regions.specs.Slices.{tablesOf, planSlices, stepOf, afreshSlices};
 ghost use Rattle.table.specs.Method.{methodOver, clippedTable, openTable};
+ghost use Rattle.table.specs.Ready.{Of};
 ghost use Rattle.table.specs.Tables.{tablesWritten, afreshOver};
+use crate::ready::Ready;
 use crate::ready::ready_of;
 use crate::ready::sets_of;
 use crate::rows::Change;
@@ -16,22 +18,24 @@ use plan::Gradients;
 use plan::Plan;
 use plan::check::check_call;
 
-// Both tables of an accepted plan over the sets of these bytes: an edit's pass with no sets before. Row 0 keeps its number in that pass, so
-// the box's area is there first; without a box the pass makes row 0 absent.
+// Both tables of an accepted plan made ready, over the sets of these bytes: an edit's pass with no sets before. Row 0 keeps its number in
+// that pass, so the box's area is there first; without a box the pass makes row 0 absent.
 fn write_afresh(
     plan: Plan,
-    clipped: bool,
+    ready: Ready,
     sets: &[u8; 1024],
     presence: &mut [u8],
     rows: &mut [f64],
     exclusive_presence: &mut [u8],
     exclusives: &mut [f64],
 )
-    requires { ⌜ Room (plan .n) (tablesOf (now presence) (now rows) (now «exclusive_presence») (now exclusives)) ⌝ }
+    requires { ⌜
+        Room (plan .n) (tablesOf (now presence) (now rows) (now «exclusive_presence») (now exclusives)) × Of plan (ready .clipped) ready
+        ⌝ }
     ensures { λ r. ⌜
         tablesOf (now (presence .exit)) (now (rows .exit)) (now («exclusive_presence» .exit)) (now (exclusives .exit))
         ≡ tablesWritten (plan .n)
-        (afreshOver (methodOver clipped planSets) plan (now (sets .entry)))
+        (afreshOver (methodOver (ready .clipped) planSets) plan (now (sets .entry)))
         (tablesOf (now (presence .entry)) (now (rows .entry)) (now («exclusive_presence» .entry)) (now (exclusives .entry)))
         ⌝ }
 {
@@ -39,7 +43,6 @@ fn write_afresh(
     let none = [0u8; 1024];
     let change = Change { own: 0, met: 0 };
     rows[0] = box_of(ground).area();
-    let ready = ready_of(plan, clipped);
     write_tables(
         ready,
         change,
@@ -76,10 +79,11 @@ fn work_out(
     let answer = check_call(plan, Gradients::None, lent);
     match answer {
         Answer::Taken => {
-            let sets = sets_of(plan);
+            let ready = ready_of(plan, clipped);
+            let sets = sets_of(ready);
             write_afresh(
                 plan,
-                clipped,
+                ready,
                 &sets,
                 presence,
                 rows,

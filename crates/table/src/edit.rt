@@ -1,15 +1,17 @@
 // One edit of a plan and its tables in the box: document 01's "Edit", and demand 3's second half.
 ghost use mathlib.Core.Path.{_≡_};
-ghost use Prim.Native.Nat.{_≤_, _<_, _^_};
+ghost use mathlib.Core.Bool.{true};
+ghost use Prim.Native.Nat.{_≤_, _<_};
 ghost use Rattle.plan.specs.Book.{applied};
 ghost use Rattle.plan.specs.declared.Answer.the-variants.{Taken};
 ghost use Rattle.regions.proofs.Slices.{Room};
 ghost use Rattle.regions.specs.Demand.{Reworks};
 ghost use Rattle.regions.specs.Slices.{slicesOf, rowAt, tablesOf, planSlices, stepOf, editSlices};
-ghost use Rattle.regions.specs.Table.{metBy};
 ghost use Rattle.table.specs.Method.{clippedTable};
+ghost use Rattle.table.specs.Ready.{Of};
 ghost use Rattle.table.specs.Tables.{editOf, changeOf, tablesWritten, editedOver};
 use crate::met::met_by;
+use crate::ready::Ready;
 use crate::ready::ready_of;
 use crate::ready::sets_of;
 use crate::rows::Change;
@@ -41,10 +43,11 @@ fn change_of(plan: Plan, edit: Edit) -> Change
     }
 }
 
-// Both tables of a taken edit, over the sets before and after of these bytes.
+// Both tables of a taken edit, from the plan after it made ready, over the sets before and after of these bytes.
 fn write_edited(
     plan: Plan,
     edit: Edit,
+    ready: Ready,
     earlier: &[u8; 1024],
     later: &[u8; 1024],
     presence: &mut [u8],
@@ -52,7 +55,10 @@ fn write_edited(
     exclusive_presence: &mut [u8],
     exclusives: &mut [f64],
 )
-    requires { ⌜ Room (plan .n) (tablesOf (now presence) (now rows) (now «exclusive_presence») (now exclusives)) × (edit .head < plan .n) ⌝ }
+    requires { ⌜
+        Room (plan .n) (tablesOf (now presence) (now rows) (now «exclusive_presence») (now exclusives)) × (edit .head < plan .n)
+        × Of (applied plan edit) true ready
+        ⌝ }
     ensures { λ r. ⌜
         tablesOf (now (presence .exit)) (now (rows .exit)) (now («exclusive_presence» .exit)) (now (exclusives .exit))
         ≡ tablesWritten (plan .n)
@@ -61,7 +67,6 @@ fn write_edited(
         ⌝ }
 {
     let change = change_of(plan, edit);
-    let ready = ready_of(apply(plan, edit), true);
     write_tables(
         ready,
         change,
@@ -100,11 +105,14 @@ pub fn edit_one(
     match answer {
         Answer::Taken => {
             let next = apply(plan, edit);
-            let earlier = sets_of(plan);
-            let later = sets_of(next);
+            let ready_before = ready_of(plan, true);
+            let ready = ready_of(next, true);
+            let earlier = sets_of(ready_before);
+            let later = sets_of(ready);
             write_edited(
                 plan,
                 edit,
+                ready,
                 &earlier,
                 &later,
                 presence,

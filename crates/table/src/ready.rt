@@ -1,14 +1,12 @@
-// What the area of every row of a plan is worked out from: circles, meeting points and the box, made once a call.
+// What the sets and the area of every row of a plan are worked out from: circles, meeting points and the box, made once a plan.
 ghost use mathlib.Core.Path.{_≡_};
 ghost use Rattle.table.specs.Ready as spec;
-use clip::area::clipped_region_area;
 use drawn::box_of;
 use drawn::circles_of;
 use geometry::bounds::Bounds;
 use geometry::circle::Circle;
 use intersections::collect::collect_intersections;
 use intersections::points::Intersections;
-use outline::area::region_area;
 use plan::Plan;
 use sets::discover::discover_regions;
 
@@ -19,19 +17,6 @@ pub struct Ready {
     pub circles: [Circle; 10],
     pub points: Intersections,
     pub bounds: Bounds,
-}
-
-// The area of row `mask`, in the box or without it.
-pub(crate) fn row_area(ready: Ready, mask: usize) -> f64
-    ensures { λ r. ⌜ r ≡ spec.areaOf ready mask ⌝ }
-{
-    let circles = ready.circles;
-    let points = ready.points;
-    if ready.clipped {
-        let bounds = ready.bounds;
-        return clipped_region_area(mask, circles, points, ready.n, bounds);
-    }
-    region_area(mask, circles, points, ready.n)
 }
 
 // What the rows of a plan are worked out from, with its box or without it.
@@ -51,11 +36,11 @@ pub(crate) fn ready_of(plan: Plan, clipped: bool) -> Ready
     }
 }
 
-// The presence bytes of a plan's sets.
-pub(crate) fn sets_of(plan: Plan) -> [u8; 1024]
-    ensures { λ r. ⌜ r ≡ spec.setsWritten plan ⌝ }
+// The presence bytes of a plan's sets, from what its rows are worked out from.
+pub(crate) fn sets_of(ready: Ready) -> [u8; 1024]
+    ensures { λ r. ⌜ r ≡ spec.setsIn ready ⌝ }
 {
-    let circles = circles_of(plan);
-    let points = collect_intersections(circles, plan.n);
-    discover_regions(circles, points, plan.n)
+    let circles = ready.circles;
+    let points = ready.points;
+    discover_regions(circles, points, ready.n)
 }

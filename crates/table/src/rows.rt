@@ -1,13 +1,16 @@
-// One row after an edit, and all rows of lent slices written in place. Afresh is the same pass with no sets before.
+// Which rows an edit works out, and all rows of lent slices written in place. Afresh is the same pass with no sets before.
 ghost use mathlib.Core.Path.{_≡_};
-ghost use Prim.Native.Nat.{_≤_};
+ghost use Prim.Native.Nat.{_≤_, _^_};
 ghost use lib.Dec.{eqb};
-ghost use lib.ListN.{length};
+ghost use lib.ListN.{length, replicate};
 ghost use Rattle.lists.specs.Written.{written};
+ghost use Rattle.masks.specs.Presence.{byte, stands};
 ghost use Rattle.regions.specs.Edit.{reworked};
 ghost use Rattle.table.specs.Rows as spec;
 use crate::ready::Ready;
-use crate::ready::row_area;
+use sums::presence::clear_absent;
+use sums::presence::write_presence;
+use sums::rows::write_areas;
 
 // The edited head, and those that it met before or after, as masks.
 pub struct Change {
@@ -31,36 +34,42 @@ fn is_reworked(change: Change, was: u8, mask: usize) -> bool
     mask & change.met != 0
 }
 
-// The byte of a row whose byte among the sets after the edit is `is`. Row 0 is there where there is a box.
-fn row_byte(clipped: bool, is: u8, mask: usize) -> u8
-    ensures { λ r. ⌜ r ≡ spec.byteAfter clipped is mask ⌝ }
+// Whether row `mask` is worked out, by its bytes among the sets before and after. Row 0 never is.
+fn is_worked_out(change: Change, was: u8, is: u8, mask: usize) -> bool
+    ensures { λ r. ⌜ r ≡ spec.workedOut change (λ S. eqb was 1) (λ S. eqb is 1) mask ⌝ }
 {
     if mask == 0 {
-        return if clipped { 1 } else { 0 };
-    }
-    if is == 1 {
-        return 1;
-    }
-    0
-}
-
-// The number of a row that held `number`.
-fn row_number(ready: Ready, change: Change, was: u8, is: u8, mask: usize, number: f64) -> f64
-    ensures { λ r. ⌜ r ≡ spec.numberAfter ready change was is mask number ⌝ }
-{
-    if mask == 0 {
-        return if ready.clipped { number } else { 0.0 };
+        return false;
     }
     if is != 1 {
-        return 0.0;
+        return false;
     }
-    if is_reworked(change, was, mask) {
-        return row_area(ready, mask);
-    }
-    number
+    is_reworked(change, was, mask)
 }
 
-// Rows 0 to count - 1 written.
+// Which of rows 0 to count - 1 are worked out, as bytes.
+fn rows_worked_out(
+    change: Change,
+    earlier: &[u8; 1024],
+    later: &[u8; 1024],
+    count: usize,
+) -> [u8; 1024]
+    requires { ⌜ count ≤ 1024 ⌝ }
+    ensures { λ r. ⌜ r ≡ written (λ S. byte (spec.workedOut change (stands (now (earlier .entry))) (stands (now (later .entry))) S)) count (replicate 1024 0) ⌝ }
+{
+    let mut wanted = [0u8; 1024];
+    let mut mask: usize = 0;
+    while mask < count {
+        if is_worked_out(change, earlier[mask], later[mask], mask) {
+            wanted[mask] = 1;
+        }
+        mask += 1;
+    }
+    wanted
+}
+
+// Rows 0 to count - 1 written: the areas of the rows that are worked out, absent rows made +0, and the presence bytes. Every other row keeps
+// its number.
 pub(crate) fn write_rows(
     ready: Ready,
     change: Change,
@@ -70,7 +79,7 @@ pub(crate) fn write_rows(
     presence: &mut [u8],
     rows: &mut [f64],
 )
-    requires { ⌜ (count ≤ 1024) × (count ≤ length (now presence)) × (count ≤ length (now rows)) ⌝ }
+    requires { ⌜ (ready .n ≤ 10) × (count ≡ 2 ^ ready .n) × (count ≤ length (now presence)) × (count ≤ length (now rows)) ⌝ }
     ensures { λ r. ⌜
         now (presence .exit)
         ≡ written (λ S. spec.rowsWritten ready change (now (earlier .entry)) (now (later .entry)) (now (presence .entry)) (now (rows .entry)) S .byte)
@@ -83,10 +92,12 @@ pub(crate) fn write_rows(
         ⌝ }
 {
     let clipped = ready.clipped;
-    let mut mask: usize = 0;
-    while mask < count {
-        rows[mask] = row_number(ready, change, earlier[mask], later[mask], mask, rows[mask]);
-        presence[mask] = row_byte(clipped, later[mask], mask);
-        mask += 1;
-    }
+    let n = ready.n;
+    let circles = ready.circles;
+    let points = ready.points;
+    let bounds = ready.bounds;
+    let wanted = rows_worked_out(change, earlier, later, count);
+    write_areas(clipped, circles, points, n, bounds, &wanted, rows);
+    clear_absent(clipped, n, later, rows);
+    write_presence(clipped, n, later, presence);
 }

@@ -6,9 +6,6 @@ use Rattle.binary64.proofs.Functions.{absolute-of-negative, absolute-of
 use Rattle.binary64.proofs.abs.Statement.{statement}
 use Rattle.binary64.proofs.abs.Tie as tie
 
-is-sign-negative-requires : tie.Need-is-sign-negative-requires
-is-sign-negative-requires c κs = search needs
-
 returns : tie.Need-returns
 returns c = absolute-of-negative (c .before .before .args .x) (sym (c .before .is-sign-negative .ensures) ∙ c .if1 .taken)
 
@@ -16,4 +13,4 @@ returns-2 : tie.Need-returns-2
 returns-2 c = absolute-of-other (c .before .before .args .x) (sym (c .before .is-sign-negative .ensures) ∙ c .if1 .left)
 
 pub abs-spec : {M : Type 1} → statement M
-abs-spec = tie.close (tie.spec is-sign-negative-requires returns returns-2)
+abs-spec = tie.close (tie.spec (λ c κs. search needs) returns returns-2)

@@ -9,9 +9,6 @@ use Rattle.binary64.proofs.Functions.{equals-itself, only-nan, signum-o
 use Rattle.binary64.proofs.signum.Statement.{statement}
 use Rattle.binary64.proofs.signum.Tie as tie
 
-is-sign-negative-requires : tie.Need-is-sign-negative-requires
-is-sign-negative-requires c κs = search needs
-
 returns : tie.Need-returns
 unfolding ofBits neg
 returns c = sym (signum-of-number (c .before .before .before .args .x) true (equals-itself (c .before .before .before .args .x) (c .before .before .if1 .taken)) (sym (c .before .is-sign-negative .ensures) ∙ c .if2 .taken))
@@ -24,4 +21,4 @@ returns-3 : tie.Need-returns-3
 returns-3 c = only-nan (c .before .args .x) (c .if1 .left) ∙ sym (ap signumOf (only-nan (c .before .args .x) (c .if1 .left)))
 
 pub signum-spec : {M : Type 1} → statement M
-signum-spec = tie.close (tie.spec is-sign-negative-requires returns returns-2 returns-3)
+signum-spec = tie.close (tie.spec (λ c κs. search needs) returns returns-2 returns-3)

@@ -41,11 +41,5 @@ sub-result-2 c =
     rw (toZ-ofZ (c .before .fits .z), b .is, toZ-ofZ {w = w32} {z = pos (b .distance)} (record { sfits = b .small }))
     (omega (arith, b .small))
 
-returns : tie.Need-returns
-returns c = search needs
-
-returns-2 : tie.Need-returns-2
-returns-2 c = search needs
-
 pub bits-spec : {M : Type 1} → statement M
-bits-spec = tie.close (tie.spec cast-result sub-result cast-result-2 sub-result-2 returns returns-2)
+bits-spec = tie.close (tie.spec cast-result sub-result cast-result-2 sub-result-2 (λ c. search needs) (λ c. search needs))

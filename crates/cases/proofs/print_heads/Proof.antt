@@ -36,15 +36,4 @@ returns c = tt
 
 pub print-heads-spec : {M : Type 1} → statement M
 print-heads-spec =
-    tie.close
-    (tie.spec
-    Inv-loop
-    μ-loop
-    loop-holds
-    mul-h
-    array-copy-out-h
-    print-head-requires
-    add-i
-    loop-less
-    loop-again
-    returns)
+    tie.close (tie.spec Inv-loop μ-loop loop-holds mul-h array-copy-out-h print-head-requires add-i loop-less loop-again returns)

@@ -5,24 +5,6 @@ use Rattle.drawn.specs.Drawn.{boxOf}
 use Rattle.drawn.proofs.box_of.Statement.{statement}
 use Rattle.drawn.proofs.box_of.Tie as tie
 
-int-to-float-new : tie.Need-int-to-float-new
-int-to-float-new c = search needs
-
-int-to-float-new-2 : tie.Need-int-to-float-new-2
-int-to-float-new-2 c = search needs
-
-new-requires : tie.Need-new-requires
-new-requires c κs = search needs
-
-int-to-float-new-3 : tie.Need-int-to-float-new-3
-int-to-float-new-3 c = search needs
-
-int-to-float-new-4 : tie.Need-int-to-float-new-4
-int-to-float-new-4 c = search needs
-
-new-requires-2 : tie.Need-new-requires-2
-new-requires-2 c κs = search needs
-
 returns : tie.Need-returns
 unfolding boxOf
 returns c =
@@ -38,12 +20,5 @@ returns c =
 
 pub box-of-spec : {M : Type 1} → statement M
 box-of-spec =
-    tie.close
-    (tie.spec
-    int-to-float-new
-    int-to-float-new-2
-    new-requires
-    int-to-float-new-3
-    int-to-float-new-4
-    new-requires-2
-    returns)
+    tie.close (tie.spec (λ c. search needs) (λ c. search needs) (λ c κs. search needs) (λ c. search needs) (λ c. search needs)
+    (λ c κs. search needs) returns)

@@ -35,35 +35,8 @@ abbrev μ-loop : tie.MeasureT-loop
 ten : (c : tie.Start Inv-loop μ-loop) → length (c .args .t1) ≡ 10
 ten c = search needs
 
-new-requires : tie.Need-new-requires Inv-loop μ-loop
-new-requires c κs = search needs
-
-new-requires-2 : tie.Need-new-requires-2 Inv-loop μ-loop
-new-requires-2 c κs = search needs
-
 loop-holds : tie.Need-loop-holds Inv-loop μ-loop
 loop-holds c = record { ten-heads = ten (c .before .before); ten-circles = refl; most = omega arith; so-far = written-none _ _ }
-
-mul-circle-of : tie.Need-mul-circle-of Inv-loop μ-loop
-mul-circle-of c = search needs
-
-array-copy-out-circle-of : tie.Need-array-copy-out-circle-of Inv-loop μ-loop
-array-copy-out-circle-of c = search needs
-
-circle-of-requires : tie.Need-circle-of-requires Inv-loop μ-loop
-circle-of-requires c κs = search needs
-
-mul-circles : tie.Need-mul-circles Inv-loop μ-loop
-mul-circles c = search needs
-
-array-set-from-circles : tie.Need-array-set-from-circles Inv-loop μ-loop
-array-set-from-circles c = search needs
-
-add-i : tie.Need-add-i Inv-loop μ-loop
-add-i c = search needs
-
-loop-less : tie.Need-loop-less Inv-loop μ-loop
-loop-less c = search needs
 
 loop-again : tie.Need-loop-again Inv-loop μ-loop
 loop-again c =
@@ -92,19 +65,5 @@ returns c =
 
 pub circles-of-heads-spec : {M : Type 1} → statement M
 circles-of-heads-spec =
-    tie.close
-    (tie.spec
-    Inv-loop
-    μ-loop
-    new-requires
-    new-requires-2
-    loop-holds
-    mul-circle-of
-    array-copy-out-circle-of
-    circle-of-requires
-    mul-circles
-    array-set-from-circles
-    add-i
-    loop-less
-    loop-again
-    returns)
+    tie.close (tie.spec Inv-loop μ-loop (λ c κs. search needs) (λ c κs. search needs) loop-holds (λ c. search needs) (λ c. search needs)
+    (λ c κs. search needs) (λ c. search needs) (λ c. search needs) (λ c. search needs) (λ c. search needs) loop-again returns)

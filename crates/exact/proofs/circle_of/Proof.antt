@@ -4,21 +4,6 @@ use Rattle.heads.proofs.Signed.{read-back}
 use Rattle.exact.proofs.circle_of.Statement.{statement}
 use Rattle.exact.proofs.circle_of.Tie as tie
 
-int-to-float-new : tie.Need-int-to-float-new
-int-to-float-new c = search needs
-
-int-to-float-new-2 : tie.Need-int-to-float-new-2
-int-to-float-new-2 c = search needs
-
-new-requires : tie.Need-new-requires
-new-requires c κs = search needs
-
-int-to-float-new-3 : tie.Need-int-to-float-new-3
-int-to-float-new-3 c = search needs
-
-new-requires-2 : tie.Need-new-requires-2
-new-requires-2 c κs = search needs
-
 returns : tie.Need-returns
 returns c =
     let head = c .before .before .before .before .before .before .before .before .args .head in
@@ -28,11 +13,4 @@ returns c =
 
 pub circle-of-spec : {M : Type 1} → statement M
 circle-of-spec =
-    tie.close
-    (tie.spec
-    int-to-float-new
-    int-to-float-new-2
-    new-requires
-    int-to-float-new-3
-    new-requires-2
-    returns)
+    tie.close (tie.spec (λ c. search needs) (λ c. search needs) (λ c κs. search needs) (λ c. search needs) (λ c κs. search needs) returns)

@@ -6,11 +6,8 @@ use borrow.Author.Needs.{needs}
 use Rattle.gradients.proofs.lent_by.Statement.{statement}
 use Rattle.gradients.proofs.lent_by.Tie as tie
 
-shorter-requires : tie.Need-shorter-requires
-shorter-requires c κs = search needs
-
 returns : tie.Need-returns
 returns c = ap (λ (m : ℕ). record { rows = m; gradients = c .before .args .gradients }) (c .shorter .ensures)
 
 pub lent-by-spec : {M : Type 1} → statement M
-lent-by-spec = tie.close (tie.spec shorter-requires returns)
+lent-by-spec = tie.close (tie.spec (λ c κs. search needs) returns)

@@ -4,22 +4,9 @@ use borrow.Author.Needs.{needs}
 use Rattle.gradients.proofs.open_gradients.Statement.{statement}
 use Rattle.gradients.proofs.open_gradients.Tie as tie
 
-work-out-requires : tie.Need-work-out-requires
-work-out-requires c κs = search needs
-
-same-length : tie.Need-same-length
-same-length c = search needs
-
-same-length-2 : tie.Need-same-length-2
-same-length-2 c = search needs
-
-same-length-3 : tie.Need-same-length-3
-same-length-3 c = search needs
-
 returns : tie.Need-returns
 unfolding openStep
 returns c = c .before .before .before .before .before .before .work-out .ensures
 
 pub open-gradients-spec : {M : Type 1} → statement M
-open-gradients-spec =
-    tie.close (tie.spec work-out-requires same-length same-length-2 same-length-3 returns)
+open-gradients-spec = tie.close (tie.spec (λ c κs. search needs) (λ c. search needs) (λ c. search needs) (λ c. search needs) returns)

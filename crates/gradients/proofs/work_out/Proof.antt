@@ -1,13 +1,14 @@
 -- `work_out` meets its contract.
-use mathlib.Core.Path.{_≡_, sym, ap, ap₂, _∙_}
+use mathlib.Core.Path.{_≡_, refl, sym, ap, ap₂, _∙_, subst}
 use mathlib.Core.List.{List}
 use lib.ListN.{length}
 use Rattle.lists.proofs.Arrays.{length-of-values}
 use Rattle.masks.specs.Presence.{stands}
 use Rattle.plan.specs.declared.Answer.the-variants.{Taken}
 use Rattle.plan.specs.Checks.{callAnswer}
+use Rattle.sets.specs.Regions.{setBytes}
 use Rattle.areas.specs.Sets.{planSets}
-use Rattle.gradients.specs.Step.{GradientSlices, gradientSlices, lentGradients, stepTo, planSlopes, whichOf, Room}
+use Rattle.gradients.specs.Step.{GradientSlices, gradientSlices, gradientsWritten, lentGradients, stepTo, planSlopes, whichOf, Room}
 use Rattle.gradients.proofs.Given.{sets-say, sets-alike, taken-room, step-taken, step-refused}
 use borrow.Author.Needs.{needs}
 use Rattle.gradients.proofs.work_out.Statement.{statement}
@@ -35,44 +36,28 @@ answered c = c .check-call .ensures ∙ ap₂ (callAnswer (entry c .args .plan))
 room : (c : tie.After-enum-told) → let s = entry (checked c) in Room (s .args .plan) (s .args .clipped) (given s)
 room c = let s = entry (checked c) in taken-room (s .args .clipped) (s .args .plan) (given s) (ten s) (sym (answered (checked c)) ∙ c .enum-told .given .1)
 
-lent-by-requires : tie.Need-lent-by-requires
-lent-by-requires c κs = search needs
-
-which-requires : tie.Need-which-requires
-which-requires c κs = search needs
-
-check-call-requires : tie.Need-check-call-requires
-check-call-requires c κs = search needs
-
 enum-told : tie.Need-enum-told
 enum-told c = search needs
 
-sets-of-requires : tie.Need-sets-of-requires
-sets-of-requires c κs = search needs
-
 write-gradients-requires : tie.Need-write-gradients-requires
-write-gradients-requires c κs = room (c .before .before .before .before .before)
-
-enum-known-answer : tie.Need-enum-known-answer
-enum-known-answer c = search needs
-
-same-length : tie.Need-same-length
-same-length c = search needs
-
-same-length-2 : tie.Need-same-length-2
-same-length-2 c = search needs
-
-same-length-3 : tie.Need-same-length-3
-same-length-3 c = search needs
+write-gradients-requires c κs =
+    let k = c .before .before .before .before .before .before .before in
+    let s = entry (checked (k .before)) in
+    let of = k .drawing-of .ensures in (
+      subst (λ b. Room (s .args .plan) b (given s)) (sym (of .boxed)) (room (k .before)),
+      record { boxed = refl; n = of .n; circles = of .circles; points = of .points; container = of .container },
+    )
 
 returns : tie.Need-returns
 returns c =
-    let w = c .before .before .before .before .before .before in let f = w .before .before .before .before .before in let t = f .before in
-    let s = entry (checked t) in let a = s .args in let p = a .plan in
+    let w = c .before .before .before .before .before .before in let f = w .before .before .before .before .before in let k = f .before .before .before in let t = k .before in
+    let s = entry (checked t) in let a = s .args in let p = a .plan in let of = k .drawing-of .ensures in let sets = f .discover-regions .result in
+    let found = f .discover-regions .ensures ∙ ap₂ setBytes (of .circles) (of .points) in
     let say = sets-say p (ten s) (room t .few) in
     ap (λ (l : GradientSlices). stepTo l Taken)
     (w .write-gradients .ensures
-    ∙ sets-alike p (λ q. stands (f .sets-of .result)) planSets (λ S h. ap (λ l. stands l S) (f .sets-of .ensures) ∙ say S h) (a .clipped) (given s))
+    ∙ ap (λ b. gradientsWritten (p .n) (planSlopes b (λ q. stands sets) p) (given s)) (of .boxed)
+    ∙ sets-alike p (λ q. stands sets) planSets (λ S h. ap (λ l. stands l S) found ∙ say S h) (a .clipped) (given s))
     ∙ step-taken (whichOf (a .clipped)) (planSlopes (a .clipped) planSets) p (given s) (sym (answered (checked t)) ∙ t .enum-told .given .1)
 
 returns-2 : tie.Need-returns-2
@@ -82,17 +67,6 @@ returns-2 c =
 
 pub work-out-spec : {M : Type 1} → statement M
 work-out-spec =
-    tie.close
-    (tie.spec
-    lent-by-requires
-    which-requires
-    check-call-requires
-    enum-told
-    sets-of-requires
-    write-gradients-requires
-    enum-known-answer
-    same-length
-    same-length-2
-    same-length-3
-    returns
+    tie.close (tie.spec (λ c κs. search needs) (λ c κs. search needs) (λ c κs. search needs) enum-told (λ c κs. search needs)
+    (λ c κs. search needs) write-gradients-requires (λ c. search needs) (λ c. search needs) (λ c. search needs) (λ c. search needs) returns
     returns-2)

@@ -9,10 +9,10 @@ use Rattle.masks.specs.Presence.{stands}
 use Rattle.geometry.specs.declared.circle.Circle.{Circle}
 use Rattle.geometry.specs.declared.rectangle.Rectangle.{Rectangle}
 use Rattle.intersections.specs.declared.points.IntersectionPoint.{IntersectionPoint}
-use Rattle.intersections.specs.Counted.{pointList}
 use Rattle.intersections.specs.Points.{collected}
 use Rattle.drawn.specs.Drawn.{planCircles, boxOf}
 use Rattle.diagram.specs.Rows.{Slopes}
+use Rattle.diagram.specs.Drawing.{pointsOf}
 use Rattle.diagram.specs.Diagram.{presenceLeftWith, areasLeft, gradientsLeft}
 use Rattle.gradients.specs.Step.{GradientSlices, gradientSlices, planSlopes}
 use Rattle.gradients.proofs.Given.{three, drawnBy, widthBy, width-is, plan-rows, left-is}
@@ -23,60 +23,21 @@ use Rattle.gradients.proofs.write_gradients.Tie as tie
 ten : (s : tie.Start) → length (s .args .plan .heads) ≡ 10
 ten s = search length-of-values
 
--- the first n circles are the plan's
-circles : (c : tie.After-circles-of) → let p = c .before .before .before .before .before .args .plan in take (p .n) (c .circles-of .result) ≡ planCircles p
-unfolding planCircles
-circles c = ap (take (c .before .before .before .before .before .args .plan .n)) (c .circles-of .ensures)
-
-circles-of-requires : tie.Need-circles-of-requires
-circles-of-requires c κs = search needs
-
-collect-intersections-requires : tie.Need-collect-intersections-requires
-collect-intersections-requires c κs = search needs
-
-box-of-requires : tie.Need-box-of-requires
-box-of-requires c κs = search needs
-
-exclusive-areas-and-gradients-of-requires : tie.Need-exclusive-areas-and-gradients-of-requires
-exclusive-areas-and-gradients-of-requires c κs = search needs
-
-same-length : tie.Need-same-length
-same-length c = search needs
-
-same-length-2 : tie.Need-same-length-2
-same-length-2 c = search needs
-
-same-length-3 : tie.Need-same-length-3
-same-length-3 c = search needs
-
 returns : tie.Need-returns
 returns c =
-    let w = c .before .before .before .before .before .before in let b = w .before .before .before .before in let m = b .before in
-    let k = m .before in let s = k .before .before .before .before .before in
-    let a = s .args in let p = a .plan in let room = s .pre in let sets = stands (a .sets .now) in let cs = circles k in let q = a .clipped in
-    let t = gradientSlices (a .presence .now) (a .exclusives .now) (a .gradients .now) in
-    let slopes = ap (λ (x : List Circle). drawnBy q x (pointList (m .collect-intersections .result)) (b .box-of .result) (widthBy q x) sets) cs
-    ∙ ap₂ (λ (y : List IntersectionPoint) (z : Rectangle). drawnBy q (planCircles p) y z (widthBy q (planCircles p)) sets)
-    (m .collect-intersections .ensures .0 ∙ ap collected cs) (b .box-of .ensures) in
+    let w = c .before .before .before .before .before .before in let s = w .before .before .before .before .before .before .before in
+    let a = s .args in let p = a .plan in let d = a .drawing in let room = s .pre .0 in let of = s .pre .1 in let sets = stands (a .sets .now) in
+    let q = d .boxed in let t = gradientSlices (a .presence .now) (a .exclusives .now) (a .gradients .now) in
+    let slopes = ap (λ (x : List Circle). drawnBy q x (pointsOf d) (d .container) (widthBy q x) sets) (of .circles)
+    ∙ ap₂ (λ (y : List IntersectionPoint) (z : Rectangle). drawnBy q (planCircles p) y z (widthBy q (planCircles p)) sets) (of .points) (of .container) in
     let e = w .exclusive-areas-and-gradients-of .ensures in
     three (e .1 .0) (e .1 .1 .0) (e .1 .1 .1)
-    ∙ ap (λ (g : Slopes). gradientSlices (presenceLeftWith (p .n) g (t .presence) (t .exclusives) (t .gradients)) (areasLeft (p .n) g (t .presence)
-    (t .exclusives) (t .gradients))
-    (gradientsLeft (p .n) g (t .presence) (t .exclusives) (t .gradients))) slopes
+    ∙ ap₂ (λ (n : ℕ) (g : Slopes). gradientSlices (presenceLeftWith n g (t .presence) (t .exclusives) (t .gradients)) (areasLeft n g (t .presence)
+    (t .exclusives) (t .gradients)) (gradientsLeft n g (t .presence) (t .exclusives) (t .gradients))) (of .n) slopes
     ∙ left-is (p .n) (drawnBy q (planCircles p) (collected (planCircles p)) (boxOf (p .ground)) (widthBy q (planCircles p)) sets) t (room .few)
     (room .bytes) (room .numbers)
     (subst (λ (m : ℕ). 2 ^ p .n * m ≤ length (t .gradients)) (sym (width-is p (ten s) (room .few) (λ S. false) q)) (room .slopes))
     ∙ plan-rows p (ten s) (room .few) sets q t
 
 pub write-gradients-spec : {M : Type 1} → statement M
-write-gradients-spec =
-    tie.close
-    (tie.spec
-    circles-of-requires
-    collect-intersections-requires
-    box-of-requires
-    exclusive-areas-and-gradients-of-requires
-    same-length
-    same-length-2
-    same-length-3
-    returns)
+write-gradients-spec = tie.close (tie.spec (λ c κs. search needs) (λ c. search needs) (λ c. search needs) (λ c. search needs) returns)

@@ -43,6 +43,4 @@ returns-2 c = let s = c .before in
     rw (widened (s .fits .a), widened (s .fits .b), toZ-ofZ (diff-fits (s .fits .a) (s .fits .b)))
 
 pub distance-along-spec : {M : Type 1} → statement M
-distance-along-spec =
-    tie.close
-    (tie.spec cast-d cast-d-2 sub-d sub-result cast-result returns cast-result-2 returns-2)
+distance-along-spec = tie.close (tie.spec cast-d cast-d-2 sub-d sub-result cast-result returns cast-result-2 returns-2)

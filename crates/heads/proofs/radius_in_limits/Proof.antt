@@ -5,11 +5,8 @@ use borrow.Author.Needs.{needs}
 use Rattle.heads.proofs.radius_in_limits.Statement.{statement}
 use Rattle.heads.proofs.radius_in_limits.Tie as tie
 
-lies-within-requires : tie.Need-lies-within-requires
-lies-within-requires c κs = search needs
-
 returns : tie.Need-returns
 returns c = c .lies-within .ensures ∙ simp (toZ-ofZ (c .before .fits .v))
 
 pub radius-in-limits-spec : {M : Type 1} → statement M
-radius-in-limits-spec = tie.close (tie.spec lies-within-requires returns)
+radius-in-limits-spec = tie.close (tie.spec (λ c κs. search needs) returns)

@@ -10,15 +10,6 @@ use borrow.Author.Needs.{needs}
 use Rattle.heads.proofs.relation_at.Statement.{statement}
 use Rattle.heads.proofs.relation_at.Tie as tie
 
-add-s : tie.Need-add-s
-add-s c = search needs
-
-radius-gap-requires : tie.Need-radius-gap-requires
-radius-gap-requires c κs = search needs
-
-below-square-requires : tie.Need-below-square-requires
-below-square-requires c κs = search needs
-
 -- the first test failed: d is not below t²
 not-below : (c : tie.Else1) → ltb (c .before .before .before .args .d) (c .before .before .radius-gap .result * c .before .before .radius-gap .result) ≡ false
 not-below c = sym (c .before .below-square .ensures) ∙ c .if1 .left
@@ -46,9 +37,6 @@ returns-3 c =
     let g = c .before .before .before .before in
     let s = g .before .args in
     inside (s .d) (s .r1) (s .r2) (g .radius-gap .result) (g .radius-gap .ensures) (c .before .if2 .taken) (c .if3 .left)
-
-below-square-requires-2 : tie.Need-below-square-requires-2
-below-square-requires-2 c κs = search needs
 
 returns-4 : tie.Need-returns-4
 returns-4 c =
@@ -79,17 +67,5 @@ returns-6 c =
 
 pub relation-at-spec : {M : Type 1} → statement M
 relation-at-spec =
-    tie.close
-    (tie.spec
-    add-s
-    radius-gap-requires
-    below-square-requires
-    returns
-    mul-if2
-    returns-2
-    returns-3
-    below-square-requires-2
-    returns-4
-    mul-if5
-    returns-5
-    returns-6)
+    tie.close (tie.spec (λ c. search needs) (λ c κs. search needs) (λ c κs. search needs) returns mul-if2 returns-2 returns-3
+    (λ c κs. search needs) returns-4 mul-if5 returns-5 returns-6)

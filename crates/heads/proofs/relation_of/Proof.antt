@@ -7,18 +7,6 @@ use borrow.Author.Needs.{needs}
 use Rattle.heads.proofs.relation_of.Statement.{statement}
 use Rattle.heads.proofs.relation_of.Tie as tie
 
-squared-distance-requires : tie.Need-squared-distance-requires
-squared-distance-requires c κs = search needs
-
-above-zero-requires : tie.Need-above-zero-requires
-above-zero-requires c κs = search needs
-
-above-zero-requires-2 : tie.Need-above-zero-requires-2
-above-zero-requires-2 c κs = search needs
-
-relation-at-requires : tie.Need-relation-at-requires
-relation-at-requires c κs = search needs
-
 returns : tie.Need-returns
 returns c = let s = c .before .before .before .before .before .before .args in
     let fa = c .before .before .before .before .struct-told .given .1 .1 .0 .1 in
@@ -30,11 +18,4 @@ returns c = let s = c .before .before .before .before .before .before .args in
     (relation-capped (squaredDistance (s .a) (s .b)) (radiusOf (s .a)) (radiusOf (s .b)) (aboveZero-lt (s .a .radius) fa) (aboveZero-lt (s .b .radius) fb))
 
 pub relation-of-spec : {M : Type 1} → statement M
-relation-of-spec =
-    tie.close
-    (tie.spec
-    squared-distance-requires
-    above-zero-requires
-    above-zero-requires-2
-    relation-at-requires
-    returns)
+relation-of-spec = tie.close (tie.spec (λ c κs. search needs) (λ c κs. search needs) (λ c κs. search needs) (λ c κs. search needs) returns)

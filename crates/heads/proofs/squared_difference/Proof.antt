@@ -10,9 +10,6 @@ use borrow.Author.Needs.{needs}
 use Rattle.heads.proofs.squared_difference.Statement.{statement}
 use Rattle.heads.proofs.squared_difference.Tie as tie
 
-distance-along-requires : tie.Need-distance-along-requires
-distance-along-requires c κs = search needs
-
 -- what the call gives, of the numbers themselves
 distance : (c : tie.After-distance-along) → c .distance-along .result ≡ natAbs (c .before .args .a -ℤ c .before .args .b)
 distance c = c .distance-along .ensures ∙ simp (toZ-ofZ (c .before .fits .a), toZ-ofZ (c .before .fits .b))
@@ -26,4 +23,4 @@ returns : tie.Need-returns
 returns c = ap (λ (n : ℕ). n * n) (distance c)
 
 pub squared-difference-spec : {M : Type 1} → statement M
-squared-difference-spec = tie.close (tie.spec distance-along-requires mul-result returns)
+squared-difference-spec = tie.close (tie.spec (λ c κs. search needs) mul-result returns)

@@ -7,15 +7,6 @@ use borrow.Author.Needs.{needs}
 use Rattle.heads.proofs.squared_distance.Statement.{statement}
 use Rattle.heads.proofs.squared_distance.Tie as tie
 
-squared-difference-requires : tie.Need-squared-difference-requires
-squared-difference-requires c κs = search needs
-
-squared-difference-requires-2 : tie.Need-squared-difference-requires-2
-squared-difference-requires-2 c κs = search needs
-
-capped-sum-requires : tie.Need-capped-sum-requires
-capped-sum-requires c κs = search needs
-
 returns : tie.Need-returns
 returns c =
     let m = c .before .before .before .before in
@@ -30,10 +21,4 @@ returns c =
     c .capped-sum .ensures ∙ ap₂ (λ (p q : ℕ). min (p + q) greatest) dx dy
 
 pub squared-distance-spec : {M : Type 1} → statement M
-squared-distance-spec =
-    tie.close
-    (tie.spec
-    squared-difference-requires
-    squared-difference-requires-2
-    capped-sum-requires
-    returns)
+squared-distance-spec = tie.close (tie.spec (λ c κs. search needs) (λ c κs. search needs) (λ c κs. search needs) returns)

@@ -10,57 +10,8 @@ Inv-loop words₀ counts₀ bytes r₀ plan₀ i₀ i-end words counts r plan i 
 abbrev μ-loop : tie.MeasureT-loop
 μ-loop words₀ counts₀ bytes r₀ plan₀ i₀ i-end words counts r plan i = i-end - i
 
-loop-holds : tie.Need-loop-holds Inv-loop μ-loop
-loop-holds c = search needs
-
-shared-slice-read-b : tie.Need-shared-slice-read-b Inv-loop μ-loop
-shared-slice-read-b c = search needs
-
-element-copy-out-letter : tie.Need-element-copy-out-letter Inv-loop μ-loop
-element-copy-out-letter c = search needs
-
-letter-requires : tie.Need-letter-requires Inv-loop μ-loop
-letter-requires c κs = search needs
-
-count-requires : tie.Need-count-requires Inv-loop μ-loop
-count-requires c κs = search needs
-
-after-requires : tie.Need-after-requires Inv-loop μ-loop
-after-requires c κs = search needs
-
-line-ended-requires : tie.Need-line-ended-requires Inv-loop μ-loop
-line-ended-requires c κs = search needs
-
-fed-requires : tie.Need-fed-requires Inv-loop μ-loop
-fed-requires c κs = search needs
-
-add-i : tie.Need-add-i Inv-loop μ-loop
-add-i c = search needs
-
-loop-less : tie.Need-loop-less Inv-loop μ-loop
-loop-less c = search needs
-
-loop-again : tie.Need-loop-again Inv-loop μ-loop
-loop-again c = search needs
-
-returns : tie.Need-returns Inv-loop μ-loop
-returns c = search needs
-
 pub fed-all-spec : {M : Type 1} → statement M
 fed-all-spec =
-    tie.close
-    (tie.spec
-    Inv-loop
-    μ-loop
-    loop-holds
-    shared-slice-read-b
-    element-copy-out-letter
-    letter-requires
-    count-requires
-    after-requires
-    line-ended-requires
-    fed-requires
-    add-i
-    loop-less
-    loop-again
-    returns)
+    tie.close (tie.spec Inv-loop μ-loop (λ c. search needs) (λ c. search needs) (λ c. search needs) (λ c κs. search needs)
+    (λ c κs. search needs) (λ c κs. search needs) (λ c κs. search needs) (λ c κs. search needs) (λ c. search needs) (λ c. search needs)
+    (λ c. search needs) (λ c. search needs))

@@ -6,6 +6,7 @@ use borrow.Author.Tests.{le-ltb, lt-ltb}
 use lib.ListN.{length, length-take}
 use Rattle.intersections.specs.Counted.{circleList}
 use Rattle.boundary.specs.Counted.{angleList}
+use Rattle.boundary.specs.Gaps.{gapArc}
 use Rattle.boundary.proofs.Gaps.{next-below, gap-arc}
 use borrow.Author.Needs.{needs}
 use Rattle.boundary.proofs.candidates.arc_from.Statement.{statement}
@@ -22,17 +23,10 @@ few c = let l = c .before .args .t3 in omega (arith, c .count .ensures, length-t
 next : (c : tie.Else1) → (c .before .before .args .i + 1) % c .before .count .result < c .before .count .result
 next c = next-below (c .before .before .args .i) (c .before .count .result) (c .if1 .left)
 
-count-requires : tie.Need-count-requires
-count-requires c κs = search needs
-
 returns : tie.Need-returns
-returns c = let a = c .before .before .args in rw (le-ltb (a .i) (length (angleList (a .t3))) (omega (arith, c .before .count .ensures)))
-
-add-next : tie.Need-add-next
-add-next c = search needs
-
-rem-next : tie.Need-rem-next
-rem-next c = search needs
+unfolding gapArc
+returns c = let n = c .before .before in let a = n .before .args in
+    rw (le-ltb (a .i) (length (angleList (a .t3))) (omega (arith, n .count .ensures))) (c .whole-circle .ensures)
 
 mul-phi-a : tie.Need-mul-phi-a
 mul-phi-a c = omega (arith, few (c .before))
@@ -46,31 +40,21 @@ mul-phi-b c = omega (arith, few (c .before .before), next (c .before))
 element-copy-out-phi-b : tie.Need-element-copy-out-phi-b
 element-copy-out-phi-b c = omega (arith, few (c .before .before), next (c .before))
 
-gap-requires : tie.Need-gap-requires
-gap-requires c κs = search needs
-
-collapsed-requires : tie.Need-collapsed-requires
-collapsed-requires c κs = search needs
-
 returns-2 : tie.Need-returns-2
-returns-2 c = let e = c .before .before .before .before .before in let s = e .before .before in let a = s .args in let n = e .before .count in
+unfolding gapArc
+returns-2 c =
+    let d = c .before .before in let e = d .before .before .before .before in let s = e .before .before in let a = s .args in
+    let n = e .before .count in
     rw (
       lt-ltb (a .i) (length (angleList (a .t3))) (omega (arith, n .ensures)),
       gap-arc (circleList (a .set)) (a .k) (a .circle) (a .t3 .phi) (a .t3 .n) (n .result) (a .i) (n .ensures) (e .if1 .left),
-      ← (c .before .before .gap .ensures),
-      sym (c .before .collapsed .ensures) ∙ c .if2 .taken,
+      ← (d .before .gap .ensures),
+      sym (d .collapsed .ensures) ∙ c .before .if2 .taken,
     )
-
-point-at-requires : tie.Need-point-at-requires
-point-at-requires c κs = search needs
-
-owned-requires : tie.Need-owned-requires
-owned-requires c κs = search needs
-
-between-requires : tie.Need-between-requires
-between-requires c κs = search needs
+    (c .no-arc .ensures)
 
 returns-3 : tie.Need-returns-3
+unfolding gapArc
 returns-3 c =
     let d = c .before .before .before .before in let e = d .before .before .before .before .before in let s = e .before .before in let a = s .args in
     let n = e .before .count in
@@ -85,35 +69,23 @@ returns-3 c =
     )
 
 returns-4 : tie.Need-returns-4
+unfolding gapArc
 returns-4 c =
-    let d = c .before .before .before in let e = d .before .before .before .before .before in let s = e .before .before in let a = s .args in
+    let o = c .before in let d = o .before .before .before in let e = d .before .before .before .before .before in let s = e .before .before in
+    let a = s .args in
     let n = e .before .count in
     rw (
       lt-ltb (a .i) (length (angleList (a .t3))) (omega (arith, n .ensures)),
       gap-arc (circleList (a .set)) (a .k) (a .circle) (a .t3 .phi) (a .t3 .n) (n .result) (a .i) (n .ensures) (e .if1 .left),
       ← (d .before .before .gap .ensures),
       sym (d .before .collapsed .ensures) ∙ d .if2 .left,
-      ← (c .before .before .point-at .ensures),
-      sym (c .before .owned .ensures) ∙ c .if3 .left,
+      ← (o .before .before .point-at .ensures),
+      sym (o .before .owned .ensures) ∙ o .if3 .left,
     )
+    (c .no-arc2 .ensures)
 
 pub arc-from-spec : {M : Type 1} → statement M
 arc-from-spec =
-    tie.close
-    (tie.spec
-    count-requires
-    returns
-    add-next
-    rem-next
-    mul-phi-a
-    element-copy-out-phi-a
-    mul-phi-b
-    element-copy-out-phi-b
-    gap-requires
-    collapsed-requires
-    returns-2
-    point-at-requires
-    owned-requires
-    between-requires
-    returns-3
-    returns-4)
+    tie.close (tie.spec (λ c κs. search needs) (λ c κs. search needs) returns (λ c. search needs) (λ c. search needs) mul-phi-a
+    element-copy-out-phi-a mul-phi-b element-copy-out-phi-b (λ c κs. search needs) (λ c κs. search needs) (λ c κs. search needs) returns-2
+    (λ c κs. search needs) (λ c κs. search needs) (λ c κs. search needs) returns-3 (λ c κs. search needs) returns-4)

@@ -44,9 +44,6 @@ mul-lets c = omega arith
 element-copy-out-lets : tie.Need-element-copy-out-lets Inv-loop μ-loop
 element-copy-out-lets c = omega arith
 
-lets-requires : tie.Need-lets-requires Inv-loop μ-loop
-lets-requires c κs = search needs
-
 returns-2 : tie.Need-returns-2 Inv-loop μ-loop
 returns-2 c = let d = c .before .before .before .before .before in let a = d .before .args in
     let below : d .loop .l < a .t3 .n = omega arith in
@@ -80,17 +77,5 @@ returns-3 c = let d = c .before in let a = d .before .args in
 
 pub owned-spec : {M : Type 1} → statement M
 owned-spec =
-    tie.close
-    (tie.spec
-    Inv-loop
-    μ-loop
-    loop-holds
-    returns
-    mul-lets
-    element-copy-out-lets
-    lets-requires
-    returns-2
-    add-l
-    loop-less
-    loop-again
-    returns-3)
+    tie.close (tie.spec Inv-loop μ-loop loop-holds returns mul-lets element-copy-out-lets (λ c κs. search needs) returns-2 add-l loop-less
+    loop-again returns-3)

@@ -11,13 +11,13 @@ use Rattle.clip.proofs.area.arcs_sum.Statement.{statement}
 use Rattle.clip.proofs.area.arcs_sum.Tie as tie
 
 abbrev Inv-loop : tie.InvT-loop
-Inv-loop bounds circles n-sets arcs n total₀ i₀ total i = ArcsTo (addClippedArc bounds (take n-sets circles)) zero64 arcs n i total
+Inv-loop bounds circles n-sets arcs n total₀ i₀ total i = ArcsTo (addClippedArc bounds (take n-sets circles)) zero64 (arcs .all) 320 (arcs .n) n i total
 
 abbrev μ-loop : tie.MeasureT-loop
-μ-loop bounds circles n-sets arcs n total₀ i₀ total i = 180 - i
+μ-loop bounds circles n-sets arcs n total₀ i₀ total i = 320 - i
 
 loop-holds : tie.Need-loop-holds Inv-loop μ-loop
-loop-holds c = record { places = search length-of-values; count = refl; most = omega arith; within = omega arith; sum = refl }
+loop-holds c = record { long = search length-of-values; count = refl; most = omega arith; within = omega arith; sum = refl }
 
 returns : tie.Need-returns Inv-loop μ-loop
 returns c = arcs-by-count (c .before .before .loop .inv) (omega arith)
@@ -45,16 +45,5 @@ returns-2 c = arcs-by-room (c .before .loop .inv) (omega arith)
 
 pub arcs-sum-spec : {M : Type 1} → statement M
 arcs-sum-spec =
-    tie.close
-    (tie.spec
-    Inv-loop
-    μ-loop
-    loop-holds
-    returns
-    mul-add-clipped-arc
-    element-copy-out-add-clipped-arc
-    add-clipped-arc-requires
-    add-i
-    loop-less
-    loop-again
-    returns-2)
+    tie.close (tie.spec Inv-loop μ-loop loop-holds returns mul-add-clipped-arc element-copy-out-add-clipped-arc add-clipped-arc-requires
+    add-i loop-less loop-again returns-2)

@@ -8,26 +8,26 @@ use lib.ListN.{length, take}
 use Rattle.binary64.specs.Constants.{zero64}
 use Rattle.geometry.specs.declared.bounds.Bounds.{Bounds}
 use Rattle.geometry.specs.declared.circle.Circle.{Circle}
-use Rattle.boundary.specs.declared.arcs.Arcs.{Arcs}
+use Rattle.boundary.specs.declared.arcs.Outline.{Outline}
 use Rattle.lists.proofs.Arrays.{length-of-values}
 use Rattle.outline.proofs.Walking.{ArcsTo, arcs-next, arcs-by-count, arcs-by-room}
 use Rattle.clip.specs.Gradient.{with-gradient, addClippedArcWithGradient}
 use Rattle.clip.proofs.gradient.arcs_sum_with_gradient.Statement.{statement}
 use Rattle.clip.proofs.gradient.arcs_sum_with_gradient.Tie as tie
 
-record Added (box : Bounds) (cs : List Circle) (grad₀ : List Float) (arcs : Arcs) (n i : ℕ) (total : Float) (grad : List Float) : Type 0 where
+record Added (box : Bounds) (cs : List Circle) (grad₀ : List Float) (arcs : Outline) (n i : ℕ) (total : Float) (grad : List Float) : Type 0 where
   same : length grad ≡ length grad₀
-  added : ArcsTo (addClippedArcWithGradient box cs) (with-gradient zero64 grad₀) arcs n i (with-gradient total grad)
+  added : ArcsTo (addClippedArcWithGradient box cs) (with-gradient zero64 grad₀) (arcs .all) 320 (arcs .n) n i (with-gradient total grad)
 
 abbrev Inv-loop : tie.InvT-loop
 Inv-loop bounds circles n-sets grad₀ arcs n total₀ i₀ grad total i = Added bounds (take n-sets circles) grad₀ arcs n i total grad
 
 abbrev μ-loop : tie.MeasureT-loop
-μ-loop bounds circles n-sets grad₀ arcs n total₀ i₀ grad total i = 180 - i
+μ-loop bounds circles n-sets grad₀ arcs n total₀ i₀ grad total i = 320 - i
 
 loop-holds : tie.Need-loop-holds Inv-loop μ-loop
 loop-holds c =
-    record { same = refl; added = record { places = search length-of-values; count = refl; most = omega arith; within = omega arith; sum = refl } }
+    record { same = refl; added = record { long = search length-of-values; count = refl; most = omega arith; within = omega arith; sum = refl } }
 
 same-length : tie.Need-same-length Inv-loop μ-loop
 same-length c = c .before .before .loop .inv .same
@@ -66,18 +66,6 @@ returns-2 c = arcs-by-room (c .before .loop .inv .added) (omega arith)
 
 pub arcs-sum-with-gradient-spec : {M : Type 1} → statement M
 arcs-sum-with-gradient-spec =
-    tie.close
-    (tie.spec
-    Inv-loop
-    μ-loop
-    loop-holds
-    same-length
-    returns
-    mul-add-clipped-arc-with-gradient
-    element-copy-out-add-clipped-arc-with-gradient
-    add-clipped-arc-with-gradient-requires
-    add-i
-    loop-less
-    loop-again
-    same-length-2
+    tie.close (tie.spec Inv-loop μ-loop loop-holds same-length returns mul-add-clipped-arc-with-gradient
+    element-copy-out-add-clipped-arc-with-gradient add-clipped-arc-with-gradient-requires add-i loop-less loop-again same-length-2
     returns-2)

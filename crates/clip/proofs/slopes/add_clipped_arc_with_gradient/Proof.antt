@@ -25,18 +25,9 @@ returns-2 c = let s = c .before .before .before in
     let a = s .args in
     rw (le-ltb (a .arc .circle) (length (take (a .n) (a .t4))) (omega (arith, length-take (a .n) (a .t4), long s)))
 
-mul-arc-integral-with-gradient : tie.Need-mul-arc-integral-with-gradient
-mul-arc-integral-with-gradient c = search needs
-
 array-copy-out-arc-integral-with-gradient :
     tie.Need-array-copy-out-arc-integral-with-gradient
 array-copy-out-arc-integral-with-gradient c = search needs
-
-arc-integral-with-gradient-requires : tie.Need-arc-integral-with-gradient-requires
-arc-integral-with-gradient-requires c κs = search needs
-
-same-length : tie.Need-same-length
-same-length c = search needs
 
 returns-3 : tie.Need-returns-3
 unfolding addClippedArcWithGradient
@@ -52,12 +43,5 @@ returns-3 c = let p = c .before .before in
 
 pub add-clipped-arc-with-gradient-spec : {M : Type 1} → statement M
 add-clipped-arc-with-gradient-spec =
-    tie.close
-    (tie.spec
-    returns
-    returns-2
-    mul-arc-integral-with-gradient
-    array-copy-out-arc-integral-with-gradient
-    arc-integral-with-gradient-requires
-    same-length
-    returns-3)
+    tie.close (tie.spec returns returns-2 (λ c. search needs) array-copy-out-arc-integral-with-gradient (λ c κs. search needs)
+    (λ c. search needs) returns-3)

@@ -36,15 +36,6 @@ Inv-loop c bounds grad₀ phi-a off breaks n sum₀ i₀ grad sum i = Summed bou
 abbrev μ-loop : tie.MeasureT-loop
 μ-loop c bounds grad₀ phi-a off breaks n sum₀ i₀ grad sum i = n - i
 
-mul-off : tie.Need-mul-off Inv-loop μ-loop
-mul-off c = search needs
-
-breaks-between-requires : tie.Need-breaks-between-requires Inv-loop μ-loop
-breaks-between-requires c κs = search needs
-
-count-requires : tie.Need-count-requires Inv-loop μ-loop
-count-requires c κs = search needs
-
 loop-holds : tie.Need-loop-holds Inv-loop μ-loop
 loop-holds c = let list = c .before .breaks-between .result in
     let long : length (list .phi) ≡ 32 = search needs in
@@ -58,34 +49,13 @@ loop-holds c = let list = c .before .breaks-between .result in
       rest = refl;
     }
 
-add-loop : tie.Need-add-loop Inv-loop μ-loop
-add-loop c = search needs
-
-mul-add-part-with-gradient : tie.Need-mul-add-part-with-gradient Inv-loop μ-loop
-mul-add-part-with-gradient c = search needs
-
 element-copy-out-add-part-with-gradient :
     tie.Need-element-copy-out-add-part-with-gradient Inv-loop μ-loop
 element-copy-out-add-part-with-gradient c = search needs
 
-add-add-part-with-gradient : tie.Need-add-add-part-with-gradient Inv-loop μ-loop
-add-add-part-with-gradient c = search needs
-
-mul-add-part-with-gradient-2 : tie.Need-mul-add-part-with-gradient-2 Inv-loop μ-loop
-mul-add-part-with-gradient-2 c = search needs
-
 element-copy-out-add-part-with-gradient-2 :
     tie.Need-element-copy-out-add-part-with-gradient-2 Inv-loop μ-loop
 element-copy-out-add-part-with-gradient-2 c = search needs
-
-add-part-with-gradient-requires : tie.Need-add-part-with-gradient-requires Inv-loop μ-loop
-add-part-with-gradient-requires c κs = search needs
-
-add-i : tie.Need-add-i Inv-loop μ-loop
-add-i c = search needs
-
-loop-less : tie.Need-loop-less Inv-loop μ-loop
-loop-less c = search needs
 
 loop-again : tie.Need-loop-again Inv-loop μ-loop
 loop-again c = let p = c .before .before in
@@ -125,23 +95,7 @@ returns c = let l = c .before .loop in
 
 pub arc-integral-with-gradient-spec : {M : Type 1} → statement M
 arc-integral-with-gradient-spec =
-    tie.close
-    (tie.spec
-    Inv-loop
-    μ-loop
-    mul-off
-    breaks-between-requires
-    count-requires
-    loop-holds
-    add-loop
-    mul-add-part-with-gradient
-    element-copy-out-add-part-with-gradient
-    add-add-part-with-gradient
-    mul-add-part-with-gradient-2
-    element-copy-out-add-part-with-gradient-2
-    add-part-with-gradient-requires
-    add-i
-    loop-less
-    loop-again
-    same-length
+    tie.close (tie.spec Inv-loop μ-loop (λ c. search needs) (λ c κs. search needs) (λ c κs. search needs) loop-holds (λ c. search needs)
+    (λ c. search needs) element-copy-out-add-part-with-gradient (λ c. search needs) (λ c. search needs)
+    element-copy-out-add-part-with-gradient-2 (λ c κs. search needs) (λ c. search needs) (λ c. search needs) loop-again same-length
     returns)

@@ -12,18 +12,9 @@ use borrow.Author.Needs.{needs}
 use Rattle.diagram.proofs.drawing.set_with_gradient.Statement.{statement}
 use Rattle.diagram.proofs.drawing.set_with_gradient.Tie as tie
 
-region-boundary-arcs-requires : tie.Need-region-boundary-arcs-requires
-region-boundary-arcs-requires c κs = search needs
-
-bounds-requires : tie.Need-bounds-requires
-bounds-requires c κs = search needs
-
 area-and-gradient-from-clipped-arcs-requires :
     tie.Need-area-and-gradient-from-clipped-arcs-requires
 area-and-gradient-from-clipped-arcs-requires c κs = search needs
-
-same-length : tie.Need-same-length
-same-length c = search needs
 
 returns : tie.Need-returns
 returns c =
@@ -33,15 +24,6 @@ returns c =
     (w .area-and-gradient-from-clipped-arcs .ensures
     ∙ ap₂ (λ (box : Bounds) (arcs : List BoundaryArc). clippedWithGradient box cs (map (circleAt cs) (headsOf (length cs) (a .mask))) arcs (a .grad .now))
     (b .bounds .ensures) (r .region-boundary-arcs .ensures .0))
-
-accumulate-region-overlap-gradient-requires : tie.Need-accumulate-region-overlap-gradient-requires
-accumulate-region-overlap-gradient-requires c κs = search needs
-
-area-from-boundary-arcs-requires : tie.Need-area-from-boundary-arcs-requires
-area-from-boundary-arcs-requires c κs = search needs
-
-same-length-2 : tie.Need-same-length-2
-same-length-2 c = search needs
 
 returns-2 : tie.Need-returns-2
 returns-2 c =
@@ -54,14 +36,5 @@ returns-2 c =
 
 pub set-with-gradient-spec : {M : Type 1} → statement M
 set-with-gradient-spec =
-    tie.close
-    (tie.spec
-    region-boundary-arcs-requires
-    bounds-requires
-    area-and-gradient-from-clipped-arcs-requires
-    same-length
-    returns
-    accumulate-region-overlap-gradient-requires
-    area-from-boundary-arcs-requires
-    same-length-2
-    returns-2)
+    tie.close (tie.spec (λ c κs. search needs) (λ c κs. search needs) area-and-gradient-from-clipped-arcs-requires (λ c. search needs)
+    returns (λ c κs. search needs) (λ c κs. search needs) (λ c. search needs) returns-2)

@@ -18,9 +18,6 @@ heads c =
     let d = c .before .args .drawing in
     c .at-most-ten .ensures ∙ sym (length-take (d .n) (d .circles) ∙ ap (min (d .n)) (ten (c .before)))
 
-at-most-ten-requires : tie.Need-at-most-ten-requires
-at-most-ten-requires c κs = search needs
-
 mul-result : tie.Need-mul-result
 mul-result c = omega (arith, c .before .at-most-ten .ensures)
 
@@ -37,5 +34,4 @@ returns-2 : tie.Need-returns-2
 returns-2 c = rw (c .if1 .left) (ap (λ (m : ℕ). 3 * m) (heads (c .before)))
 
 pub width-of-spec : {M : Type 1} → statement M
-width-of-spec =
-    tie.close (tie.spec at-most-ten-requires mul-result add-result returns mul-result-2 returns-2)
+width-of-spec = tie.close (tie.spec (λ c κs. search needs) mul-result add-result returns mul-result-2 returns-2)

@@ -13,24 +13,6 @@ use borrow.Author.Needs.{needs}
 use Rattle.diagram.proofs.exclusives.compute_exclusive_regions.Statement.{statement}
 use Rattle.diagram.proofs.exclusives.compute_exclusive_regions.Tie as tie
 
-collect-intersections-requires : tie.Need-collect-intersections-requires
-collect-intersections-requires c κs = search needs
-
-discover-regions-requires : tie.Need-discover-regions-requires
-discover-regions-requires c κs = search needs
-
-no-box-requires : tie.Need-no-box-requires
-no-box-requires c κs = search needs
-
-exclusive-areas-of-requires : tie.Need-exclusive-areas-of-requires
-exclusive-areas-of-requires c κs = search needs
-
-same-length : tie.Need-same-length
-same-length c = search needs
-
-same-length-2 : tie.Need-same-length-2
-same-length-2 c = search needs
-
 returns : tie.Need-returns
 returns c =
     let w = c .before .before .before .before in let f = w .before .before .before .before .before in let p = f .before in
@@ -47,12 +29,5 @@ returns c =
 
 pub compute-exclusive-regions-spec : {M : Type 1} → statement M
 compute-exclusive-regions-spec =
-    tie.close
-    (tie.spec
-    collect-intersections-requires
-    discover-regions-requires
-    no-box-requires
-    exclusive-areas-of-requires
-    same-length
-    same-length-2
-    returns)
+    tie.close (tie.spec (λ c κs. search needs) (λ c κs. search needs) (λ c κs. search needs) (λ c κs. search needs) (λ c. search needs)
+    (λ c. search needs) returns)

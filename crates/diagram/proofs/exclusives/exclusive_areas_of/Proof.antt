@@ -20,23 +20,11 @@ answered : (c : tie.After-rows-answer)
     c .rows-answer .result ≡ rowsAnswer (a .drawing .n) (min (length (a .presence .now)) (length (a .exclusives .now)))
 answered c = let a = c .before .before .before .before .args in c .rows-answer .ensures ∙ ap (rowsAnswer (a .drawing .n)) (c .before .shorter .ensures)
 
-shorter-requires : tie.Need-shorter-requires
-shorter-requires c κs = search needs
-
-rows-answer-requires : tie.Need-rows-answer-requires
-rows-answer-requires c κs = search needs
-
 write-exclusives-requires : tie.Need-write-exclusives-requires
 write-exclusives-requires c κs =
     let t = c .before .before in let r = t .before in let a = r .before .before .before .before .args in
     let z = taken (a .drawing .n) (min (length (a .presence .now)) (length (a .exclusives .now))) (sym (answered r) ∙ t .if1 .taken) in
     (z .0, omega (arith, z .1), omega (arith, z .1))
-
-same-length : tie.Need-same-length
-same-length c = search needs
-
-same-length-2 : tie.Need-same-length-2
-same-length-2 c = search needs
 
 returns : tie.Need-returns
 returns c =
@@ -64,12 +52,5 @@ returns-2 c =
 
 pub exclusive-areas-of-spec : {M : Type 1} → statement M
 exclusive-areas-of-spec =
-    tie.close
-    (tie.spec
-    shorter-requires
-    rows-answer-requires
-    write-exclusives-requires
-    same-length
-    same-length-2
-    returns
-    returns-2)
+    tie.close (tie.spec (λ c κs. search needs) (λ c κs. search needs) write-exclusives-requires (λ c. search needs) (λ c. search needs)
+    returns returns-2)

@@ -15,27 +15,6 @@ use Rattle.diagram.proofs.gradients.compute_exclusive_regions_with_grad
 }
 use Rattle.diagram.proofs.gradients.compute_exclusive_regions_with_gradient_circles.Tie as tie
 
-collect-intersections-requires : tie.Need-collect-intersections-requires
-collect-intersections-requires c κs = search needs
-
-discover-regions-requires : tie.Need-discover-regions-requires
-discover-regions-requires c κs = search needs
-
-no-box-requires : tie.Need-no-box-requires
-no-box-requires c κs = search needs
-
-exclusive-areas-and-gradients-of-requires : tie.Need-exclusive-areas-and-gradients-of-requires
-exclusive-areas-and-gradients-of-requires c κs = search needs
-
-same-length : tie.Need-same-length
-same-length c = search needs
-
-same-length-2 : tie.Need-same-length-2
-same-length-2 c = search needs
-
-same-length-3 : tie.Need-same-length-3
-same-length-3 c = search needs
-
 returns : tie.Need-returns
 returns c =
     let w = c .before .before .before .before .before .before in let f = w .before .before .before .before .before .before in let p = f .before in
@@ -55,13 +34,5 @@ returns c =
 
 pub compute-exclusive-regions-with-gradient-circles-spec : {M : Type 1} → statement M
 compute-exclusive-regions-with-gradient-circles-spec =
-    tie.close
-    (tie.spec
-    collect-intersections-requires
-    discover-regions-requires
-    no-box-requires
-    exclusive-areas-and-gradients-of-requires
-    same-length
-    same-length-2
-    same-length-3
-    returns)
+    tie.close (tie.spec (λ c κs. search needs) (λ c κs. search needs) (λ c κs. search needs) (λ c κs. search needs) (λ c. search needs)
+    (λ c. search needs) (λ c. search needs) returns)

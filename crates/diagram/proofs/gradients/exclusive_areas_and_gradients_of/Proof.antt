@@ -28,15 +28,6 @@ answered c =
     ∙ ap₂ (λ (rows width : ℕ). widthAnswer (a .drawing .n) width rows (length (a .gradients .now))) (c .before .before .shorter .ensures)
     (c .before .width-of .ensures)
 
-shorter-requires : tie.Need-shorter-requires
-shorter-requires c κs = search needs
-
-width-of-requires : tie.Need-width-of-requires
-width-of-requires c κs = search needs
-
-width-answer-requires : tie.Need-width-answer-requires
-width-answer-requires c κs = search needs
-
 write-exclusives-with-gradients-requires : tie.Need-write-exclusives-with-gradients-requires
 write-exclusives-with-gradients-requires c κs =
     let t = c .before .before .before in let r = t .before in let a = r .before .before .before .before .before .before .args in let w = r .before .width-of in
@@ -44,15 +35,6 @@ write-exclusives-with-gradients-requires c κs =
     (sym (answered r) ∙ t .if1 .taken) in
     let e = ap (λ (m : ℕ). 2 ^ a .drawing .n * m) (w .ensures) in
     (z .0, omega (arith, z .1), omega (arith, z .1), omega (arith, z .2, e))
-
-same-length : tie.Need-same-length
-same-length c = search needs
-
-same-length-2 : tie.Need-same-length-2
-same-length-2 c = search needs
-
-same-length-3 : tie.Need-same-length-3
-same-length-3 c = search needs
 
 returns : tie.Need-returns
 returns c =
@@ -92,14 +74,5 @@ returns-2 c =
 
 pub exclusive-areas-and-gradients-of-spec : {M : Type 1} → statement M
 exclusive-areas-and-gradients-of-spec =
-    tie.close
-    (tie.spec
-    shorter-requires
-    width-of-requires
-    width-answer-requires
-    write-exclusives-with-gradients-requires
-    same-length
-    same-length-2
-    same-length-3
-    returns
-    returns-2)
+    tie.close (tie.spec (λ c κs. search needs) (λ c κs. search needs) (λ c κs. search needs) write-exclusives-with-gradients-requires
+    (λ c. search needs) (λ c. search needs) (λ c. search needs) returns returns-2)

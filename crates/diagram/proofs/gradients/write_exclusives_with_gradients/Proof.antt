@@ -26,18 +26,6 @@ write-rows-with-gradients-requires c κs =
     let all = ap (λ (m : ℕ). m * w) e in
     (omega (arith, e, masks-le n (p .0)), omega (arith, e, p .1), omega (arith, e, p .2), omega (arith, all, p .3))
 
-to-exclusive-areas-and-gradients-requires : tie.Need-to-exclusive-areas-and-gradients-requires
-to-exclusive-areas-and-gradients-requires c κs = search needs
-
-same-length : tie.Need-same-length
-same-length c = search needs
-
-same-length-2 : tie.Need-same-length-2
-same-length-2 c = search needs
-
-same-length-3 : tie.Need-same-length-3
-same-length-3 c = search needs
-
 returns : tie.Need-returns
 returns c =
     let x = c .before .before .before .before in let w = x .before .before .before .before .before .before .before .before .before .before in
@@ -53,12 +41,5 @@ returns c =
 
 pub write-exclusives-with-gradients-spec : {M : Type 1} → statement M
 write-exclusives-with-gradients-spec =
-    tie.close
-    (tie.spec
-    shl-write-rows-with-gradients
-    write-rows-with-gradients-requires
-    to-exclusive-areas-and-gradients-requires
-    same-length
-    same-length-2
-    same-length-3
-    returns)
+    tie.close (tie.spec shl-write-rows-with-gradients write-rows-with-gradients-requires (λ c κs. search needs) (λ c. search needs)
+    (λ c. search needs) (λ c. search needs) returns)

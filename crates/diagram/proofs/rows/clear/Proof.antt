@@ -25,9 +25,6 @@ loop-holds c = let a = c .args in (omega arith, refl, written-none (λ k. zero64
 mul-numbers : tie.Need-mul-numbers Inv-loop μ-loop
 mul-numbers c = omega (arith, c .before .loop .inv .1)
 
-slice-write-numbers : tie.Need-slice-write-numbers Inv-loop μ-loop
-slice-write-numbers c = search needs
-
 add-i : tie.Need-add-i Inv-loop μ-loop
 add-i c = omega (arith, c .before .loop .inv .1)
 
@@ -53,16 +50,4 @@ returns c =
     ∙ tab-alike zero64 (length (a .numbers .now))
 
 pub clear-spec : {M : Type 1} → statement M
-clear-spec =
-    tie.close
-    (tie.spec
-    Inv-loop
-    μ-loop
-    loop-holds
-    mul-numbers
-    slice-write-numbers
-    add-i
-    loop-less
-    loop-again
-    same-length
-    returns)
+clear-spec = tie.close (tie.spec Inv-loop μ-loop loop-holds mul-numbers (λ c. search needs) add-i loop-less loop-again same-length returns)

@@ -6,20 +6,8 @@ use borrow.Author.Needs.{needs}
 use Rattle.diagram.proofs.rows.put_at.Statement.{statement}
 use Rattle.diagram.proofs.rows.put_at.Tie as tie
 
-mul-numbers : tie.Need-mul-numbers
-mul-numbers c = search needs
-
-slice-write-numbers : tie.Need-slice-write-numbers
-slice-write-numbers c = search needs
-
-same-length : tie.Need-same-length
-same-length c = search needs
-
-returns : tie.Need-returns
-returns c = search needs
-
 returns-2 : tie.Need-returns-2
 returns-2 c = sym (set-out _ _ _ (omega arith))
 
 pub put-at-spec : {M : Type 1} → statement M
-put-at-spec = tie.close (tie.spec mul-numbers slice-write-numbers same-length returns returns-2)
+put-at-spec = tie.close (tie.spec (λ c. search needs) (λ c. search needs) (λ c. search needs) (λ c. search needs) returns-2)

@@ -22,23 +22,11 @@ use Rattle.diagram.proofs.rows.row_with_gradient.Tie as tie
 ten : (s : tie.Start) → length (s .args .drawing .circles) ≡ 10
 ten s = search length-of-values
 
-clear-requires : tie.Need-clear-requires
-clear-requires c κs = search needs
-
-area-requires : tie.Need-area-requires
-area-requires c κs = search needs
-
-at-most-ten-requires : tie.Need-at-most-ten-requires
-at-most-ten-requires c κs = search needs
-
 mul-put-at : tie.Need-mul-put-at
 mul-put-at c = omega (arith, c .at-most-ten .ensures)
 
 add-put-at : tie.Need-add-put-at
 add-put-at c = omega (arith, c .at-most-ten .ensures)
-
-put-at-requires : tie.Need-put-at-requires
-put-at-requires c κs = search needs
 
 same-length : tie.Need-same-length
 same-length c = search needs
@@ -75,9 +63,6 @@ returns-2 c =
       same-length-2 c,
     )
 
-set-with-gradient-requires : tie.Need-set-with-gradient-requires
-set-with-gradient-requires c κs = search needs
-
 same-length-3 : tie.Need-same-length-3
 same-length-3 c = search needs
 
@@ -111,20 +96,5 @@ returns-4 c =
 
 pub row-with-gradient-spec : {M : Type 1} → statement M
 row-with-gradient-spec =
-    tie.close
-    (tie.spec
-    clear-requires
-    area-requires
-    at-most-ten-requires
-    mul-put-at
-    add-put-at
-    put-at-requires
-    same-length
-    returns
-    same-length-2
-    returns-2
-    set-with-gradient-requires
-    same-length-3
-    returns-3
-    same-length-4
-    returns-4)
+    tie.close (tie.spec (λ c κs. search needs) (λ c κs. search needs) (λ c κs. search needs) mul-put-at add-put-at (λ c κs. search needs)
+    same-length returns same-length-2 returns-2 (λ c κs. search needs) same-length-3 returns-3 same-length-4 returns-4)

@@ -1,113 +1,82 @@
--- `rows::write_rows` meets its contract. The invariant: the rows below mask are written, in both slices.
-use mathlib.Core.Path.{_≡_, refl, ap, _∙_}
+-- `rows::write_rows` meets its contract: the areas of the sets, the box's area in row 0, and absent rows cleared.
+use mathlib.Core.Path.{ap, _∙_}
 use mathlib.Core.List.{List}
-use Prim.Native.Nat.{ℕ, _+_, _-_, _≤_, _<_}
+use Prim.Native.Nat.{_^_}
+use native.Mathlib.Nat.{le-refl}
 use native.Mathlib.Omega.{arith}
-use lib.Ieee.{Float, nan}
-use lib.ListN.{length, set, length-set}
-use Rattle.lists.specs.Written.{written}
-use Rattle.lists.proofs.Writing.{written-none, write-next}
-use Rattle.masks.specs.Presence.{byte, stands}
-use Rattle.binary64.specs.Constants.{zero64}
-use Rattle.diagram.specs.Rows.{isThere, areaAt}
-use Rattle.diagram.specs.Drawing.{rowsOf, boxAreaOf, setArea}
-use Rattle.diagram.proofs.Laying.{byte-own, row-own}
+use lib.Ieee.{Float}
+use lib.ListN.{drop, set, length-set}
+use lib.Pow.{pow-pos}
+use lib.Seq.{drop-set-lt}
+use Rattle.lists.proofs.Writing.{drop-written}
+use Rattle.masks.specs.Presence.{stands}
+use Rattle.geometry.specs.Rectangle.{area}
+use Rattle.intersections.specs.Members.{membersOf}
+use Rattle.sums.specs.Rows.{areaOf, areasWritten}
+use Rattle.sums.specs.Presence.{among}
+use Rattle.sums.proofs.Passes.{areas-all, bytes-all, cleared-all}
+use Rattle.diagram.specs.Rows.{areaAt}
+use Rattle.diagram.specs.Drawing.{circlesOf, pointsOf, setArea, rowsOf}
+use Rattle.diagram.proofs.Laying.{row-laid}
 use borrow.Author.Needs.{needs}
 use Rattle.diagram.proofs.rows.write_rows.Statement.{statement}
 use Rattle.diagram.proofs.rows.write_rows.Tie as tie
 
-abbrev Inv-loop : tie.InvT-loop
-Inv-loop drawing sets count presence₀ areas₀ boxed mask₀ presence areas mask =
-    (mask ≤ count) × (count ≤ 1024) × (count ≤ length presence₀) × (count ≤ length areas₀) × (boxed ≡ drawing .boxed)
-    × (length presence ≡ length presence₀) × (length areas ≡ length areas₀)
-    × (presence ≡ written (λ S. byte (isThere (rowsOf drawing (stands sets)) S)) mask presence₀)
-    × (areas ≡ written (areaAt (rowsOf drawing (stands sets))) mask areas₀)
+abbrev entry : tie.After-bounds → tie.Start
+entry c = c .before .before .before .before .before .before
 
-abbrev μ-loop : tie.MeasureT-loop
-μ-loop drawing sets count presence₀ areas₀ boxed mask₀ presence areas mask = count - mask
+abbrev bounded : tie.After-write-areas → tie.After-bounds
+bounded c = c .before .before
 
-loop-holds : tie.Need-loop-holds Inv-loop μ-loop
-loop-holds c =
-    let s = c .before .before in let p = s .pre in (omega arith, p .0, p .1, p .2, refl, refl, refl, written-none _ _, written-none _ _)
+abbrev first : tie.After-area → tie.After-write-areas
+first c = c .before .before .before
 
-element-copy-out-row-byte : tie.Need-element-copy-out-row-byte Inv-loop μ-loop
-element-copy-out-row-byte c = search needs
+abbrev cleared : tie.After-slice-known5 → tie.After-area
+cleared c = c .before .before .before .before .before .before .before .before
 
-row-byte-requires : tie.Need-row-byte-requires Inv-loop μ-loop
-row-byte-requires c κs = search needs
+-- the drawing and the slices handed in
+abbrev given : tie.After-write-areas → tie.Start
+given c = entry (bounded c)
 
-slice-write-presence : tie.Need-slice-write-presence Inv-loop μ-loop
-slice-write-presence c = let i = c .before .before .before .loop .inv in omega (arith, i .5, i .2, c .before .before .loop-test .taken)
+-- the areas that the first pass leaves
+abbrev worked : tie.After-write-areas → List Float
+worked c = c .write-areas .last .1 .1 .1 .1 .1 .1 .0
 
-element-copy-out-row-area : tie.Need-element-copy-out-row-area Inv-loop μ-loop
-element-copy-out-row-area c = search needs
+slice-write-areas : tie.Need-slice-write-areas
+slice-write-areas c =
+    let w = first c in
+    let s = given w in
+    omega (arith, w .write-areas .kept .1 .1 .1 .1 .1 .1 .0, s .pre .2, pow-pos (s .args .drawing .n))
 
-row-area-requires : tie.Need-row-area-requires Inv-loop μ-loop
-row-area-requires c κs = search needs
+same-length-2 : tie.Need-same-length-2
+same-length-2 c =
+    let w = first (cleared c) in
+    c .before .before .before .before .before .before .clear-absent .kept .1 .1 .1 .0
+    ∙ length-set (worked w) 0 (cleared c .area .result) ∙ w .write-areas .kept .1 .1 .1 .1 .1 .1 .0
 
-mul-areas : tie.Need-mul-areas Inv-loop μ-loop
-mul-areas c = search needs
-
-slice-write-areas : tie.Need-slice-write-areas Inv-loop μ-loop
-slice-write-areas c = let i = c .before .before .before .before .before .loop .inv in omega
-    (arith, i .6, i .3, c .before .before .before .before .loop-test .taken)
-
-add-mask : tie.Need-add-mask Inv-loop μ-loop
-add-mask c = search needs
-
-loop-less : tie.Need-loop-less Inv-loop μ-loop
-loop-less c = omega (arith, c .before .before .before .before .loop-test .taken)
-
-loop-again : tie.Need-loop-again Inv-loop μ-loop
-loop-again c =
-    let m = c .before .before .before .before in let l = m .before .loop in let i = l .inv in let a = m .before .before .before .before .args in
-    let d = a .drawing in let t = m .loop-test .taken in
-    let v = c .row-area .ensures ∙ row-own (d .boxed) (stands (a .sets .now)) (boxAreaOf d) (setArea d) zero64 (l .mask) in
-    let b = c .before .before .row-byte .ensures ∙ byte-own (d .boxed) (stands (a .sets .now)) (l .mask) in (
-      omega (arith, t),
-      i .1,
-      i .2,
-      i .3,
-      i .4,
-      length-set (l .presence) (l .mask) _ ∙ i .5,
-      length-set (l .areas) (l .mask) _ ∙ i .6,
-      ap (λ (p : List ℕ). set p (l .mask) (c .before .before .row-byte .result)) (i .7)
-          ∙ write-next (λ S. byte (isThere (rowsOf d (stands (a .sets .now))) S)) (l .mask) (a .presence .now) _ 0 (omega (arith, i .2, t)) b,
-      ap (λ (p : List Float). set p (l .mask) (c .row-area .result)) (i .8)
-          ∙ write-next (areaAt (rowsOf d (stands (a .sets .now)))) (l .mask) (a .areas .now) _ nan (omega (arith, i .3, t)) v,
-    )
-
-same-length : tie.Need-same-length Inv-loop μ-loop
-same-length c = c .before .loop .inv .5
-
-same-length-2 : tie.Need-same-length-2 Inv-loop μ-loop
-same-length-2 c = c .before .loop .inv .6
-
-returns : tie.Need-returns Inv-loop μ-loop
+returns : tie.Need-returns
 returns c =
-    let l = c .before .loop in let i = l .inv in let a = c .before .before .before .before .args in
-    let e : l .mask ≡ a .count = omega (arith, i .0, c .loop-test .left) in (
-      i .7 ∙ ap (λ (m : ℕ). written (λ S. byte (isThere (rowsOf (a .drawing) (stands (a .sets .now))) S)) m (a .presence .now)) e,
-      i .8 ∙ ap (λ (m : ℕ). written (areaAt (rowsOf (a .drawing) (stands (a .sets .now)))) m (a .areas .now)) e,
+    let at-area = cleared c in
+    let w = first at-area in
+    let s = given w in
+    let a = s .args in
+    let d = a .drawing in
+    let n = d .n in
+    let few = s .pre .0 in
+    let sets = stands (a .sets .now) in
+    let places = w .write-areas .kept .1 .1 .1 .1 .1 .1 .0 in
+    let areas = w .write-areas .ensures
+    ∙ ap (λ box. areasWritten n sets (λ S. areaOf (d .boxed) box (membersOf (circlesOf d) (pointsOf d) S)) (a .areas .now)) (bounded w .bounds .ensures)
+    ∙ areas-all n few sets (setArea d) (a .areas .now) (s .pre .2) in
+    let x = at-area .area .result in (
+      c .before .before .write-presence .ensures ∙ bytes-all n few (among (d .boxed) sets) (a .presence .now) (s .pre .1),
+      c .before .before .before .before .before .before .clear-absent .ensures
+          ∙ cleared-all n few (among (d .boxed) sets) (set (worked w) 0 x) (a .areas .now) (areaAt (rowsOf d sets)) (omega (arith, length-set (worked w) 0 x, places, s .pre .2))
+          (drop-set-lt (2 ^ n) (worked w) 0 x (pow-pos n) ∙ ap (drop (2 ^ n)) areas ∙ drop-written _ (2 ^ n) (2 ^ n) (a .areas .now) (le-refl (2 ^ n)))
+          (row-laid (d .boxed) sets (area (d .container)) x (setArea d) (a .areas .now) (worked w) (2 ^ n) areas (s .pre .2) (at-area .area .ensures)),
     )
 
 pub write-rows-spec : {M : Type 1} → statement M
 write-rows-spec =
-    tie.close
-    (tie.spec
-    Inv-loop
-    μ-loop
-    loop-holds
-    element-copy-out-row-byte
-    row-byte-requires
-    slice-write-presence
-    element-copy-out-row-area
-    row-area-requires
-    mul-areas
-    slice-write-areas
-    add-mask
-    loop-less
-    loop-again
-    same-length
-    same-length-2
-    returns)
+    tie.close (tie.spec (λ c κs. search needs) (λ c κs. search needs) (λ c κs. search needs) slice-write-areas (λ c κs. search needs)
+    (λ c κs. search needs) (λ c. search needs) same-length-2 returns)

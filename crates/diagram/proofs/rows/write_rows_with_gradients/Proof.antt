@@ -16,7 +16,8 @@ use Rattle.exclusive.proofs.TableRows.{byRow, row-written}
 use Rattle.diagram.specs.declared.drawing.Drawing.{Drawing}
 use Rattle.diagram.specs.Rows.{isThere, areaAt, slopesAt}
 use Rattle.diagram.specs.Drawing.{rowsOf, slopesBy, boxAreaOf, setOnto, rowWith}
-use Rattle.diagram.proofs.Laying.{byte-own, row-own}
+use Rattle.sums.proofs.Bytes.{byte-own}
+use Rattle.diagram.proofs.Laying.{row-own}
 use borrow.Author.Needs.{needs}
 use Rattle.diagram.proofs.rows.write_rows_with_gradients.Statement.{statement}
 use Rattle.diagram.proofs.rows.write_rows_with_gradients.Tie as tie
@@ -64,9 +65,6 @@ mul-start c = omega (arith, room c, c .before .loop .inv .8)
 add-end : tie.Need-add-end Inv-loop μ-loop
 add-end c = omega (arith, room c, c .before .loop .inv .8)
 
-element-copy-out-row-with-gradient : tie.Need-element-copy-out-row-with-gradient Inv-loop μ-loop
-element-copy-out-row-with-gradient c = search needs
-
 mul-row-with-gradient : tie.Need-mul-row-with-gradient Inv-loop μ-loop
 mul-row-with-gradient c = omega (arith, room (c .before), c .before .before .loop .inv .8)
 
@@ -79,28 +77,13 @@ part-row-with-gradient-start c = omega (arith, room (c .before), c .before .befo
 part-row-with-gradient-end : tie.Need-part-row-with-gradient-end Inv-loop μ-loop
 part-row-with-gradient-end c = omega (arith, room (c .before), c .before .before .loop .inv .8)
 
-row-with-gradient-requires : tie.Need-row-with-gradient-requires Inv-loop μ-loop
-row-with-gradient-requires c κs = search needs
-
-mul-areas : tie.Need-mul-areas Inv-loop μ-loop
-mul-areas c = search needs
-
 slice-write-areas : tie.Need-slice-write-areas Inv-loop μ-loop
 slice-write-areas c =
     let m = c .before .before .before .before .before in let i = m .before .loop .inv in omega (arith, i .7, i .3, m .loop-test .taken)
 
-element-copy-out-row-byte : tie.Need-element-copy-out-row-byte Inv-loop μ-loop
-element-copy-out-row-byte c = search needs
-
-row-byte-requires : tie.Need-row-byte-requires Inv-loop μ-loop
-row-byte-requires c κs = search needs
-
 slice-write-presence : tie.Need-slice-write-presence Inv-loop μ-loop
 slice-write-presence c =
     let m = c .before .before .before .before .before .before .before in let i = m .before .loop .inv in omega (arith, i .6, i .2, m .loop-test .taken)
-
-add-mask : tie.Need-add-mask Inv-loop μ-loop
-add-mask c = search needs
 
 loop-less : tie.Need-loop-less Inv-loop μ-loop
 loop-less c = let m = c .before .before .before .before .before .before .before in omega (arith, m .loop-test .taken)
@@ -160,28 +143,7 @@ returns c =
 
 pub write-rows-with-gradients-spec : {M : Type 1} → statement M
 write-rows-with-gradients-spec =
-    tie.close
-    (tie.spec
-    Inv-loop
-    μ-loop
-    loop-holds
-    mul-start
-    add-end
-    element-copy-out-row-with-gradient
-    mul-row-with-gradient
-    sub-row-with-gradient
-    part-row-with-gradient-start
-    part-row-with-gradient-end
-    row-with-gradient-requires
-    mul-areas
-    slice-write-areas
-    element-copy-out-row-byte
-    row-byte-requires
-    slice-write-presence
-    add-mask
-    loop-less
-    loop-again
-    same-length
-    same-length-2
-    same-length-3
-    returns)
+    tie.close (tie.spec Inv-loop μ-loop loop-holds mul-start add-end (λ c. search needs) mul-row-with-gradient sub-row-with-gradient
+    part-row-with-gradient-start part-row-with-gradient-end (λ c κs. search needs) (λ c. search needs) slice-write-areas
+    (λ c. search needs) (λ c κs. search needs) slice-write-presence (λ c. search needs) loop-less loop-again same-length same-length-2
+    same-length-3 returns)

@@ -5,15 +5,6 @@ use borrow.Author.Needs.{needs}
 use Rattle.elementary.proofs.arctangent.acos.Statement.{statement}
 use Rattle.elementary.proofs.arctangent.acos.Tie as tie
 
-in-unit-requires : tie.Need-in-unit-requires
-in-unit-requires c κs = search needs
-
-cofunction-requires : tie.Need-cofunction-requires
-cofunction-requires c κs = search needs
-
-atan2-requires : tie.Need-atan2-requires
-atan2-requires c κs = search needs
-
 returns : tie.Need-returns
 unfolding recipe.acos
 returns c = rw (← (c .before .before .before .in-unit .ensures), c .before .before .if1 .taken, ← (c .before .cofunction .ensures)) (c .atan2 .ensures)
@@ -23,5 +14,4 @@ unfolding recipe.acos
 returns-2 c = rw (← (c .before .in-unit .ensures), c .if1 .left) refl
 
 pub acos-spec : {M : Type 1} → statement M
-acos-spec =
-    tie.close (tie.spec in-unit-requires cofunction-requires atan2-requires returns returns-2)
+acos-spec = tie.close (tie.spec (λ c κs. search needs) (λ c κs. search needs) (λ c κs. search needs) returns returns-2)

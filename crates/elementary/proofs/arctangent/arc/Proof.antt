@@ -8,15 +8,6 @@ use borrow.Author.Needs.{needs}
 use Rattle.elementary.proofs.arctangent.arc.Statement.{statement}
 use Rattle.elementary.proofs.arctangent.arc.Tie as tie
 
-mulhi-requires : tie.Need-mulhi-requires
-mulhi-requires c κs = search needs
-
-horner-requires : tie.Need-horner-requires
-horner-requires c κs = search needs
-
-mulhi-requires-2 : tie.Need-mulhi-requires-2
-mulhi-requires-2 c κs = search needs
-
 half-small : (r : ℕ) → r ≤ 9223372036854775800 → r / 2 ≤ 7244019458077122842
 half-small r h = omega arith
 
@@ -25,4 +16,4 @@ unfolding cells.arc
 returns c = (rw (c .mulhi2 .ensures .0, c .before .horner .ensures .0, c .before .before .mulhi .ensures .0) refl, half-small _ (le-trans (c .mulhi2 .ensures .1) (c .before .horner .ensures .1)))
 
 pub arc-spec : {M : Type 1} → statement M
-arc-spec = tie.close (tie.spec mulhi-requires horner-requires mulhi-requires-2 returns)
+arc-spec = tie.close (tie.spec (λ c κs. search needs) (λ c κs. search needs) (λ c κs. search needs) returns)

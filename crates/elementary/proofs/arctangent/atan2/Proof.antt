@@ -12,15 +12,6 @@ use Rattle.elementary.proofs.arctangent.Domain.{domain, point}
 use Rattle.elementary.proofs.arctangent.atan2.Statement.{statement}
 use Rattle.elementary.proofs.arctangent.atan2.Tie as tie
 
-abs-requires : tie.Need-abs-requires
-abs-requires c κs = search needs
-
-abs-requires-2 : tie.Need-abs-requires-2
-abs-requires-2 c κs = search needs
-
-in-domain-requires : tie.Need-in-domain-requires
-in-domain-requires c κs = search needs
-
 -- the tests that the code has passed, and what a program's floats fit, as the law of the domain wants them
 quarter : (y x : Float) {w h : Float} {d : Bool} → fits binary64 y ≡ true → fits binary64 x ≡ true → w ≡ absolute x → h ≡ absolute y → d ≡ inDomain w h → d ≡ true → InQuarter w h
 quarter y x p q e f g t = subst₂ InQuarter (sym e) (sym f) (point (domain {y = y} {x = x} (subst T (sym p) tt) (subst T (sym q) tt) (ap₂ inDomain (sym e) (sym f) ∙ sym g ∙ t)))
@@ -29,12 +20,6 @@ upper-half-requires : tie.Need-upper-half-requires
 upper-half-requires c κs =
     quarter (c .before .before .before .before .args .y) (c .before .before .before .before .args .x) (c .before .before .before .before .good .0 .1) (c .before .before .before .before .good .1 .0 .1)
     (c .before .before .before .abs .ensures) (c .before .before .abs2 .ensures) (c .before .in-domain .ensures) (c .if1 .taken)
-
-nearest-u64-to-f64-requires : tie.Need-nearest-u64-to-f64-requires
-nearest-u64-to-f64-requires c κs = search needs
-
-is-sign-negative-requires : tie.Need-is-sign-negative-requires
-is-sign-negative-requires c κs = search needs
 
 returns : tie.Need-returns
 returns c =
@@ -55,14 +40,5 @@ returns-3 c = atan2-other-arm (c .before .before .before .before .args .y) (c .b
 
 pub atan2-spec : {M : Type 1} → statement M
 atan2-spec =
-    tie.close
-    (tie.spec
-    abs-requires
-    abs-requires-2
-    in-domain-requires
-    upper-half-requires
-    nearest-u64-to-f64-requires
-    is-sign-negative-requires
-    returns
-    returns-2
-    returns-3)
+    tie.close (tie.spec (λ c κs. search needs) (λ c κs. search needs) (λ c κs. search needs) upper-half-requires (λ c κs. search needs)
+    (λ c κs. search needs) returns returns-2 returns-3)

@@ -4,12 +4,9 @@ use borrow.Author.Needs.{needs}
 use Rattle.elementary.proofs.arctangent.cofunction.Statement.{statement}
 use Rattle.elementary.proofs.arctangent.cofunction.Tie as tie
 
-root-requires : tie.Need-root-requires
-root-requires c κs = search needs
-
 returns : tie.Need-returns
 unfolding recipe.cofunction
 returns c = c .root .ensures
 
 pub cofunction-spec : {M : Type 1} → statement M
-cofunction-spec = tie.close (tie.spec root-requires returns)
+cofunction-spec = tie.close (tie.spec (λ c κs. search needs) returns)

@@ -10,9 +10,6 @@ use Rattle.elementary.proofs.arctangent.first_quarter.Tie as tie
 tangent-requires : tie.Need-tangent-requires
 tangent-requires c κs = below-diagonal (c .before .pre) (c .if1 .taken)
 
-arc-requires : tie.Need-arc-requires
-arc-requires c κs = search needs
-
 sub-result : tie.Need-sub-result
 sub-result c = omega arith
 
@@ -23,21 +20,10 @@ returns c = (rw (c .before .before .if1 .taken, c .arc .ensures .0, c .before .t
 tangent-requires-2 : tie.Need-tangent-requires-2
 tangent-requires-2 c κs = above-diagonal (c .before .pre) (c .if1 .left)
 
-arc-requires-2 : tie.Need-arc-requires-2
-arc-requires-2 c κs = search needs
-
 returns-2 : tie.Need-returns-2
 unfolding recipe.firstQuarter
 returns-2 c = (rw (c .before .before .if1 .left, c .arc2 .ensures .0, c .before .tangent2 .ensures) refl, c .arc2 .ensures .1)
 
 pub first-quarter-spec : {M : Type 1} → statement M
 first-quarter-spec =
-    tie.close
-    (tie.spec
-    tangent-requires
-    arc-requires
-    sub-result
-    returns
-    tangent-requires-2
-    arc-requires-2
-    returns-2)
+    tie.close (tie.spec tangent-requires (λ c κs. search needs) sub-result returns tangent-requires-2 (λ c κs. search needs) returns-2)

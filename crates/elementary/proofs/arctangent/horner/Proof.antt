@@ -7,9 +7,6 @@ use Rattle.elementary.proofs.fixed.Horner.{Value, next}
 use Rattle.elementary.proofs.arctangent.horner.Statement.{statement}
 use Rattle.elementary.proofs.arctangent.horner.Tie as tie
 
-later-half-requires : tie.Need-later-half-requires
-later-half-requires c κs = search needs
-
 step-requires : tie.Need-step-requires
 step-requires c κs = le-trans (c .later-half .ensures .1) (lit≤ tt)
 
@@ -61,18 +58,5 @@ returns c =
 
 pub horner-spec : {M : Type 1} → statement M
 horner-spec =
-    tie.close
-    (tie.spec
-    later-half-requires
-    step-requires
-    step-requires-2
-    step-requires-3
-    step-requires-4
-    step-requires-5
-    step-requires-6
-    step-requires-7
-    step-requires-8
-    step-requires-9
-    step-requires-10
-    step-requires-11
-    returns)
+    tie.close (tie.spec (λ c κs. search needs) step-requires step-requires-2 step-requires-3 step-requires-4 step-requires-5
+    step-requires-6 step-requires-7 step-requires-8 step-requires-9 step-requires-10 step-requires-11 returns)

@@ -6,12 +6,6 @@ use borrow.Author.Needs.{needs}
 use Rattle.elementary.proofs.arctangent.upper_half.Statement.{statement}
 use Rattle.elementary.proofs.arctangent.upper_half.Tie as tie
 
-first-quarter-requires : tie.Need-first-quarter-requires
-first-quarter-requires c κs = search needs
-
-is-sign-negative-requires : tie.Need-is-sign-negative-requires
-is-sign-negative-requires c κs = search needs
-
 sub-result : tie.Need-sub-result
 sub-result c = omega arith
 
@@ -24,5 +18,4 @@ unfolding recipe.upperHalf
 returns-2 c = rw (← (c .before .is-sign-negative .ensures), c .if1 .left, c .before .before .first-quarter .ensures .0) refl
 
 pub upper-half-spec : {M : Type 1} → statement M
-upper-half-spec =
-    tie.close (tie.spec first-quarter-requires is-sign-negative-requires sub-result returns returns-2)
+upper-half-spec = tie.close (tie.spec (λ c κs. search needs) (λ c κs. search needs) sub-result returns returns-2)

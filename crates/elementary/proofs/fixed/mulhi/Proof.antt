@@ -32,6 +32,4 @@ returns : tie.Need-returns
 returns c = (upper-is (c .args .a) (c .args .b) (c .fits .a .fits) (c .fits .b .fits), upper-le (c .args .a) (c .args .b) (c .fits .a .fits) (c .fits .b .fits))
 
 pub mulhi-spec : {M : Type 1} → statement M
-mulhi-spec =
-    tie.close
-    (tie.spec mul-middle mul-middle-2 add-middle mul-second add-second mul-result add-result add-result-2 returns)
+mulhi-spec = tie.close (tie.spec mul-middle mul-middle-2 add-middle mul-second add-second mul-result add-result add-result-2 returns)

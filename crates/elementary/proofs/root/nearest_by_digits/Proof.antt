@@ -68,20 +68,5 @@ returns-2 c =
 
 pub nearest-by-digits-spec : {M : Type 1} → statement M
 nearest-by-digits-spec =
-    tie.close
-    (tie.spec
-    Inv-loop
-    μ-loop
-    loop-holds
-    mul-rest
-    add-rest
-    mul-square
-    add-square
-    mul-root
-    add-root
-    sub-left
-    loop-less
-    loop-again
-    add-result
-    returns
-    returns-2)
+    tie.close (tie.spec Inv-loop μ-loop loop-holds mul-rest add-rest mul-square add-square mul-root add-root sub-left loop-less loop-again
+    add-result returns returns-2)

@@ -5,23 +5,11 @@ use Rattle.elementary.proofs.root.Leading.{radicand-digits, root-bits-f
 use Rattle.elementary.proofs.root.positive.Statement.{statement}
 use Rattle.elementary.proofs.root.positive.Tie as tie
 
-split-requires : tie.Need-split-requires
-split-requires c κs = search needs
-
-shl-nearest : tie.Need-shl-nearest
-shl-nearest c = search needs
-
-guess-requires : tie.Need-guess-requires
-guess-requires c κs = search needs
-
 nearest-requires : tie.Need-nearest-requires
 nearest-requires c κs =
     let p = c .before .before .split in
     let r = radicand-digits (p .result .digits) (p .result .lead) (p .ensures .least) (p .ensures .most) in
     (omega (arith, r), omega (arith, r))
-
-add-result : tie.Need-add-result
-add-result c = search needs
 
 add-result-2 : tie.Need-add-result-2
 add-result-2 c =
@@ -43,13 +31,5 @@ returns c =
 
 pub positive-spec : {M : Type 1} → statement M
 positive-spec =
-    tie.close
-    (tie.spec
-    split-requires
-    shl-nearest
-    guess-requires
-    nearest-requires
-    add-result
-    add-result-2
-    float-from-bits-result
-    returns)
+    tie.close (tie.spec (λ c κs. search needs) (λ c. search needs) (λ c κs. search needs) nearest-requires (λ c. search needs) add-result-2
+    float-from-bits-result returns)

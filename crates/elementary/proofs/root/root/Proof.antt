@@ -31,5 +31,4 @@ returns-4 : tie.Need-returns-4
 returns-4 c = root-other (c .before .before .args .x) (c .before .if1 .left) (c .if3 .left)
 
 pub root-spec : {M : Type 1} → statement M
-root-spec =
-    tie.close (tie.spec float-to-bits-bits positive-requires returns returns-2 returns-3 returns-4)
+root-spec = tie.close (tie.spec float-to-bits-bits positive-requires returns returns-2 returns-3 returns-4)

@@ -11,57 +11,18 @@ use Rattle.elementary.proofs.root.settle.Tie as tie
 level : (c : tie.Else1) → let w = c .before .weigh .result in let s = c .before .before .args in s .q * s .q + w .radicand ≡ s .m * 2 ^ 52 + w .square
 level c = c .before .weigh .ensures .level (omega arith)
 
-weigh-requires : tie.Need-weigh-requires
-weigh-requires c κs = search needs
-
 returns : tie.Need-returns
 returns c = search needs
-
-add-if2 : tie.Need-add-if2
-add-if2 c = search needs
-
-add-if3 : tie.Need-add-if3
-add-if3 c = search needs
-
-mul-if3 : tie.Need-mul-if3
-mul-if3 c = search needs
-
-add-if3-2 : tie.Need-add-if3-2
-add-if3-2 c = search needs
-
-sub-result : tie.Need-sub-result
-sub-result c = search needs
 
 returns-2 : tie.Need-returns-2
 returns-2 c = λ p.
     let e = c .before .before in
     settled-down _ (e .before .before .args .q) (e .before .weigh .result .square) (e .before .weigh .result .radicand) (level e) (omega arith) (c .before .if2 .taken) (c .if3 .taken)
 
-returns-3 : tie.Need-returns-3
-returns-3 c = search needs
-
-add-if4 : tie.Need-add-if4
-add-if4 c = search needs
-
-mul-if5 : tie.Need-mul-if5
-mul-if5 c = search needs
-
-add-if5 : tie.Need-add-if5
-add-if5 c = search needs
-
-add-if5-2 : tie.Need-add-if5-2
-add-if5-2 c = search needs
-
-add-result : tie.Need-add-result
-add-result c = search needs
-
 returns-4 : tie.Need-returns-4
 returns-4 c = λ p.
     let e = c .before .before .before in
     settled-up _ (e .before .before .args .q) (e .before .weigh .result .square) (e .before .weigh .result .radicand) (level e) (c .before .if4 .taken) (c .if5 .taken)
-
-returns-5 : tie.Need-returns-5
-returns-5 c = search needs
 
 returns-6 : tie.Need-returns-6
 returns-6 c = λ p.
@@ -70,22 +31,6 @@ returns-6 c = λ p.
 
 pub settle-spec : {M : Type 1} → statement M
 settle-spec =
-    tie.close
-    (tie.spec
-    weigh-requires
-    returns
-    add-if2
-    add-if3
-    mul-if3
-    add-if3-2
-    sub-result
-    returns-2
-    returns-3
-    add-if4
-    mul-if5
-    add-if5
-    add-if5-2
-    add-result
-    returns-4
-    returns-5
-    returns-6)
+    tie.close (tie.spec (λ c κs. search needs) returns (λ c. search needs) (λ c. search needs) (λ c. search needs) (λ c. search needs)
+    (λ c. search needs) returns-2 (λ c. search needs) (λ c. search needs) (λ c. search needs) (λ c. search needs) (λ c. search needs)
+    (λ c. search needs) returns-4 (λ c. search needs) returns-6)

@@ -22,20 +22,12 @@ cast-t7 c = omega (arith, zeros-range (c .before .args .bits) (c .before .pre .0
 shl-t8 : tie.Need-shl-t8
 shl-t8 c = omega (arith, zeros-range (c .before .args .bits) (c .before .pre .0) (subnormal c))
 
-cast-t9 : tie.Need-cast-t9
-cast-t9 c = search needs
-
 returns : tie.Need-returns
 returns c = leading-subnormal (c .before .args .bits) (c .before .pre .0) (subnormal c)
-
-add-t11 : tie.Need-add-t11
-add-t11 c = search needs
-
-add-t12 : tie.Need-add-t12
-add-t12 c = search needs
 
 returns-2 : tie.Need-returns-2
 returns-2 c = leading-normal (c .before .args .bits) (omega arith) (c .before .pre .1)
 
 pub split-spec : {M : Type 1} → statement M
-split-spec = tie.close (tie.spec sub-shift sub-lead cast-t7 shl-t8 cast-t9 returns add-t11 add-t12 returns-2)
+split-spec =
+    tie.close (tie.spec sub-shift sub-lead cast-t7 shl-t8 (λ c. search needs) returns (λ c. search needs) (λ c. search needs) returns-2)

@@ -23,33 +23,13 @@ mul-low c = omega (arith, lower-fits (c .args .q) (c .pre .1))
 add-low : tie.Need-add-low
 add-low c = omega (arith, lower-fits (c .args .q) (c .pre .1))
 
-returns : tie.Need-returns
-returns c = search needs
-
-returns-2 : tie.Need-returns-2
-returns-2 c = search needs
-
 add-t12 : tie.Need-add-t12
 add-t12 c = omega (arith, lower-fits (c .before .before .args .q) (c .before .before .pre .1))
-
-add-t14 : tie.Need-add-t14
-add-t14 c = search needs
 
 returns-3 : tie.Need-returns-3
 returns-3 c = let s = c .before .before in balanced (s .args .m) (s .args .q) (s .pre .1) (c .before .if1 .left) (c .if2 .left)
 
 pub weigh-spec : {M : Type 1} → statement M
 weigh-spec =
-    tie.close
-    (tie.spec
-    mul-cross
-    mul-high
-    add-high
-    add-high-2
-    mul-low
-    add-low
-    returns
-    returns-2
-    add-t12
-    add-t14
-    returns-3)
+    tie.close (tie.spec mul-cross mul-high add-high add-high-2 mul-low add-low (λ c. search needs) (λ c. search needs) add-t12
+    (λ c. search needs) returns-3)

@@ -9,17 +9,8 @@ use Rattle.elementary.proofs.sine.Arms.{cosine-inside, cosine-outside}
 use Rattle.elementary.proofs.sine.cos.Statement.{statement}
 use Rattle.elementary.proofs.sine.cos.Tie as tie
 
-inside-requires : tie.Need-inside-requires
-inside-requires c κs = search needs
-
 angle-requires : tie.Need-angle-requires
 angle-requires c κs = sym (c .before .inside .ensures) ∙ c .if1 .taken
-
-add-fixed-sine : tie.Need-add-fixed-sine
-add-fixed-sine c = search needs
-
-fixed-sine-requires : tie.Need-fixed-sine-requires
-fixed-sine-requires c κs = search needs
 
 returns : tie.Need-returns
 returns c = c .fixed-sine .ensures ∙ ap (λ (w : ℕ). fixedSine false (w + quarter)) (c .before .angle .ensures .0) ∙ sym (cosine-inside (c .before .before .before .before .args .v) (sym (c .before .before .before .inside .ensures) ∙ c .before .before .if1 .taken))
@@ -28,6 +19,4 @@ returns-2 : tie.Need-returns-2
 returns-2 c = sym (cosine-outside (c .before .before .args .v) (sym (c .before .inside .ensures) ∙ c .if1 .left))
 
 pub cos-spec : {M : Type 1} → statement M
-cos-spec =
-    tie.close
-    (tie.spec inside-requires angle-requires add-fixed-sine fixed-sine-requires returns returns-2)
+cos-spec = tie.close (tie.spec (λ c κs. search needs) angle-requires (λ c. search needs) (λ c κs. search needs) returns returns-2)

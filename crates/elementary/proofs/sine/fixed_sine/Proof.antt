@@ -8,18 +8,6 @@ use Rattle.elementary.proofs.sine.Arms.{sized, fixed-is}
 use Rattle.elementary.proofs.sine.fixed_sine.Statement.{statement}
 use Rattle.elementary.proofs.sine.fixed_sine.Tie as tie
 
-reduced-requires : tie.Need-reduced-requires
-reduced-requires c κs = search needs
-
-quarter-sine-requires : tie.Need-quarter-sine-requires
-quarter-sine-requires c κs = search needs
-
-nearest-u64-to-f64-requires : tie.Need-nearest-u64-to-f64-requires
-nearest-u64-to-f64-requires c κs = search needs
-
-half-turned-requires : tie.Need-half-turned-requires
-half-turned-requires c κs = search needs
-
 -- the float, negated or not by the test
 made : (c : tie.After-half-turned) (t : Bool) → unlike (c .before .before .before .before .args .negative) (c .half-turned .result) ≡ t →
     cond t (neg (sized (c .before .nearest-u64-to-f64 .result))) (sized (c .before .nearest-u64-to-f64 .result)) ≡ fixedSine (c .before .before .before .before .args .negative) (c .before .before .before .before .args .w)
@@ -35,11 +23,4 @@ returns-2 c = made (c .before) false (c .if1 .left)
 
 pub fixed-sine-spec : {M : Type 1} → statement M
 fixed-sine-spec =
-    tie.close
-    (tie.spec
-    reduced-requires
-    quarter-sine-requires
-    nearest-u64-to-f64-requires
-    half-turned-requires
-    returns
-    returns-2)
+    tie.close (tie.spec (λ c κs. search needs) (λ c κs. search needs) (λ c κs. search needs) (λ c κs. search needs) returns returns-2)

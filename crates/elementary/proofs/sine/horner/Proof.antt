@@ -53,16 +53,5 @@ returns c =
 
 pub horner-spec : {M : Type 1} → statement M
 horner-spec =
-    tie.close
-    (tie.spec
-    step-requires
-    step-requires-2
-    step-requires-3
-    step-requires-4
-    step-requires-5
-    step-requires-6
-    step-requires-7
-    step-requires-8
-    step-requires-9
-    step-requires-10
-    returns)
+    tie.close (tie.spec step-requires step-requires-2 step-requires-3 step-requires-4 step-requires-5 step-requires-6 step-requires-7
+    step-requires-8 step-requires-9 step-requires-10 returns)

@@ -6,11 +6,8 @@ use Rattle.elementary.specs.Sine.{sixteen}
 use Rattle.elementary.proofs.sine.inside.Statement.{statement}
 use Rattle.elementary.proofs.sine.inside.Tie as tie
 
-abs-requires : tie.Need-abs-requires
-abs-requires c κs = search needs
-
 returns : tie.Need-returns
 returns c = ap (λ (x : Float). le x sixteen) (c .abs .ensures)
 
 pub inside-spec : {M : Type 1} → statement M
-inside-spec = tie.close (tie.spec abs-requires returns)
+inside-spec = tie.close (tie.spec (λ c κs. search needs) returns)

@@ -6,18 +6,6 @@ use Rattle.elementary.proofs.sine.Arms.{under-cap, at-cap, raw-is}
 use Rattle.elementary.proofs.sine.quarter_sine.Statement.{statement}
 use Rattle.elementary.proofs.sine.quarter_sine.Tie as tie
 
-mul-m : tie.Need-mul-m
-mul-m c = search needs
-
-mulhi-requires : tie.Need-mulhi-requires
-mulhi-requires c κs = search needs
-
-horner-requires : tie.Need-horner-requires
-horner-requires c κs = search needs
-
-mulhi-requires-2 : tie.Need-mulhi-requires-2
-mulhi-requires-2 c κs = search needs
-
 -- the sine before the cap
 raw : (c : tie.After-mulhi2) → c .mulhi2 .result ≡ rawSine (c .before .before .before .args .n)
 raw c = raw-is _ _ (c .before .horner .result) (c .before .before .mulhi .result) (c .mulhi2 .ensures .0) (c .before .horner .ensures) (c .before .before .mulhi .ensures .0)
@@ -30,4 +18,4 @@ returns-2 c = at-cap _ _ (raw (c .before)) (c .if1 .left)
 
 pub quarter-sine-spec : {M : Type 1} → statement M
 quarter-sine-spec =
-    tie.close (tie.spec mul-m mulhi-requires horner-requires mulhi-requires-2 returns returns-2)
+    tie.close (tie.spec (λ c. search needs) (λ c κs. search needs) (λ c κs. search needs) (λ c κs. search needs) returns returns-2)

@@ -7,9 +7,6 @@ use Rattle.elementary.proofs.sine.Arms.{forward, backward, rest-small}
 use Rattle.elementary.proofs.sine.reduced.Statement.{statement}
 use Rattle.elementary.proofs.sine.reduced.Tie as tie
 
-sub-result : tie.Need-sub-result
-sub-result c = search needs
-
 returns : tie.Need-returns
 returns c = (forward (c .before .args .w) (c .if1 .taken), rest-small (c .before .args .w))
 
@@ -17,4 +14,4 @@ returns-2 : tie.Need-returns-2
 returns-2 c = (backward (c .before .args .w) (c .if1 .left), sub-le quarter (c .before .args .w % quarter))
 
 pub reduced-spec : {M : Type 1} → statement M
-reduced-spec = tie.close (tie.spec sub-result returns returns-2)
+reduced-spec = tie.close (tie.spec (λ c. search needs) returns returns-2)

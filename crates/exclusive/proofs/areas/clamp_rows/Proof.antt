@@ -29,37 +29,10 @@ Inv-loop present numbers₀ n masks s₀ numbers s =
 abbrev μ-loop : tie.MeasureT-loop
 μ-loop present numbers₀ n masks s₀ numbers s = masks - s
 
-shl-masks : tie.Need-shl-masks Inv-loop μ-loop
-shl-masks c = search needs
-
 loop-holds : tie.Need-loop-holds Inv-loop μ-loop
 loop-holds c =
     let t = c .before .before in let p = t .pre in let a = t .args in
     (p .0, shifted-is 64 (a .n) (omega arith), p .1, p .2, omega arith, refl, written-none (row (a .present .now) (a .numbers .now)) (a .numbers .now))
-
-shared-slice-read-clamped : tie.Need-shared-slice-read-clamped Inv-loop μ-loop
-shared-slice-read-clamped c = search needs
-
-mul-clamped : tie.Need-mul-clamped Inv-loop μ-loop
-mul-clamped c = search needs
-
-slice-read-clamped : tie.Need-slice-read-clamped Inv-loop μ-loop
-slice-read-clamped c = search needs
-
-clamped-requires : tie.Need-clamped-requires Inv-loop μ-loop
-clamped-requires c κs = search needs
-
-mul-numbers : tie.Need-mul-numbers Inv-loop μ-loop
-mul-numbers c = search needs
-
-slice-write-numbers : tie.Need-slice-write-numbers Inv-loop μ-loop
-slice-write-numbers c = search needs
-
-add-s : tie.Need-add-s Inv-loop μ-loop
-add-s c = search needs
-
-loop-less : tie.Need-loop-less Inv-loop μ-loop
-loop-less c = search needs
 
 loop-again : tie.Need-loop-again Inv-loop μ-loop
 loop-again c =
@@ -89,20 +62,5 @@ returns c =
 
 pub clamp-rows-spec : {M : Type 1} → statement M
 clamp-rows-spec =
-    tie.close
-    (tie.spec
-    Inv-loop
-    μ-loop
-    shl-masks
-    loop-holds
-    shared-slice-read-clamped
-    mul-clamped
-    slice-read-clamped
-    clamped-requires
-    mul-numbers
-    slice-write-numbers
-    add-s
-    loop-less
-    loop-again
-    same-length
-    returns)
+    tie.close (tie.spec Inv-loop μ-loop (λ c. search needs) loop-holds (λ c. search needs) (λ c. search needs) (λ c. search needs)
+    (λ c κs. search needs) (λ c. search needs) (λ c. search needs) (λ c. search needs) (λ c. search needs) loop-again same-length returns)

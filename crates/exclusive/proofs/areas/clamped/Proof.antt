@@ -8,9 +8,6 @@ use borrow.Author.Needs.{needs}
 use Rattle.exclusive.proofs.areas.clamped.Statement.{statement}
 use Rattle.exclusive.proofs.areas.clamped.Tie as tie
 
-clamp-to-zero-requires : tie.Need-clamp-to-zero-requires
-clamp-to-zero-requires c κs = search needs
-
 returns : tie.Need-returns
 returns c =
     let a = c .before .before .args in
@@ -21,4 +18,4 @@ returns-2 c =
     let a = c .before .args in sym (ap (λ (b : Bool). cond b (clampToZero (a .number)) zero64) (ne-eqb _ 1 (c .if1 .left)))
 
 pub clamped-spec : {M : Type 1} → statement M
-clamped-spec = tie.close (tie.spec clamp-to-zero-requires returns returns-2)
+clamped-spec = tie.close (tie.spec (λ c κs. search needs) returns returns-2)

@@ -20,31 +20,10 @@ Inv-loop areas exclusives₀ n masks s₀ exclusives s =
 abbrev μ-loop : tie.MeasureT-loop
 μ-loop areas exclusives₀ n masks s₀ exclusives s = masks - s
 
-shl-masks : tie.Need-shl-masks Inv-loop μ-loop
-shl-masks c = search needs
-
 loop-holds : tie.Need-loop-holds Inv-loop μ-loop
 loop-holds c =
     let p = c .pre in let a = c .args in
     (p .0, shifted-is 64 (a .n) (omega arith), p .1, p .2, omega arith, refl, written-none (λ S. getD (a .areas .now) S nan) (a .exclusives .now))
-
-mul-exclusives : tie.Need-mul-exclusives Inv-loop μ-loop
-mul-exclusives c = search needs
-
-shared-slice-read-exclusives : tie.Need-shared-slice-read-exclusives Inv-loop μ-loop
-shared-slice-read-exclusives c = search needs
-
-mul-exclusives-2 : tie.Need-mul-exclusives-2 Inv-loop μ-loop
-mul-exclusives-2 c = search needs
-
-slice-write-exclusives : tie.Need-slice-write-exclusives Inv-loop μ-loop
-slice-write-exclusives c = search needs
-
-add-s : tie.Need-add-s Inv-loop μ-loop
-add-s c = search needs
-
-loop-less : tie.Need-loop-less Inv-loop μ-loop
-loop-less c = search needs
 
 loop-again : tie.Need-loop-again Inv-loop μ-loop
 loop-again c =
@@ -71,18 +50,5 @@ returns c =
 
 pub copy-rows-spec : {M : Type 1} → statement M
 copy-rows-spec =
-    tie.close
-    (tie.spec
-    Inv-loop
-    μ-loop
-    shl-masks
-    loop-holds
-    mul-exclusives
-    shared-slice-read-exclusives
-    mul-exclusives-2
-    slice-write-exclusives
-    add-s
-    loop-less
-    loop-again
-    same-length
-    returns)
+    tie.close (tie.spec Inv-loop μ-loop (λ c. search needs) loop-holds (λ c. search needs) (λ c. search needs) (λ c. search needs)
+    (λ c. search needs) (λ c. search needs) (λ c. search needs) loop-again same-length returns)

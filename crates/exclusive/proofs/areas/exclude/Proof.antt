@@ -5,20 +5,10 @@ use borrow.Author.Needs.{needs}
 use Rattle.exclusive.proofs.areas.exclude.Statement.{statement}
 use Rattle.exclusive.proofs.areas.exclude.Tie as tie
 
-subtract-supersets-requires : tie.Need-subtract-supersets-requires
-subtract-supersets-requires c κs = search needs
-
-clamp-rows-requires : tie.Need-clamp-rows-requires
-clamp-rows-requires c κs = search needs
-
-same-length : tie.Need-same-length
-same-length c = search needs
-
 returns : tie.Need-returns
 returns c =
     let w = c .before .before in let s = w .before .before .before .before in let a = s .before .before .before .before .args in
-    w .clamp-rows .ensures ∙ clamped-is (a .n) (a .present .now) (a .areas .now) _ (s .subtract-supersets .ensures)
+    w .clamp-rows .ensures ∙ clamped-is (a .n) (a .present .now) (a .areas .now) _ (s .subtract-levels .ensures)
 
 pub exclude-spec : {M : Type 1} → statement M
-exclude-spec =
-    tie.close (tie.spec subtract-supersets-requires clamp-rows-requires same-length returns)
+exclude-spec = tie.close (tie.spec (λ c κs. search needs) (λ c κs. search needs) (λ c. search needs) returns)

@@ -9,9 +9,6 @@ use Rattle.exclusive.proofs.areas.rows_answer.Tie as tie
 returns : tie.Need-returns
 returns c = too-many (c .before .args .n) (c .before .args .rows) (c .if1 .taken)
 
-shl-if2 : tie.Need-shl-if2
-shl-if2 c = search needs
-
 returns-2 : tie.Need-returns-2
 returns-2 c =
     let a = c .before .before .args in
@@ -23,4 +20,4 @@ returns-3 c =
     room (a .n) (a .rows) (omega arith) (omega (arith, shifted-is 64 (a .n) (omega arith)))
 
 pub rows-answer-spec : {M : Type 1} → statement M
-rows-answer-spec = tie.close (tie.spec returns shl-if2 returns-2 returns-3)
+rows-answer-spec = tie.close (tie.spec returns (λ c. search needs) returns-2 returns-3)

@@ -24,23 +24,11 @@ answered c =
     c .rows-answer .ensures
     ∙ ap (rowsAnswer (a .n)) (c .before .shorter2 .ensures ∙ ap (min (length (a .present .now))) (c .before .before .shorter .ensures))
 
-shorter-requires : tie.Need-shorter-requires
-shorter-requires c κs = search needs
-
-shorter-requires-2 : tie.Need-shorter-requires-2
-shorter-requires-2 c κs = search needs
-
-rows-answer-requires : tie.Need-rows-answer-requires
-rows-answer-requires c κs = search needs
-
 write-exclusives-requires : tie.Need-write-exclusives-requires
 write-exclusives-requires c κs =
     let r = c .before .before in let a = r .before .before .before .before .before .before .args in
     let t = taken (a .n) (min (length (a .present .now)) (min (length (a .areas .now)) (length (a .exclusives .now)))) (sym (answered r) ∙ c .before .if1 .taken) in
     (t .0, omega (arith, t .1), omega (arith, t .1), omega (arith, t .1))
-
-same-length : tie.Need-same-length
-same-length c = search needs
 
 returns : tie.Need-returns
 returns c =
@@ -61,12 +49,5 @@ returns-2 c =
 
 pub to-exclusive-areas-spec : {M : Type 1} → statement M
 to-exclusive-areas-spec =
-    tie.close
-    (tie.spec
-    shorter-requires
-    shorter-requires-2
-    rows-answer-requires
-    write-exclusives-requires
-    same-length
-    returns
-    returns-2)
+    tie.close (tie.spec (λ c κs. search needs) (λ c κs. search needs) (λ c κs. search needs) write-exclusives-requires (λ c. search needs)
+    returns returns-2)

@@ -24,20 +24,11 @@ answered c = let a = c .before .before .before .before .args in c .rows-answer .
 abbrev tableBy : ℕ → List ℕ → List Float → Bool → List Float
 tableBy n bytes areas taken = cond taken (written (exclusiveRow n (stands bytes) (λ S. getD areas S nan)) (2 ^ n) areas) areas
 
-shorter-requires : tie.Need-shorter-requires
-shorter-requires c κs = search needs
-
-rows-answer-requires : tie.Need-rows-answer-requires
-rows-answer-requires c κs = search needs
-
 exclude-requires : tie.Need-exclude-requires
 exclude-requires c κs =
     let r = c .before .before in let a = r .before .before .before .before .args in
     let t = taken (a .n) (min (length (a .present .now)) (length (a .areas .now))) (sym (answered r) ∙ c .before .if1 .taken) in
     (t .0, omega (arith, t .1), omega (arith, t .1))
-
-same-length : tie.Need-same-length
-same-length c = search needs
 
 returns : tie.Need-returns
 returns c =
@@ -54,5 +45,4 @@ returns-2 c =
 
 pub to-exclusive-areas-in-place-spec : {M : Type 1} → statement M
 to-exclusive-areas-in-place-spec =
-    tie.close
-    (tie.spec shorter-requires rows-answer-requires exclude-requires same-length returns returns-2)
+    tie.close (tie.spec (λ c κs. search needs) (λ c κs. search needs) exclude-requires (λ c. search needs) returns returns-2)

@@ -5,20 +5,10 @@ use borrow.Author.Needs.{needs}
 use Rattle.exclusive.proofs.areas.write_exclusives.Statement.{statement}
 use Rattle.exclusive.proofs.areas.write_exclusives.Tie as tie
 
-copy-rows-requires : tie.Need-copy-rows-requires
-copy-rows-requires c κs = search needs
-
-exclude-requires : tie.Need-exclude-requires
-exclude-requires c κs = search needs
-
-same-length : tie.Need-same-length
-same-length c = search needs
-
 returns : tie.Need-returns
 returns c =
     let w = c .before .before in let k = w .before .before .before .before in let a = k .before .before .before .before .before .args in
     w .exclude .ensures ∙ copied-is (a .n) (a .present .now) (a .areas .now) (a .exclusives .now) _ (k .copy-rows .ensures)
 
 pub write-exclusives-spec : {M : Type 1} → statement M
-write-exclusives-spec =
-    tie.close (tie.spec copy-rows-requires exclude-requires same-length returns)
+write-exclusives-spec = tie.close (tie.spec (λ c κs. search needs) (λ c κs. search needs) (λ c. search needs) returns)

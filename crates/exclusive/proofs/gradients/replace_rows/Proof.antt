@@ -37,32 +37,11 @@ Inv-loop present areas₀ gradients₀ n width masks s₀ areas gradients s =
 abbrev μ-loop : tie.MeasureT-loop
 μ-loop present areas₀ gradients₀ n width masks s₀ areas gradients s = masks - s
 
-shl-masks : tie.Need-shl-masks Inv-loop μ-loop
-shl-masks c = search needs
-
 loop-holds : tie.Need-loop-holds Inv-loop μ-loop
 loop-holds c =
     let t = c .before .before .before in let p = t .pre in let a = t .args in
     let z = start (a .present .now) (a .areas .now) (a .gradients .now) (a .width) in
     (p .0, shifted-is 64 (a .n) (omega (arith, p .0)), p .1, p .2, p .3, omega arith, refl, refl, z .0, z .1)
-
-shared-slice-read-keeps : tie.Need-shared-slice-read-keeps Inv-loop μ-loop
-shared-slice-read-keeps c = search needs
-
-mul-keeps : tie.Need-mul-keeps Inv-loop μ-loop
-mul-keeps c = search needs
-
-slice-read-keeps : tie.Need-slice-read-keeps Inv-loop μ-loop
-slice-read-keeps c = search needs
-
-keeps-requires : tie.Need-keeps-requires Inv-loop μ-loop
-keeps-requires c κs = search needs
-
-mul-areas : tie.Need-mul-areas Inv-loop μ-loop
-mul-areas c = search needs
-
-slice-write-areas : tie.Need-slice-write-areas Inv-loop μ-loop
-slice-write-areas c = search needs
 
 zero-row-requires : tie.Need-zero-row-requires Inv-loop μ-loop
 zero-row-requires c κs =
@@ -70,12 +49,6 @@ zero-row-requires c κs =
     let a = c .before .before .before .before .before .before .before .before .before .before .args in
     let i = l .inv in let t = c .before .before .before .before .before .loop-test .taken in
     omega (arith, fits (a .n) (l .s) (a .width) (length (a .gradients .now)) (omega (arith, t, i .1)) (i .4), i .7)
-
-add-s : tie.Need-add-s Inv-loop μ-loop
-add-s c = search needs
-
-loop-less : tie.Need-loop-less Inv-loop μ-loop
-loop-less c = search needs
 
 loop-again : tie.Need-loop-again Inv-loop μ-loop
 loop-again c =
@@ -128,22 +101,6 @@ returns c =
 
 pub replace-rows-spec : {M : Type 1} → statement M
 replace-rows-spec =
-    tie.close
-    (tie.spec
-    Inv-loop
-    μ-loop
-    shl-masks
-    loop-holds
-    shared-slice-read-keeps
-    mul-keeps
-    slice-read-keeps
-    keeps-requires
-    mul-areas
-    slice-write-areas
-    zero-row-requires
-    add-s
-    loop-less
-    loop-again
-    same-length
-    same-length-2
-    returns)
+    tie.close (tie.spec Inv-loop μ-loop (λ c. search needs) loop-holds (λ c. search needs) (λ c. search needs) (λ c. search needs)
+    (λ c κs. search needs) (λ c. search needs) (λ c. search needs) zero-row-requires (λ c. search needs) (λ c. search needs) loop-again
+    same-length same-length-2 returns)

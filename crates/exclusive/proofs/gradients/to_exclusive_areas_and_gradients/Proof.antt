@@ -33,24 +33,12 @@ module _ (n width : ℕ) (bytes : List ℕ) (areas gradients : List Float) where
   abbrev gradientsBy : Bool → List Float
   gradientsBy taken = cond taken (written (gradientEntry n width bytes areas gradients) (2 ^ n * width) gradients) gradients
 
-shorter-requires : tie.Need-shorter-requires
-shorter-requires c κs = search needs
-
-width-answer-requires : tie.Need-width-answer-requires
-width-answer-requires c κs = search needs
-
 write-exclusives-and-gradients-requires : tie.Need-write-exclusives-and-gradients-requires
 write-exclusives-and-gradients-requires c κs =
     let r = c .before .before .before in let a = r .before .before .before .before .before .args in
     let t = all-taken (a .n) (a .width) (min (length (a .present .now)) (length (a .areas .now))) (length (a .gradients .now))
     (sym (answered r) ∙ c .before .before .if1 .taken) in
     (t .0, omega (arith, t .1), omega (arith, t .1), omega (arith, t .2))
-
-same-length : tie.Need-same-length
-same-length c = search needs
-
-same-length-2 : tie.Need-same-length-2
-same-length-2 c = search needs
 
 returns : tie.Need-returns
 returns c =
@@ -77,12 +65,5 @@ returns-2 c =
 
 pub to-exclusive-areas-and-gradients-spec : {M : Type 1} → statement M
 to-exclusive-areas-and-gradients-spec =
-    tie.close
-    (tie.spec
-    shorter-requires
-    width-answer-requires
-    write-exclusives-and-gradients-requires
-    same-length
-    same-length-2
-    returns
-    returns-2)
+    tie.close (tie.spec (λ c κs. search needs) (λ c κs. search needs) write-exclusives-and-gradients-requires (λ c. search needs)
+    (λ c. search needs) returns returns-2)

@@ -17,9 +17,6 @@ use Rattle.exclusive.proofs.areas.rows_answer.Reads as rows-answer-read
 answered : (c : tie.Then1) → let a = c .before .before .args in rowsAnswer (a .n) (a .rows) ≡ 0
 answered c = sym (c .before .rows-answer .ensures) ∙ c .if1 .taken
 
-rows-answer-requires : tie.Need-rows-answer-requires
-rows-answer-requires c κs = search needs
-
 shl-if2 : tie.Need-shl-if2
 shl-if2 c = let a = c .before .before .args in omega (arith, taken (a .n) (a .rows) (answered c))
 
@@ -46,5 +43,4 @@ returns-3 c =
     rows-refuse (a .n) (a .width) (a .rows) (a .count) _ (c .before .rows-answer .ensures) (c .if1 .left)
 
 pub width-answer-spec : {M : Type 1} → statement M
-width-answer-spec =
-    tie.close (tie.spec rows-answer-requires shl-if2 div-if2 returns returns-2 returns-3)
+width-answer-spec = tie.close (tie.spec (λ c κs. search needs) shl-if2 div-if2 returns returns-2 returns-3)

@@ -8,37 +8,16 @@ use borrow.Author.Needs.{needs}
 use Rattle.exclusive.proofs.gradients.write_exclusives_and_gradients.Statement.{statement}
 use Rattle.exclusive.proofs.gradients.write_exclusives_and_gradients.Tie as tie
 
-subtract-supersets-requires : tie.Need-subtract-supersets-requires
-subtract-supersets-requires c κs = search needs
-
-subtract-supersets-requires-2 : tie.Need-subtract-supersets-requires-2
-subtract-supersets-requires-2 c κs = search needs
-
-replace-rows-requires : tie.Need-replace-rows-requires
-replace-rows-requires c κs = search needs
-
-same-length : tie.Need-same-length
-same-length c = search needs
-
-same-length-2 : tie.Need-same-length-2
-same-length-2 c = search needs
-
 returns : tie.Need-returns
 returns c =
     let w = c .before .before .before .before in let g = w .before .before .before .before .before in let f = g .before .before .before .before in
     let a = f .before .before .before .before .before .args in let e = w .replace-rows .ensures in
-    let one = f .subtract-supersets .ensures in let more = g .subtract-supersets2 .ensures in (
+    let one = f .subtract-levels .ensures in let more = g .subtract-supersets .ensures in (
       e .0 ∙ areas-are (a .n) (a .width) (a .present .now) (a .areas .now) (a .gradients .now) _ _ one more,
       e .1 ∙ gradients-are (a .n) (a .width) (a .present .now) (a .areas .now) (a .gradients .now) _ _ one more,
     )
 
 pub write-exclusives-and-gradients-spec : {M : Type 1} → statement M
 write-exclusives-and-gradients-spec =
-    tie.close
-    (tie.spec
-    subtract-supersets-requires
-    subtract-supersets-requires-2
-    replace-rows-requires
-    same-length
-    same-length-2
+    tie.close (tie.spec (λ c κs. search needs) (λ c κs. search needs) (λ c κs. search needs) (λ c. search needs) (λ c. search needs)
     returns)

@@ -22,24 +22,6 @@ loop-holds : tie.Need-loop-holds Inv-loop μ-loop
 loop-holds c =
     let a = c .args in let p = c .pre in let e = zero-start (a .numbers .now) (a .s) (a .width) p in (p, omega arith, refl, e)
 
-mul-numbers : tie.Need-mul-numbers Inv-loop μ-loop
-mul-numbers c = search needs
-
-add-numbers : tie.Need-add-numbers Inv-loop μ-loop
-add-numbers c = search needs
-
-mul-numbers-2 : tie.Need-mul-numbers-2 Inv-loop μ-loop
-mul-numbers-2 c = search needs
-
-slice-write-numbers : tie.Need-slice-write-numbers Inv-loop μ-loop
-slice-write-numbers c = search needs
-
-add-k : tie.Need-add-k Inv-loop μ-loop
-add-k c = search needs
-
-loop-less : tie.Need-loop-less Inv-loop μ-loop
-loop-less c = search needs
-
 loop-again : tie.Need-loop-again Inv-loop μ-loop
 loop-again c =
     let l = c .before .loop in let i = l .inv in let a = c .before .before .args in (
@@ -60,17 +42,5 @@ returns c =
 
 pub zero-row-spec : {M : Type 1} → statement M
 zero-row-spec =
-    tie.close
-    (tie.spec
-    Inv-loop
-    μ-loop
-    loop-holds
-    mul-numbers
-    add-numbers
-    mul-numbers-2
-    slice-write-numbers
-    add-k
-    loop-less
-    loop-again
-    same-length
-    returns)
+    tie.close (tie.spec Inv-loop μ-loop loop-holds (λ c. search needs) (λ c. search needs) (λ c. search needs) (λ c. search needs)
+    (λ c. search needs) (λ c. search needs) loop-again same-length returns)

@@ -9,14 +9,15 @@ use native.Mathlib.Omega.{arith}
 use native.Mathlib.Numerals.{add-one}
 use lib.Count.{ones}
 use lib.Dec.{eqb}
-use lib.ListN.{length, take, set, length-set, length-append, length-replicate}
+use lib.ListN.{length, getD, take, set, replicate, length-set, length-append, length-replicate}
 use Rattle.masks.specs.Mask.{shifted}
 use Rattle.masks.specs.Operations.{shifted-is}
 use Rattle.lists.specs.Lists.{upTo}
+use Rattle.lists.proofs.Writing.{written-before}
 use Rattle.masks.specs.Presence.{stands}
 use Rattle.exclusive.specs.RowOrder.{rowsOf, rowOrder}
 use Rattle.exclusive.proofs.RowOrder.{row}
-use Rattle.exclusive.proofs.Places.{few-rows, level-next, rows-next, level-none, place, put}
+use Rattle.exclusive.proofs.Places.{few-rows, level-next, rows-next, level-none, masks-le, place, is-row, no-row, put}
 use borrow.Author.Needs.{needs}
 use Rattle.exclusive.proofs.rows.row_order.Statement.{statement}
 use Rattle.exclusive.proofs.rows.row_order.Tie as tie
@@ -33,49 +34,61 @@ level-none-at R l = ap (λ (t : List ℕ). R ++ t) (nil l)
     nil (x ∷ l) = ap (λ (t : List ℕ). x ∷ t) (nil l)
 
 abbrev Inv-loop2 : tie.InvT-loop2
-Inv-loop2 present n masks all₀ k₀ c s₀ all k s =
+Inv-loop2 present n masks heads all₀ k₀ c s₀ all k s =
     (n ≤ 10) × (masks ≡ 2 ^ n) × (2 ^ n ≤ length present) × (s ≤ masks) × (length all ≡ 1024) × (k ≡ length (Before present masks c ++ rowsOf (stands present) c s)) × (take k all ≡ Before present masks c ++ rowsOf (stands present) c s) × (c ≤ n)
 
 abbrev μ-loop2 : tie.MeasureT-loop2
-μ-loop2 present n masks all₀ k₀ c s₀ all k s = masks - s
+μ-loop2 present n masks heads all₀ k₀ c s₀ all k s = masks - s
 
 abbrev Inv-loop : tie.InvT-loop
-Inv-loop present n masks all₀ k₀ c₀ all k c =
+Inv-loop present n masks heads all₀ k₀ c₀ all k c =
     (n ≤ 10) × (masks ≡ 2 ^ n) × (2 ^ n ≤ length present) × (c ≤ n + 1) × (length all ≡ 1024) × (k ≡ length (Before present masks c)) × (take k all ≡ Before present masks c)
 
 abbrev μ-loop : tie.MeasureT-loop
-μ-loop present n masks all₀ k₀ c₀ all k c = n + 1 - c
+μ-loop present n masks heads all₀ k₀ c₀ all k c = n + 1 - c
 
-shl-masks : tie.Need-shl-masks Inv-loop2 μ-loop2 Inv-loop μ-loop
-shl-masks c = search needs
+row-heads-requires : tie.Need-row-heads-requires Inv-loop2 μ-loop2 Inv-loop μ-loop
+row-heads-requires c κs = let p = c .before .pre in (p .0, p .1)
 
 loop-holds : tie.Need-loop-holds Inv-loop2 μ-loop2 Inv-loop μ-loop
 unfolding upTo
 loop-holds c =
-    let p = c .before .pre in
-    (p .0, shifted-is 64 (c .before .args .n) (omega arith), p .1, omega arith, length-replicate {A = ℕ} 1024 0, refl, refl)
+    let p = c .before .before .pre in
+    (p .0, shifted-is 64 (c .before .before .args .n) (omega arith), p .1, omega arith, length-replicate {A = ℕ} 1024 0, refl, refl)
 
 loop2-holds : tie.Need-loop2-holds Inv-loop2 μ-loop2 Inv-loop μ-loop
 loop2-holds c =
     let i = c .before .loop .inv in
-    let e = level-none (stands (c .before .before .before .args .present .now)) (Before (c .before .before .before .args .present .now) (shifted 64 (c .before .before .before .args .n)) (c .before .loop .c)) (c .before .loop .c) in
+    let e = level-none (stands (c .before .before .before .before .args .present .now)) (Before (c .before .before .before .before .args .present .now) (shifted 64 (c .before .before .before .before .args .n)) (c .before .loop .c)) (c .before .loop .c) in
     (i .0, i .1, i .2, omega arith, i .4, i .5 ∙ ap length e, i .6 ∙ e, omega arith)
 
-cast-is-row : tie.Need-cast-is-row Inv-loop2 μ-loop2 Inv-loop μ-loop
-cast-is-row c = omega (arith, c .before .loop2 .inv .0, c .before .loop2 .inv .7)
+below : (c : tie.In-loop2 Inv-loop2 μ-loop2 Inv-loop μ-loop) → c .before .loop2 .s < 1024
+below c = let i = c .before .loop2 .inv in omega (arith, c .loop2-test .taken, i .1, masks-le (c .before .before .before .before .before .before .args .n) (i .0))
 
-is-row-requires : tie.Need-is-row-requires Inv-loop2 μ-loop2 Inv-loop μ-loop
-is-row-requires c κs = omega (arith, c .before .loop2 .inv .1, c .before .loop2 .inv .2)
+mul-if1 : tie.Need-mul-if1 Inv-loop2 μ-loop2 Inv-loop μ-loop
+mul-if1 c = omega (arith, below c)
+
+array-read-if1 : tie.Need-array-read-if1 Inv-loop2 μ-loop2 Inv-loop μ-loop
+array-read-if1 c = below c
+
+cast-if1 : tie.Need-cast-if1 Inv-loop2 μ-loop2 Inv-loop μ-loop
+cast-if1 c = omega (arith, c .before .loop2 .inv .0, c .before .loop2 .inv .7)
+
+-- what was looked up of row s
+looked : (c : tie.In-loop2 Inv-loop2 μ-loop2 Inv-loop μ-loop) → getD (c .before .before .before .before .row-heads .result) (c .before .loop2 .s) 0
+    ≡ cond (stands (c .before .before .before .before .before .before .args .present .now) (c .before .loop2 .s)) (ones (c .before .loop2 .s)) 11
+looked c =
+    let a = c .before .before .before .before .before .before .args in let l = c .before .loop2 in
+    ap (λ (t : List ℕ). getD t (l .s) 0) (c .before .before .before .before .row-heads .ensures)
+    ∙ written-before (λ S. cond (stands (a .present .now) S) (ones S) 11) (2 ^ a .n) (l .s) (replicate 1024 0) 0 (omega (arith, c .loop2-test .taken, l .inv .1))
 
 -- at a row the next place is one of the array
-free : (c : tie.Then1 Inv-loop2 μ-loop2 Inv-loop μ-loop) → c .before .before .before .loop2 .k < 1024
+free : (c : tie.Then1 Inv-loop2 μ-loop2 Inv-loop μ-loop) → c .before .before .loop2 .k < 1024
 free c =
-    let m = c .before .before in
-    let i = m .before .loop2 .inv in
-    let P = m .before .before .before .before .before .args .present .now in
-    let n = m .before .before .before .before .before .args .n in
-    let t = sym (c .before .is-row .ensures) ∙ c .if1 .taken in
-    omega (arith, place (stands P) (m .before .before .before .loop .c) (m .before .loop2 .s) (shifted 64 n) (m .loop2-test .taken) t, i .5, i .1, lib.Pow.pow-mono {i = n} {j = 10} (i .0))
+    let m = c .before in let l = m .before .loop2 in let i = l .inv in let a = m .before .before .before .before .before .before .args in
+    let d = m .before .before .before .loop .c in
+    let t = is-row (stands (a .present .now) (l .s)) (ones (l .s)) d _ (looked m) (omega (arith, i .0, i .7)) (c .if1 .taken) in
+    omega (arith, place (stands (a .present .now)) d (l .s) (shifted 64 (a .n)) (m .loop2-test .taken) t, i .5, i .1, masks-le (a .n) (i .0))
 
 mul-all : tie.Need-mul-all Inv-loop2 μ-loop2 Inv-loop μ-loop
 mul-all c = omega (arith, free c)
@@ -86,24 +99,18 @@ array-write-all c = free c
 add-k : tie.Need-add-k Inv-loop2 μ-loop2 Inv-loop μ-loop
 add-k c = omega (arith, free c)
 
-add-s : tie.Need-add-s Inv-loop2 μ-loop2 Inv-loop μ-loop
-add-s c = search needs
-
-loop2-less : tie.Need-loop2-less Inv-loop2 μ-loop2 Inv-loop μ-loop
-loop2-less c = search needs
-
 loop2-again : tie.Need-loop2-again Inv-loop2 μ-loop2 Inv-loop μ-loop
 loop2-again c =
-    let m = c .before .before in
+    let m = c .before in
     let l = m .before .loop2 in
     let i = l .inv in
-    let P = m .before .before .before .before .before .args .present .now in
+    let P = m .before .before .before .before .before .before .args .present .now in
     let d = m .before .before .before .loop .c in
-    let R = Before P (shifted 64 (m .before .before .before .before .before .args .n)) d in
+    let R = Before P (shifted 64 (m .before .before .before .before .before .before .args .n)) d in
     ⊎-elim
     (λ w.
     let f = free (record { before = c .before; if1 = w .0 }) in
-    let t = sym (c .before .is-row .ensures) ∙ w .0 .taken in
+    let t = is-row (stands P (l .s)) (ones (l .s)) d _ (looked m) (omega (arith, i .0, i .7)) (w .0 .taken) in
     let q = append-assoc R (rowsOf (stands P) d (l .s)) (l .s ∷ []) ∙ ap (λ (t : List ℕ). R ++ t) (sym (level-next (stands P) d (l .s) ∙ ap (λ (b : Bool). rowsOf (stands P) d (l .s) ++ cond b (l .s ∷ []) []) t)) in (
       i .0,
       i .1,
@@ -115,24 +122,18 @@ loop2-again c =
       i .7,
     ))
     (λ w.
-    let t = sym (c .before .is-row .ensures) ∙ w .0 .left in
+    let t = no-row (stands P (l .s)) (ones (l .s)) d _ (looked m) (w .0 .left) in
     let e = level-none-at R (rowsOf (stands P) d (l .s)) ∙ ap (λ (t : List ℕ). R ++ t) (sym (level-next (stands P) d (l .s) ∙ ap (λ (b : Bool). rowsOf (stands P) d (l .s) ++ cond b (l .s ∷ []) []) t)) in
     (i .0, i .1, i .2, omega arith, ap length (w .1) ∙ i .4, w .2 ∙ i .5 ∙ ap length e, ap₂ (λ (n : ℕ) (t : List ℕ). take n t) (w .2) (w .1) ∙ i .6 ∙ e, i .7))
     (c .if1 .came)
-
-add-c : tie.Need-add-c Inv-loop2 μ-loop2 Inv-loop μ-loop
-add-c c = search needs
-
-loop-less : tie.Need-loop-less Inv-loop2 μ-loop2 Inv-loop μ-loop
-loop-less c = search needs
 
 loop-again : tie.Need-loop-again Inv-loop2 μ-loop2 Inv-loop μ-loop
 loop-again c =
     let l = c .before .loop2 in
     let i = l .inv in
-    let P = c .before .before .before .before .before .args .present .now in
+    let P = c .before .before .before .before .before .before .args .present .now in
     let d = c .before .before .before .loop .c in
-    let masks = shifted 64 (c .before .before .before .before .before .args .n) in
+    let masks = shifted 64 (c .before .before .before .before .before .before .args .n) in
     let z : l .s ≡ masks = omega arith in
     let e = ap (λ (x : ℕ). Before P masks d ++ rowsOf (stands P) d x) z ∙ sym (rows-next (stands P) masks d) in
     (i .0, i .1, i .2, omega (arith, i .7), i .4, i .5 ∙ ap length e, i .6 ∙ e)
@@ -142,33 +143,15 @@ unfolding rowOrder
 returns c =
     let l = c .before .loop in
     let i = l .inv in
-    let P = c .before .before .before .args .present .now in
-    let n = c .before .before .before .args .n in
+    let P = c .before .before .before .before .args .present .now in
+    let n = c .before .before .before .before .args .n in
     let e : l .c ≡ suc n = omega arith in (
       i .6 ∙ ap₂ (λ (m k : ℕ). Before P m k) (i .1) e,
-      (omega (arith, i .5, few-rows (stands P) (shifted 64 n) (l .c), i .1, lib.Pow.pow-mono {i = n} {j = 10} (i .0)), i .4),
+      (omega (arith, i .5, few-rows (stands P) (shifted 64 n) (l .c), i .1, masks-le n (i .0)), i .4),
     )
 
 pub row-order-spec : {M : Type 1} → statement M
 row-order-spec =
-    tie.close
-    (tie.spec
-    Inv-loop2
-    μ-loop2
-    Inv-loop
-    μ-loop
-    shl-masks
-    loop-holds
-    loop2-holds
-    cast-is-row
-    is-row-requires
-    mul-all
-    array-write-all
-    add-k
-    add-s
-    loop2-less
-    loop2-again
-    add-c
-    loop-less
-    loop-again
-    returns)
+    tie.close (tie.spec Inv-loop2 μ-loop2 Inv-loop μ-loop (λ c. search needs) row-heads-requires loop-holds loop2-holds mul-if1
+    array-read-if1 cast-if1 mul-all array-write-all add-k (λ c. search needs) (λ c. search needs) loop2-again (λ c. search needs)
+    (λ c. search needs) loop-again returns)

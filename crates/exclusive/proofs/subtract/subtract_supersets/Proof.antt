@@ -7,18 +7,18 @@ use native.Mathlib.Nat.{mul-le-mul-right}
 use native.Mathlib.Omega.{arith}
 use lib.Count.{ones}
 use lib.ListN.{length, getD, take, drop, length-take, length-replicate}
-use lib.Seq.{getD-take}
 use Rattle.lists.specs.Lists.{keep}
-use Rattle.lists.specs.Every.{Every, every-at, every-map}
-use Rattle.masks.specs.Mask.{strictSubset}
+use Rattle.lists.specs.Every.{Every}
+use Rattle.masks.specs.Mask.{subset, strictSubset}
 use Rattle.masks.specs.Presence.{stands}
 use Rattle.exclusive.specs.RowOrder.{rowOrder}
 use Rattle.exclusive.specs.Exclusive.{above}
-use Rattle.exclusive.proofs.RowOrder.{every-row}
+use Rattle.exclusive.proofs.RowOrder.{rows-ordered}
 use Rattle.exclusive.proofs.Places.{row-lt}
 use Rattle.exclusive.proofs.Unclamped.{above-every}
-use Rattle.exclusive.proofs.Sums.{strict-at}
-use Rattle.exclusive.proofs.Passing.{Pass, pass-start, pass-next, pass-end, all-above}
+use Rattle.exclusive.proofs.Sums.{supersets-after}
+use Rattle.exclusive.proofs.Passing.{Pass, pass-start, pass-next, pass-end, all-above, sums-due}
+use Rattle.exclusive.proofs.LevelSums.{row-at}
 use borrow.Author.Needs.{needs}
 use Rattle.exclusive.proofs.subtract.subtract_supersets.Statement.{statement}
 use Rattle.exclusive.proofs.subtract.subtract_supersets.Tie as tie
@@ -62,29 +62,27 @@ module _ (c : tie.In-loop Inv-loop μ-loop) where
   abbrev bytes : List ℕ
   bytes = c .before .before .before .before .before .before .args .present .now
 
+  found-at : (at < length (rowOrder (stands bytes) n)) × (getD (rowOrder (stands bytes) n) at 0 ≡ rows at) × (rows at < 2 ^ n)
+  found-at =
+      let i = c .before .loop .inv in let r = c .before .before .before .row-order .result in
+      row-at n (stands bytes) (r .all) (r .n) at (omega (arith, i .2, i .3)) (i .4) (omega (arith, c .loop-test .taken, i .5))
+
   inside : at < length (rowOrder (stands bytes) n)
-  inside =
-      let i = c .before .loop .inv in
-      omega (arith, length-take (c .before .before .before .row-order .result .n) (c .before .before .before .row-order .result .all), ap length (i .4), i .2, i .3, i .5)
+  inside = found-at .0
 
   here : getD (rowOrder (stands bytes) n) at 0 ≡ rows at
-  here =
-      let i = c .before .loop .inv in let r = c .before .before .before .row-order .result in
-      ap (λ (l : List ℕ). getD l at 0) (sym (i .4)) ∙ getD-take (r .n) (r .all) at 0 (omega (arith, i .5))
+  here = found-at .1
 
   own : rows at < 2 ^ n
-  own =
-      subst (λ (m : ℕ). m < 2 ^ n) here
-      (every-at (λ T. T < 2 ^ n) (rowOrder (stands bytes) n) at 0 inside (every-row (stands bytes) (λ T. T < 2 ^ n) n (λ T h p. h)))
+  own = found-at .2
 
   -- what is collected there is what is above the row
-  collected : (l : List ℕ) → l ≡ keep (strictSubset 64 (rows at)) (drop (at + 1) (take (c .before .before .before .row-order .result .n) (c .before .before .before .row-order .result .all)))
+  collected : (l : List ℕ) → l ≡ keep (subset 64 (rows at)) (drop (at + 1) (take (c .before .before .before .row-order .result .n) (c .before .before .before .row-order .result .all)))
       → l ≡ keep (strictSubset n (rows at)) (drop (at + 1) (rowOrder (stands bytes) n))
   collected l e =
       let i = c .before .loop .inv in
-      e ∙ ap (λ (p : ℕ → _). keep p (drop (at + 1) (take (c .before .before .before .row-order .result .n) (c .before .before .before .row-order .result .all))))
-      (strict-at n (rows at) own (omega (arith, row-lt n (rows at) (i .0) own)))
-      ∙ ap (λ (r : List ℕ). keep (strictSubset n (rows at)) (drop (at + 1) r)) (i .4)
+      e ∙ ap (λ (r : List ℕ). keep (subset 64 (rows at)) (drop (at + 1) r)) (i .4)
+      ∙ supersets-after (rowOrder (stands bytes) n) at (rows at) inside here (at + 1) n own (omega (arith, row-lt n (rows at) (i .0) own)) (omega arith) (rows-ordered (stands bytes) n)
 
 sub-i : tie.Need-sub-i Inv-loop μ-loop
 sub-i c = omega arith
@@ -122,7 +120,8 @@ loop-again c =
     let t = c .before .before in let k = t .before .before .before in let m = k .before .before .before in let l = m .before .loop in let i = l .inv in
     let a = m .before .before .before .before .before .before .args in
     let e = k .collect-supersets .ensures in
-    let z : l .i ≡ at m + 1 = omega arith in (
+    let z : l .i ≡ at m + 1 = omega arith in
+    let p = subst (λ (j : ℕ). Pass (n m) (stands (bytes m)) (a .width) j (a .numbers .now) (l .numbers)) z (i .7) in (
       i .0,
       i .1,
       i .2,
@@ -130,9 +129,9 @@ loop-again c =
       i .4,
       omega arith,
       e .1 .1,
-      pass-next (n m) (stands (bytes m)) (a .width) (at m) (rows m (at m)) (own m) (inside m) (here m) (a .numbers .now) (l .numbers) _ _ (collected m _ (e .0))
-          (subst (λ (j : ℕ). Pass (n m) (stands (bytes m)) (a .width) j (a .numbers .now) (l .numbers)) z (i .7))
-          (t .subtract-row .ensures),
+      pass-next (n m) (stands (bytes m)) (a .width) (at m) (rows m (at m)) (own m) (inside m) (here m) (a .numbers .now) (l .numbers) _ _
+          (sums-due (n m) (stands (bytes m)) (a .width) (at m) (rows m (at m)) (own m) (inside m) (here m) (a .numbers .now) (l .numbers) _ (collected m _ (e .0)) p)
+          p (t .subtract-row .ensures),
     )
 
 same-length : tie.Need-same-length Inv-loop μ-loop
@@ -147,19 +146,5 @@ returns c =
 
 pub subtract-supersets-spec : {M : Type 1} → statement M
 subtract-supersets-spec =
-    tie.close
-    (tie.spec
-    Inv-loop
-    μ-loop
-    row-order-requires
-    loop-holds
-    sub-i
-    mul-s
-    array-read-s
-    add-collect-supersets
-    collect-supersets-requires
-    subtract-row-requires
-    loop-less
-    loop-again
-    same-length
-    returns)
+    tie.close (tie.spec Inv-loop μ-loop row-order-requires loop-holds sub-i mul-s array-read-s add-collect-supersets
+    collect-supersets-requires subtract-row-requires loop-less loop-again same-length returns)

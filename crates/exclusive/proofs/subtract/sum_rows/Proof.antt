@@ -28,12 +28,6 @@ loop-holds c =
     let p = c .pre in let a = c .args in
     (length-take (a .count) (a .rows .now) ∙ omega (arith, p), p .0, p .1, p .2, p .3, refl)
 
-mul-t : tie.Need-mul-t Inv-loop μ-loop
-mul-t c = search needs
-
-element-copy-out-t : tie.Need-element-copy-out-t Inv-loop μ-loop
-element-copy-out-t c = search needs
-
 -- the row at j is a row of the table
 inside : (c : tie.In-loop Inv-loop μ-loop)
     → suc (getD (c .before .before .args .rows .now) (c .before .loop .j) 0) * c .before .before .args .width ≤ length (c .before .before .args .numbers .now)
@@ -53,12 +47,6 @@ mul-sum-2 c = omega (arith, inside (c .before))
 
 shared-slice-read-sum : tie.Need-shared-slice-read-sum Inv-loop μ-loop
 shared-slice-read-sum c = omega (arith, inside (c .before .before))
-
-add-j : tie.Need-add-j Inv-loop μ-loop
-add-j c = search needs
-
-loop-less : tie.Need-loop-less Inv-loop μ-loop
-loop-less c = search needs
 
 loop-again : tie.Need-loop-again Inv-loop μ-loop
 loop-again c =
@@ -81,18 +69,5 @@ returns c =
 
 pub sum-rows-spec : {M : Type 1} → statement M
 sum-rows-spec =
-    tie.close
-    (tie.spec
-    Inv-loop
-    μ-loop
-    loop-holds
-    mul-t
-    element-copy-out-t
-    mul-sum
-    add-sum
-    mul-sum-2
-    shared-slice-read-sum
-    add-j
-    loop-less
-    loop-again
-    returns)
+    tie.close (tie.spec Inv-loop μ-loop loop-holds (λ c. search needs) (λ c. search needs) mul-sum add-sum mul-sum-2 shared-slice-read-sum
+    (λ c. search needs) (λ c. search needs) loop-again returns)

@@ -3,17 +3,8 @@ use borrow.Author.Needs.{needs}
 use Rattle.geometry.proofs.circle.lens.Statement.{statement}
 use Rattle.geometry.proofs.circle.lens.Tie as tie
 
-acos-requires : tie.Need-acos-requires
-acos-requires c κs = search needs
-
-acos-requires-2 : tie.Need-acos-requires-2
-acos-requires-2 c κs = search needs
-
-root-requires : tie.Need-root-requires
-root-requires c κs = search needs
-
 returns : tie.Need-returns
 returns c = rw (c .root .ensures, c .before .acos2 .ensures, c .before .before .acos .ensures)
 
 pub lens-spec : {M : Type 1} → statement M
-lens-spec = tie.close (tie.spec acos-requires acos-requires-2 root-requires returns)
+lens-spec = tie.close (tie.spec (λ c κs. search needs) (λ c κs. search needs) (λ c κs. search needs) returns)

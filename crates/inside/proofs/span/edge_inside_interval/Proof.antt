@@ -32,9 +32,6 @@ abbrev μ-loop : tie.MeasureT-loop
 loop-holds : tie.Need-loop-holds Inv-loop μ-loop
 loop-holds c = record { places = search length-of-values; count = refl; few = omega arith; within = omega arith; rest = refl }
 
-open-between-requires : tie.Need-open-between-requires Inv-loop μ-loop
-open-between-requires c κs = search needs
-
 returns : tie.Need-returns Inv-loop μ-loop
 returns c = let d = c .before .before .before in
     let a = d .before .args in
@@ -45,18 +42,6 @@ returns c = let d = c .before .before .before in
     ∙ sym (span-end (a .at) (d .loop .lo) (d .loop .hi) cs (d .loop .i) (omega (arith, many, length-take (set .n) (set .circles))))
     ∙ d .loop .inv .rest
 
-mul-seen : tie.Need-mul-seen Inv-loop μ-loop
-mul-seen c = search needs
-
-element-copy-out-seen : tie.Need-element-copy-out-seen Inv-loop μ-loop
-element-copy-out-seen c = search needs
-
-seen-requires : tie.Need-seen-requires Inv-loop μ-loop
-seen-requires c κs = search needs
-
-misses-requires : tie.Need-misses-requires Inv-loop μ-loop
-misses-requires c κs = search needs
-
 returns-2 : tie.Need-returns-2 Inv-loop μ-loop
 returns-2 c = let d = c .before .before .before .before .before .before in
     let a = d .before .args in
@@ -66,21 +51,6 @@ returns-2 c = let d = c .before .before .before .before .before .before in
     let here = seen-at (a .upright) (set .n) (set .circles) (d .loop .i) (omega arith) below in
     let e = ap (misses (a .at)) (sym here) ∙ ap (misses (a .at)) (sym (c .before .before .seen .ensures)) ∙ sym (c .before .misses .ensures) ∙ c .if2 .taken in
     sym (span-none (a .at) (d .loop .lo) (d .loop .hi) cs (d .loop .i) (omega (arith, length-map (circleList set) (seen (a .upright)))) e) ∙ d .loop .inv .rest
-
-half-chord-requires : tie.Need-half-chord-requires Inv-loop μ-loop
-half-chord-requires c κs = search needs
-
-raised-requires : tie.Need-raised-requires Inv-loop μ-loop
-raised-requires c κs = search needs
-
-lowered-requires : tie.Need-lowered-requires Inv-loop μ-loop
-lowered-requires c κs = search needs
-
-add-i : tie.Need-add-i Inv-loop μ-loop
-add-i c = search needs
-
-loop-less : tie.Need-loop-less Inv-loop μ-loop
-loop-less c = search needs
 
 loop-again : tie.Need-loop-again Inv-loop μ-loop
 loop-again c = let d = c .before .before .before .before .before .before .before .before .before .before .before in
@@ -107,9 +77,6 @@ loop-again c = let d = c .before .before .before .before .before .before .before
           ∙ d .loop .inv .rest;
     }
 
-open-between-requires-2 : tie.Need-open-between-requires-2 Inv-loop μ-loop
-open-between-requires-2 c κs = search needs
-
 returns-3 : tie.Need-returns-3 Inv-loop μ-loop
 returns-3 c = let d = c .before .before in
     let a = d .before .args in
@@ -122,23 +89,6 @@ returns-3 c = let d = c .before .before in
 
 pub edge-inside-interval-spec : {M : Type 1} → statement M
 edge-inside-interval-spec =
-    tie.close
-    (tie.spec
-    Inv-loop
-    μ-loop
-    loop-holds
-    open-between-requires
-    returns
-    mul-seen
-    element-copy-out-seen
-    seen-requires
-    misses-requires
-    returns-2
-    half-chord-requires
-    raised-requires
-    lowered-requires
-    add-i
-    loop-less
-    loop-again
-    open-between-requires-2
-    returns-3)
+    tie.close (tie.spec Inv-loop μ-loop loop-holds (λ c κs. search needs) returns (λ c. search needs) (λ c. search needs)
+    (λ c κs. search needs) (λ c κs. search needs) returns-2 (λ c κs. search needs) (λ c κs. search needs) (λ c κs. search needs)
+    (λ c. search needs) (λ c. search needs) loop-again (λ c κs. search needs) returns-3)

@@ -7,12 +7,9 @@ use Rattle.inside.proofs.Spanning.{seen-level}
 use Rattle.inside.proofs.span.horizontal_edge_inside_interval.Statement.{statement}
 use Rattle.inside.proofs.span.horizontal_edge_inside_interval.Tie as tie
 
-edge-inside-interval-requires : tie.Need-edge-inside-interval-requires
-edge-inside-interval-requires c κs = search needs
-
 returns : tie.Need-returns
 returns c = let a = c .before .args in
     c .edge-inside-interval .ensures ∙ ap (horizontalSpan (a .y) (a .x-min) (a .x-max)) (seen-level (circleList (a .set)))
 
 pub horizontal-edge-inside-interval-spec : {M : Type 1} → statement M
-horizontal-edge-inside-interval-spec = tie.close (tie.spec edge-inside-interval-requires returns)
+horizontal-edge-inside-interval-spec = tie.close (tie.spec (λ c κs. search needs) returns)

@@ -32,9 +32,6 @@ abbrev μ-loop : tie.MeasureT-loop
 ten : (c : tie.Start Inv-loop μ-loop) → length (c .args .circles) ≡ 10
 ten c = search needs
 
-new-requires : tie.Need-new-requires Inv-loop μ-loop
-new-requires c κs = search needs
-
 loop-holds : tie.Need-loop-holds Inv-loop μ-loop
 unfolding upTo
 loop-holds c = record { places = ten (c .before); few = omega arith; within = omega arith; points = refl; exact = refl }
@@ -73,15 +70,4 @@ returns-2 c = let l = c .before .loop in let a = c .before .before .before .args
 
 pub collect-intersections-spec : {M : Type 1} → statement M
 collect-intersections-spec =
-    tie.close
-    (tie.spec
-    Inv-loop
-    μ-loop
-    new-requires
-    loop-holds
-    returns
-    push-later-requires
-    add-i
-    loop-less
-    loop-again
-    returns-2)
+    tie.close (tie.spec Inv-loop μ-loop (λ c κs. search needs) loop-holds returns push-later-requires add-i loop-less loop-again returns-2)

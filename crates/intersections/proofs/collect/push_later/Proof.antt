@@ -99,16 +99,4 @@ returns-2 c =
     (rw e at (l .inv .points), l .inv .exact)
 
 pub push-later-spec : {M : Type 1} → statement M
-push-later-spec =
-    tie.close
-    (tie.spec
-    Inv-loop
-    μ-loop
-    add-j
-    loop-holds
-    returns
-    push-pair-requires
-    add-j-2
-    loop-less
-    loop-again
-    returns-2)
+push-later-spec = tie.close (tie.spec Inv-loop μ-loop add-j loop-holds returns push-pair-requires add-j-2 loop-less loop-again returns-2)

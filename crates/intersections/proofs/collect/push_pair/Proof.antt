@@ -53,32 +53,14 @@ mul-new c = let s = c .before in omega (arith, within s (s .pre .1))
 array-copy-out-new : tie.Need-array-copy-out-new
 array-copy-out-new c = let s = c .before in within s (s .pre .1) .0
 
-new-requires : tie.Need-new-requires
-new-requires c κs = search needs
-
 enum-told : tie.Need-enum-told
 enum-told c = search needs
-
-enum-known-meeting : tie.Need-enum-known-meeting
-enum-known-meeting c = search needs
-
-new-requires-2 : tie.Need-new-requires-2
-new-requires-2 c κs = search needs
 
 push-with-adopters-requires : tie.Need-push-with-adopters-requires
 push-with-adopters-requires c κs = parents (c .before .before .before .before)
 
-enum-known-meeting-2 : tie.Need-enum-known-meeting-2
-enum-known-meeting-2 c = search needs
-
-new-requires-3 : tie.Need-new-requires-3
-new-requires-3 c κs = search needs
-
 push-with-adopters-requires-2 : tie.Need-push-with-adopters-requires-2
 push-with-adopters-requires-2 c κs = parents (c .before .before .before .before)
-
-new-requires-4 : tie.Need-new-requires-4
-new-requires-4 c κs = search needs
 
 push-with-adopters-requires-3 : tie.Need-push-with-adopters-requires-3
 push-with-adopters-requires-3 c κs = parents (c .before .before .before .before .before .before)
@@ -110,22 +92,6 @@ returns-3 c = let d = c .before .before .before .before .before .before .before 
 
 pub push-pair-spec : {M : Type 1} → statement M
 push-pair-spec =
-    tie.close
-    (tie.spec
-    mul-first
-    array-copy-out-first
-    mul-new
-    array-copy-out-new
-    new-requires
-    enum-told
-    enum-known-meeting
-    new-requires-2
-    push-with-adopters-requires
-    enum-known-meeting-2
-    new-requires-3
-    push-with-adopters-requires-2
-    new-requires-4
-    push-with-adopters-requires-3
-    returns
-    returns-2
-    returns-3)
+    tie.close (tie.spec mul-first array-copy-out-first mul-new array-copy-out-new (λ c κs. search needs) enum-told (λ c. search needs)
+    (λ c κs. search needs) push-with-adopters-requires (λ c. search needs) (λ c κs. search needs) push-with-adopters-requires-2
+    (λ c κs. search needs) push-with-adopters-requires-3 returns returns-2 returns-3)

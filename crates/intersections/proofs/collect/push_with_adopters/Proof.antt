@@ -14,12 +14,6 @@ use Rattle.intersections.proofs.collect.push_with_adopters.Tie as tie
 long : (c : tie.Start) → length (c .args .list .all) ≡ 90
 long c = search length-of-values
 
-adopters-requires : tie.Need-adopters-requires
-adopters-requires c κs = search needs
-
-push-point-requires : tie.Need-push-point-requires
-push-point-requires c κs = search needs
-
 returns : tie.Need-returns
 unfolding withAdopters
 returns c = let s = c .before .before in let l = s .args .list in
@@ -29,4 +23,4 @@ returns c = let s = c .before .before in let l = s .args .list in
     )
 
 pub push-with-adopters-spec : {M : Type 1} → statement M
-push-with-adopters-spec = tie.close (tie.spec adopters-requires push-point-requires returns)
+push-with-adopters-spec = tie.close (tie.spec (λ c κs. search needs) (λ c κs. search needs) returns)

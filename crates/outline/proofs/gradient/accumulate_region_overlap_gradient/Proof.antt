@@ -15,7 +15,7 @@ use Rattle.outline.proofs.gradient.accumulate_region_overlap_gradient.T
 
 record Added (cs : List Circle) (grad₀ : List Float) (arcs : Arcs) (n i : ℕ) (grad : List Float) : Type 0 where
   same : length grad ≡ length grad₀
-  added : ArcsTo (addSlopes cs) grad₀ arcs n i grad
+  added : ArcsTo (addSlopes cs) grad₀ (arcs .all) 180 (arcs .n) n i grad
 
 abbrev Inv-loop : tie.InvT-loop
 Inv-loop circles n-sets grad₀ arcs n i₀ grad i = Added (take n-sets circles) grad₀ arcs n i grad
@@ -25,7 +25,7 @@ abbrev μ-loop : tie.MeasureT-loop
 
 loop-holds : tie.Need-loop-holds Inv-loop μ-loop
 loop-holds c =
-    record { same = refl; added = record { places = search length-of-values; count = refl; most = omega arith; within = omega arith; sum = refl } }
+    record { same = refl; added = record { long = search length-of-values; count = refl; most = omega arith; within = omega arith; sum = refl } }
 
 same-length : tie.Need-same-length Inv-loop μ-loop
 same-length c = c .before .before .loop .inv .same
@@ -62,18 +62,5 @@ returns-2 c = arcs-by-room (c .before .loop .inv .added) (omega arith)
 
 pub accumulate-region-overlap-gradient-spec : {M : Type 1} → statement M
 accumulate-region-overlap-gradient-spec =
-    tie.close
-    (tie.spec
-    Inv-loop
-    μ-loop
-    loop-holds
-    same-length
-    returns
-    mul-add-slopes
-    element-copy-out-add-slopes
-    add-slopes-requires
-    add-i
-    loop-less
-    loop-again
-    same-length-2
-    returns-2)
+    tie.close (tie.spec Inv-loop μ-loop loop-holds same-length returns mul-add-slopes element-copy-out-add-slopes add-slopes-requires add-i
+    loop-less loop-again same-length-2 returns-2)

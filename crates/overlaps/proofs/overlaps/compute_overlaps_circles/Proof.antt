@@ -21,45 +21,18 @@ use Rattle.overlaps.proofs.overlaps.compute_overlaps_circles.Tie as tie
 ten : (c : tie.Start) → length (c .args .t1) ≡ 10
 ten c = search needs
 
-array-copy-out-one : tie.Need-array-copy-out-one
-array-copy-out-one c = search needs
-
-area-requires : tie.Need-area-requires
-area-requires c κs = search needs
-
 returns : tie.Need-returns
 returns c =
     let s = c .before .before .before in
     c .area .ensures ∙ of-one (s .args .t1) (omega (arith, ten s)) ∙ ap (λ (m : ℕ). overlap (take m (s .args .t1))) (sym (c .before .before .if1 .taken))
-
-array-copy-out-one-2 : tie.Need-array-copy-out-one-2
-array-copy-out-one-2 c = search needs
-
-array-copy-out-intersection-area : tie.Need-array-copy-out-intersection-area
-array-copy-out-intersection-area c = search needs
-
-intersection-area-requires : tie.Need-intersection-area-requires
-intersection-area-requires c κs = search needs
 
 returns-2 : tie.Need-returns-2
 returns-2 c =
     let t = c .before .before .before in let s = t .before .before in
     c .intersection-area .ensures ∙ of-two (s .args .t1) (omega (arith, ten s)) ∙ ap (λ (m : ℕ). overlap (take m (s .args .t1))) (sym (t .if2 .taken))
 
-collect-intersections-requires : tie.Need-collect-intersections-requires
-collect-intersections-requires c κs = search needs
-
-at-most-ten-requires : tie.Need-at-most-ten-requires
-at-most-ten-requires c κs = search needs
-
-shl-all : tie.Need-shl-all
-shl-all c = search needs
-
 sub-all : tie.Need-sub-all
 sub-all c = let n = c .at-most-ten .result in omega (arith, shifted-is 64 n (omega (arith, c .at-most-ten .ensures)), pow-pos n)
-
-region-area-requires : tie.Need-region-area-requires
-region-area-requires c κs = search needs
 
 returns-3 : tie.Need-returns-3
 returns-3 c =
@@ -74,18 +47,5 @@ returns-3 c =
 
 pub compute-overlaps-circles-spec : {M : Type 1} → statement M
 compute-overlaps-circles-spec =
-    tie.close
-    (tie.spec
-    array-copy-out-one
-    area-requires
-    returns
-    array-copy-out-one-2
-    array-copy-out-intersection-area
-    intersection-area-requires
-    returns-2
-    collect-intersections-requires
-    at-most-ten-requires
-    shl-all
-    sub-all
-    region-area-requires
-    returns-3)
+    tie.close (tie.spec (λ c. search needs) (λ c κs. search needs) returns (λ c. search needs) (λ c. search needs) (λ c κs. search needs)
+    returns-2 (λ c κs. search needs) (λ c κs. search needs) (λ c. search needs) sub-all (λ c κs. search needs) returns-3)

@@ -5,14 +5,8 @@ use borrow.Author.Needs.{needs}
 use Rattle.overlaps.proofs.overlaps.compute_overlaps_of.Statement.{statement}
 use Rattle.overlaps.proofs.overlaps.compute_overlaps_of.Tie as tie
 
-members-of-requires : tie.Need-members-of-requires
-members-of-requires c κs = search needs
-
-compute-overlaps-circles-requires : tie.Need-compute-overlaps-circles-requires
-compute-overlaps-circles-requires c κs = search needs
-
 returns : tie.Need-returns
 returns c = c .compute-overlaps-circles .ensures ∙ ap overlap (c .before .before .members-of .ensures .1 .1)
 
 pub compute-overlaps-of-spec : {M : Type 1} → statement M
-compute-overlaps-of-spec = tie.close (tie.spec members-of-requires compute-overlaps-circles-requires returns)
+compute-overlaps-of-spec = tie.close (tie.spec (λ c κs. search needs) (λ c κs. search needs) returns)

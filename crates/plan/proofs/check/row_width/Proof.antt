@@ -11,21 +11,6 @@ returns c = rw (lt-leb _ _ (c .if1 .taken))
 enum-told : tie.Need-enum-told
 enum-told c = search needs
 
-enum-told-2 : tie.Need-enum-told-2
-enum-told-2 c = search needs
-
-mul-result : tie.Need-mul-result
-mul-result c = search needs
-
-add-result : tie.Need-add-result
-add-result c = search needs
-
-enum-told-3 : tie.Need-enum-told-3
-enum-told-3 c = search needs
-
-mul-result-2 : tie.Need-mul-result-2
-mul-result-2 c = search needs
-
 returns-2 : tie.Need-returns-2
 returns-2 c = rw (le-leb (c .before .before .before .args .n) 10 (c .before .before .if1 .left), c .enum-told .given .1)
 
@@ -37,15 +22,5 @@ returns-4 c = rw (le-leb (c .before .before .before .args .n) 10 (c .before .bef
 
 pub row-width-spec : {M : Type 1} → statement M
 row-width-spec =
-    tie.close
-    (tie.spec
-    returns
-    enum-told
-    enum-told-2
-    mul-result
-    add-result
-    enum-told-3
-    mul-result-2
-    returns-2
-    returns-3
-    returns-4)
+    tie.close (tie.spec returns enum-told (λ c. search needs) (λ c. search needs) (λ c. search needs) (λ c. search needs)
+    (λ c. search needs) returns-2 returns-3 returns-4)

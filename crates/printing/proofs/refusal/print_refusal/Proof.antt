@@ -5,33 +5,6 @@ use borrow.Author.Needs.{needs}
 use Rattle.printing.proofs.refusal.print_refusal.Statement.{statement}
 use Rattle.printing.proofs.refusal.print_refusal.Tie as tie
 
-slice-aggregate-put-word : tie.Need-slice-aggregate-put-word
-slice-aggregate-put-word c = search needs
-
-put-word-requires : tie.Need-put-word-requires
-put-word-requires c κs = search needs
-
-put-decimal-requires : tie.Need-put-decimal-requires
-put-decimal-requires c κs = search needs
-
-slice-aggregate-put-word-2 : tie.Need-slice-aggregate-put-word-2
-slice-aggregate-put-word-2 c = search needs
-
-put-word-requires-2 : tie.Need-put-word-requires-2
-put-word-requires-2 c κs = search needs
-
-put-decimal-requires-2 : tie.Need-put-decimal-requires-2
-put-decimal-requires-2 c κs = search needs
-
-put-byte-requires : tie.Need-put-byte-requires
-put-byte-requires c κs = search needs
-
-add-result : tie.Need-add-result
-add-result c = search needs
-
-same-length : tie.Need-same-length
-same-length c = search needs
-
 returns : tie.Need-returns
 returns c =
     let last = c .before .before .put-byte in
@@ -45,15 +18,5 @@ returns c =
 
 pub print-refusal-spec : {M : Type 1} → statement M
 print-refusal-spec =
-    tie.close
-    (tie.spec
-    slice-aggregate-put-word
-    put-word-requires
-    put-decimal-requires
-    slice-aggregate-put-word-2
-    put-word-requires-2
-    put-decimal-requires-2
-    put-byte-requires
-    add-result
-    same-length
-    returns)
+    tie.close (tie.spec (λ c. search needs) (λ c κs. search needs) (λ c κs. search needs) (λ c. search needs) (λ c κs. search needs)
+    (λ c κs. search needs) (λ c κs. search needs) (λ c. search needs) (λ c. search needs) returns)

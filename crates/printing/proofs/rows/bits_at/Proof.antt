@@ -13,17 +13,8 @@ nan-bits : 9221120237041090560 ≡ toBits binary64 nan
 unfolding toBits
 nan-bits = refl
 
-mul-x : tie.Need-mul-x
-mul-x c = search needs
-
-shared-slice-read-x : tie.Need-shared-slice-read-x
-shared-slice-read-x c = search needs
-
 float-to-bits-result : tie.Need-float-to-bits-result
 float-to-bits-result c = subst (λ (b : Bool). T (not b)) (sym (equals-itself _ (c .if2 .taken))) tt
-
-returns : tie.Need-returns
-returns c = search needs
 
 returns-2 : tie.Need-returns-2
 returns-2 c = nan-bits ∙ sym (ap (toBits binary64) (only-nan _ (c .if2 .left)))
@@ -32,5 +23,4 @@ returns-3 : tie.Need-returns-3
 returns-3 c = let a = c .before .args in nan-bits ∙ sym (ap (toBits binary64) (List·getD-eq-default (a .numbers .now) nan (c .if1 .left)))
 
 pub bits-at-spec : {M : Type 1} → statement M
-bits-at-spec =
-    tie.close (tie.spec mul-x shared-slice-read-x float-to-bits-result returns returns-2 returns-3)
+bits-at-spec = tie.close (tie.spec (λ c. search needs) (λ c. search needs) float-to-bits-result (λ c. search needs) returns-2 returns-3)

@@ -9,9 +9,6 @@ use borrow.Author.Needs.{needs}
 use Rattle.printing.proofs.rows.is_row.Statement.{statement}
 use Rattle.printing.proofs.rows.is_row.Tie as tie
 
-shared-slice-read-if2 : tie.Need-shared-slice-read-if2
-shared-slice-read-if2 c = search needs
-
 returns : tie.Need-returns
 returns c = let a = c .before .before .before .args in sym (ap (λ (b : Bool). b && eqb (ones (a .s)) (a .c)) (eq-eqb _ 1 (c .if2 .taken)))
 
@@ -24,4 +21,4 @@ returns-3 c =
     sym (ap (λ x. eqb x 1 && eqb (ones (a .s)) (a .c)) (List·getD-eq-default (a .presence .now) 0 (c .if1 .left)))
 
 pub is-row-spec : {M : Type 1} → statement M
-is-row-spec = tie.close (tie.spec shared-slice-read-if2 returns returns-2 returns-3)
+is-row-spec = tie.close (tie.spec (λ c. search needs) returns returns-2 returns-3)

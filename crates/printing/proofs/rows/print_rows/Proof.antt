@@ -34,9 +34,6 @@ returns c =
     let none = lines-none (a .n) (a .presence .now) (a .numbers .now) (c .if1 .taken) in
     record { counted = sym (ap length none); bytes = sym (ap (put (a .out .now) 0) none ∙ put-nothing (a .out .now) 0) }
 
-shl-masks : tie.Need-shl-masks Inv-loop μ-loop
-shl-masks c = search needs
-
 loop-holds : tie.Need-loop-holds Inv-loop μ-loop
 loop-holds c =
     let a = c .before .before .before .before .args in
@@ -50,17 +47,8 @@ loop-holds c =
       refl,
     )
 
-cast-put-level : tie.Need-cast-put-level Inv-loop μ-loop
-cast-put-level c = search needs
-
 put-level-requires : tie.Need-put-level-requires Inv-loop μ-loop
 put-level-requires c κs = let i = c .before .before .loop .inv in (omega (arith, i .0, i .2, i .4), omega (arith, i .1, masks-le _ (i .0)))
-
-add-c : tie.Need-add-c Inv-loop μ-loop
-add-c c = search needs
-
-loop-less : tie.Need-loop-less Inv-loop μ-loop
-loop-less c = search needs
 
 loop-again : tie.Need-loop-again Inv-loop μ-loop
 loop-again c =
@@ -97,17 +85,5 @@ returns-2 c =
 
 pub print-rows-spec : {M : Type 1} → statement M
 print-rows-spec =
-    tie.close
-    (tie.spec
-    Inv-loop
-    μ-loop
-    returns
-    shl-masks
-    loop-holds
-    cast-put-level
-    put-level-requires
-    add-c
-    loop-less
-    loop-again
-    same-length
-    returns-2)
+    tie.close (tie.spec Inv-loop μ-loop returns (λ c. search needs) loop-holds (λ c. search needs) put-level-requires (λ c. search needs)
+    (λ c. search needs) loop-again same-length returns-2)

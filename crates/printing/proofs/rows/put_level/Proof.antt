@@ -32,21 +32,6 @@ loop-holds c =
     let none = no-level (stands (a .presence .now)) (rowLine (λ S. getD (a .numbers .now) S nan)) (a .c) in
     (omega arith, omega (arith, ap length none), omega arith, sym (ap (put (a .out .now) (a .start)) none ∙ put-nothing (a .out .now) (a .start)), refl)
 
-is-row-requires : tie.Need-is-row-requires Inv-loop μ-loop
-is-row-requires c κs = search needs
-
-bits-at-requires : tie.Need-bits-at-requires Inv-loop μ-loop
-bits-at-requires c κs = search needs
-
-put-line-requires : tie.Need-put-line-requires Inv-loop μ-loop
-put-line-requires c κs = search needs
-
-add-s : tie.Need-add-s Inv-loop μ-loop
-add-s c = search needs
-
-loop-less : tie.Need-loop-less Inv-loop μ-loop
-loop-less c = search needs
-
 loop-again : tie.Need-loop-again Inv-loop μ-loop
 loop-again c =
     let l = c .before .before .before .loop in
@@ -82,16 +67,5 @@ returns c =
 
 pub put-level-spec : {M : Type 1} → statement M
 put-level-spec =
-    tie.close
-    (tie.spec
-    Inv-loop
-    μ-loop
-    loop-holds
-    is-row-requires
-    bits-at-requires
-    put-line-requires
-    add-s
-    loop-less
-    loop-again
-    same-length
-    returns)
+    tie.close (tie.spec Inv-loop μ-loop loop-holds (λ c κs. search needs) (λ c κs. search needs) (λ c κs. search needs) (λ c. search needs)
+    (λ c. search needs) loop-again same-length returns)

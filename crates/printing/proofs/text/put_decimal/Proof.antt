@@ -28,9 +28,6 @@ mul-unit c =
 add-k : tie.Need-add-k Inv-loop μ-loop
 add-k c = let l = c .before .loop in let few = exponent-lt (l .k) 21 (omega (arith, l .inv .0, l .inv .2)) in omega arith
 
-loop-less : tie.Need-loop-less Inv-loop μ-loop
-loop-less c = search needs
-
 loop-again : tie.Need-loop-again Inv-loop μ-loop
 loop-again c =
     let l = c .before .loop in
@@ -46,9 +43,6 @@ put-digits-requires c κs =
     let l = c .before .before .loop in
     let few = exponent-lt (l .k) 21 (omega (arith, l .inv .0, l .inv .2)) in
     (omega arith, omega arith, omega arith, omega arith, omega (arith, l .inv .0))
-
-same-length : tie.Need-same-length Inv-loop μ-loop
-same-length c = search needs
 
 returns : tie.Need-returns Inv-loop μ-loop
 returns c =
@@ -66,15 +60,5 @@ returns c =
 
 pub put-decimal-spec : {M : Type 1} → statement M
 put-decimal-spec =
-    tie.close
-    (tie.spec
-    Inv-loop
-    μ-loop
-    loop-holds
-    mul-unit
-    add-k
-    loop-less
-    loop-again
-    put-digits-requires
-    same-length
+    tie.close (tie.spec Inv-loop μ-loop loop-holds mul-unit add-k (λ c. search needs) loop-again put-digits-requires (λ c. search needs)
     returns)

@@ -27,29 +27,11 @@ div-glyph c =
     let pre = c .before .before .before .before .pre in
     omega (arith, unit-pos _ (l .left) (pre .2) (c .before .loop-test .taken), l .inv .2)
 
-rem-glyph : tie.Need-rem-glyph Inv-loop μ-loop
-rem-glyph c = search needs
-
 glyph-requires : tie.Need-glyph-requires Inv-loop μ-loop
 glyph-requires c κs =
     let pre = c .before .before .before .before .pre in
     let b = c .before .before .before .before .args .base in
     omega (arith, mod-lt (c .before .before .before .before .args .n / c .before .before .loop .unit) {m = b} (omega (arith, pre .2)), pre .3)
-
-put-byte-requires : tie.Need-put-byte-requires Inv-loop μ-loop
-put-byte-requires c κs = search needs
-
-div-unit : tie.Need-div-unit Inv-loop μ-loop
-div-unit c = search needs
-
-add-place : tie.Need-add-place Inv-loop μ-loop
-add-place c = search needs
-
-sub-left : tie.Need-sub-left Inv-loop μ-loop
-sub-left c = search needs
-
-loop-less : tie.Need-loop-less Inv-loop μ-loop
-loop-less c = search needs
 
 loop-again : tie.Need-loop-again Inv-loop μ-loop
 loop-again c =
@@ -80,19 +62,5 @@ returns c =
 
 pub put-digits-spec : {M : Type 1} → statement M
 put-digits-spec =
-    tie.close
-    (tie.spec
-    Inv-loop
-    μ-loop
-    loop-holds
-    div-glyph
-    rem-glyph
-    glyph-requires
-    put-byte-requires
-    div-unit
-    add-place
-    sub-left
-    loop-less
-    loop-again
-    same-length
-    returns)
+    tie.close (tie.spec Inv-loop μ-loop loop-holds div-glyph (λ c. search needs) glyph-requires (λ c κs. search needs) (λ c. search needs)
+    (λ c. search needs) (λ c. search needs) (λ c. search needs) loop-again same-length returns)

@@ -23,12 +23,6 @@ returns-2 : tie.Need-returns-2
 unfolding arcAt
 returns-2 c = let s = c .before .before in let a = s .args in rw (none-beyond (a .t1 .all) (a .t1 .n) (a .k) (omega (arith, long s)))
 
-mul-a : tie.Need-mul-a
-mul-a c = search needs
-
-element-copy-out-a : tie.Need-element-copy-out-a
-element-copy-out-a c = search needs
-
 returns-3 : tie.Need-returns-3
 unfolding arcAt
 returns-3 c = let s = c .before .before .before in let a = s .args in
@@ -36,4 +30,4 @@ returns-3 c = let s = c .before .before .before in let a = s .args in
     rw (one-there (a .t1 .all) (a .t1 .n) (a .k) below (omega (arith, long s)), getD-take (a .t1 .n) (a .t1 .all) (a .k) noArc below)
 
 pub arc-at-spec : {M : Type 1} → statement M
-arc-at-spec = tie.close (tie.spec returns returns-2 mul-a element-copy-out-a returns-3)
+arc-at-spec = tie.close (tie.spec returns returns-2 (λ c. search needs) (λ c. search needs) returns-3)

@@ -23,12 +23,6 @@ returns-2 : tie.Need-returns-2
 unfolding metAt
 returns-2 c = let s = c .before .before in let a = s .args in rw (none-beyond (a .t1 .all) (a .t1 .n) (a .k) (omega (arith, long s)))
 
-mul-q : tie.Need-mul-q
-mul-q c = search needs
-
-element-copy-out-q : tie.Need-element-copy-out-q
-element-copy-out-q c = search needs
-
 returns-3 : tie.Need-returns-3
 unfolding metAt
 returns-3 c = let s = c .before .before .before in let a = s .args in
@@ -36,4 +30,4 @@ returns-3 c = let s = c .before .before .before in let a = s .args in
     rw (one-there (a .t1 .all) (a .t1 .n) (a .k) below (omega (arith, long s)), getD-take (a .t1 .n) (a .t1 .all) (a .k) noPoint below)
 
 pub point-at-spec : {M : Type 1} → statement M
-point-at-spec = tie.close (tie.spec returns returns-2 mul-q element-copy-out-q returns-3)
+point-at-spec = tie.close (tie.spec returns returns-2 (λ c. search needs) (λ c. search needs) returns-3)

@@ -4,18 +4,6 @@ use borrow.Author.Needs.{needs}
 use Rattle.probe.proofs.regions.probe_compute_exclusive_regions.Statement.{statement}
 use Rattle.probe.proofs.regions.probe_compute_exclusive_regions.Tie as tie
 
-circles-of-requires : tie.Need-circles-of-requires
-circles-of-requires c κs = search needs
-
-compute-exclusive-regions-requires : tie.Need-compute-exclusive-regions-requires
-compute-exclusive-regions-requires c κs = search needs
-
-same-length : tie.Need-same-length
-same-length c = search needs
-
-same-length-2 : tie.Need-same-length-2
-same-length-2 c = search needs
-
 returns : tie.Need-returns
 returns c =
     let s = c .before .before .before .before in
@@ -25,10 +13,4 @@ returns c =
 
 pub probe-compute-exclusive-regions-spec : {M : Type 1} → statement M
 probe-compute-exclusive-regions-spec =
-    tie.close
-    (tie.spec
-    circles-of-requires
-    compute-exclusive-regions-requires
-    same-length
-    same-length-2
-    returns)
+    tie.close (tie.spec (λ c κs. search needs) (λ c κs. search needs) (λ c. search needs) (λ c. search needs) returns)

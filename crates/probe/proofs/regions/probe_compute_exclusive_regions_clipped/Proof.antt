@@ -4,21 +4,6 @@ use borrow.Author.Needs.{needs}
 use Rattle.probe.proofs.regions.probe_compute_exclusive_regions_clipped.Statement.{statement}
 use Rattle.probe.proofs.regions.probe_compute_exclusive_regions_clipped.Tie as tie
 
-circles-of-requires : tie.Need-circles-of-requires
-circles-of-requires c κs = search needs
-
-container-requires : tie.Need-container-requires
-container-requires c κs = search needs
-
-compute-exclusive-regions-clipped-requires : tie.Need-compute-exclusive-regions-clipped-requires
-compute-exclusive-regions-clipped-requires c κs = search needs
-
-same-length : tie.Need-same-length
-same-length c = search needs
-
-same-length-2 : tie.Need-same-length-2
-same-length-2 c = search needs
-
 returns : tie.Need-returns
 returns c =
     let s = c .before .before .before .before in
@@ -29,11 +14,5 @@ returns c =
 
 pub probe-compute-exclusive-regions-clipped-spec : {M : Type 1} → statement M
 probe-compute-exclusive-regions-clipped-spec =
-    tie.close
-    (tie.spec
-    circles-of-requires
-    container-requires
-    compute-exclusive-regions-clipped-requires
-    same-length
-    same-length-2
+    tie.close (tie.spec (λ c κs. search needs) (λ c κs. search needs) (λ c κs. search needs) (λ c. search needs) (λ c. search needs)
     returns)

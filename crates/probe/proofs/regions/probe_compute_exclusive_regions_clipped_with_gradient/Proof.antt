@@ -4,24 +4,9 @@ use borrow.Author.Needs.{needs}
 use Rattle.probe.proofs.regions.probe_compute_exclusive_regions_clipped_with_gradient.Statement.{statement}
 use Rattle.probe.proofs.regions.probe_compute_exclusive_regions_clipped_with_gradient.Tie as tie
 
-circles-of-requires : tie.Need-circles-of-requires
-circles-of-requires c κs = search needs
-
-container-requires : tie.Need-container-requires
-container-requires c κs = search needs
-
 compute-exclusive-regions-clipped-with-gradient-requires :
     tie.Need-compute-exclusive-regions-clipped-with-gradient-requires
 compute-exclusive-regions-clipped-with-gradient-requires c κs = search needs
-
-same-length : tie.Need-same-length
-same-length c = search needs
-
-same-length-2 : tie.Need-same-length-2
-same-length-2 c = search needs
-
-same-length-3 : tie.Need-same-length-3
-same-length-3 c = search needs
 
 returns : tie.Need-returns
 returns c =
@@ -33,12 +18,5 @@ returns c =
 
 pub probe-compute-exclusive-regions-clipped-with-gradient-spec : {M : Type 1} → statement M
 probe-compute-exclusive-regions-clipped-with-gradient-spec =
-    tie.close
-    (tie.spec
-    circles-of-requires
-    container-requires
-    compute-exclusive-regions-clipped-with-gradient-requires
-    same-length
-    same-length-2
-    same-length-3
-    returns)
+    tie.close (tie.spec (λ c κs. search needs) (λ c κs. search needs) compute-exclusive-regions-clipped-with-gradient-requires
+    (λ c. search needs) (λ c. search needs) (λ c. search needs) returns)

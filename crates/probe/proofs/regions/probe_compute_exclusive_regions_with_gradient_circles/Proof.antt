@@ -4,21 +4,9 @@ use borrow.Author.Needs.{needs}
 use Rattle.probe.proofs.regions.probe_compute_exclusive_regions_with_gradient_circles.Statement.{statement}
 use Rattle.probe.proofs.regions.probe_compute_exclusive_regions_with_gradient_circles.Tie as tie
 
-circles-of-requires : tie.Need-circles-of-requires
-circles-of-requires c κs = search needs
-
 compute-exclusive-regions-with-gradient-circles-requires :
     tie.Need-compute-exclusive-regions-with-gradient-circles-requires
 compute-exclusive-regions-with-gradient-circles-requires c κs = search needs
-
-same-length : tie.Need-same-length
-same-length c = search needs
-
-same-length-2 : tie.Need-same-length-2
-same-length-2 c = search needs
-
-same-length-3 : tie.Need-same-length-3
-same-length-3 c = search needs
 
 returns : tie.Need-returns
 returns c =
@@ -29,11 +17,5 @@ returns c =
 
 pub probe-compute-exclusive-regions-with-gradient-circles-spec : {M : Type 1} → statement M
 probe-compute-exclusive-regions-with-gradient-circles-spec =
-    tie.close
-    (tie.spec
-    circles-of-requires
-    compute-exclusive-regions-with-gradient-circles-requires
-    same-length
-    same-length-2
-    same-length-3
-    returns)
+    tie.close (tie.spec (λ c κs. search needs) compute-exclusive-regions-with-gradient-circles-requires (λ c. search needs)
+    (λ c. search needs) (λ c. search needs) returns)

@@ -13,20 +13,8 @@ use Rattle.file.proofs.reader.finish.Reads as finish-reads
 use Rattle.plan.proofs.check.check_call.Reads as check-call-reads
 use Rattle.table.proofs.tables.lent_by.Reads as lent-by-reads
 
-lent-by-requires : tie.Need-lent-by-requires
-lent-by-requires c κs = search needs
-
-finish-requires : tie.Need-finish-requires
-finish-requires c κs = search needs
-
 enum-told : tie.Need-enum-told
 enum-told c = search needs
-
-check-call-requires : tie.Need-check-call-requires
-check-call-requires c κs = search needs
-
-enum-known-answer : tie.Need-enum-known-answer
-enum-known-answer c = search needs
 
 returns : tie.Need-returns
 returns c =
@@ -47,12 +35,5 @@ returns-2 c =
 
 pub finish-spec : {M : Type 1} → statement M
 finish-spec =
-    tie.close
-    (tie.spec
-    lent-by-requires
-    finish-requires
-    enum-told
-    check-call-requires
-    enum-known-answer
-    returns
+    tie.close (tie.spec (λ c κs. search needs) (λ c κs. search needs) enum-told (λ c κs. search needs) (λ c. search needs) returns
     returns-2)

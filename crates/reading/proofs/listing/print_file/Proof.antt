@@ -13,29 +13,8 @@ use Rattle.printing.proofs.refusal.print_refusal.Reads as print-refusal-reads
 use Rattle.printing.proofs.rows.print_rows.Reads as print-rows-reads
 use Rattle.reading.proofs.feeding.finish.Reads as finish-reads
 
-finish-requires : tie.Need-finish-requires
-finish-requires c κs = search needs
-
 enum-told : tie.Need-enum-told
 enum-told c = search needs
-
-print-rows-requires : tie.Need-print-rows-requires
-print-rows-requires c κs = search needs
-
-enum-known-answer : tie.Need-enum-known-answer
-enum-known-answer c = search needs
-
-number-requires : tie.Need-number-requires
-number-requires c κs = search needs
-
-cast-print-refusal : tie.Need-cast-print-refusal
-cast-print-refusal c = search needs
-
-print-refusal-requires : tie.Need-print-refusal-requires
-print-refusal-requires c κs = search needs
-
-same-length : tie.Need-same-length
-same-length c = search needs
 
 returns : tie.Need-returns
 returns c =
@@ -50,9 +29,6 @@ returns c =
     let printed = printed-as (taken-printed (answerAt state) lines answer) (here .print-rows .ensures) in
     let few = printed-fits (printed-few (answerAt state) (a .reading .plan .n) (a .exclusive-presence .now) (a .exclusives .now)) printed in
     (printed, ((λ t s after. printed-as (prints-file clippedTable t s state after) printed), few))
-
-same-length-2 : tie.Need-same-length-2
-same-length-2 c = search needs
 
 returns-2 : tie.Need-returns-2
 returns-2 c =
@@ -70,16 +46,5 @@ returns-2 c =
 
 pub print-file-spec : {M : Type 1} → statement M
 print-file-spec =
-    tie.close
-    (tie.spec
-    finish-requires
-    enum-told
-    print-rows-requires
-    enum-known-answer
-    number-requires
-    cast-print-refusal
-    print-refusal-requires
-    same-length
-    returns
-    same-length-2
-    returns-2)
+    tie.close (tie.spec (λ c κs. search needs) enum-told (λ c κs. search needs) (λ c. search needs) (λ c κs. search needs)
+    (λ c. search needs) (λ c κs. search needs) (λ c. search needs) returns (λ c. search needs) returns-2)

@@ -19,9 +19,6 @@ use Rattle.sets.proofs.discover.discover_regions.Statement.{statement}
 use borrow.Author.Needs.{needs}
 use Rattle.sets.proofs.discover.discover_regions.Tie as tie
 
-at-most-ten-requires : tie.Need-at-most-ten-requires
-at-most-ten-requires c κs = search needs
-
 add-singles-requires : tie.Need-add-singles-requires
 add-singles-requires c κs = omega (arith, c .at-most-ten .ensures)
 
@@ -77,15 +74,5 @@ returns c =
 
 pub discover-regions-spec : {M : Type 1} → statement M
 discover-regions-spec =
-    tie.close
-    (tie.spec
-    at-most-ten-requires
-    add-singles-requires
-    add-adopters-requires
-    add-pairs-requires
-    add-parts-requires
-    overlapping-heads-requires
-    containing-heads-requires
-    levels-requires
-    joined-bytes-requires
-    returns)
+    tie.close (tie.spec (λ c κs. search needs) add-singles-requires add-adopters-requires add-pairs-requires add-parts-requires
+    overlapping-heads-requires containing-heads-requires levels-requires joined-bytes-requires returns)

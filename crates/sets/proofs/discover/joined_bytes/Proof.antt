@@ -23,9 +23,6 @@ Inv-loop level n bytes₀ masks s₀ bytes s =
 abbrev μ-loop : tie.MeasureT-loop
 μ-loop level n bytes₀ masks s₀ bytes s = masks - s
 
-shl-masks : tie.Need-shl-masks Inv-loop μ-loop
-shl-masks c = search needs
-
 loop-holds : tie.Need-loop-holds Inv-loop μ-loop
 loop-holds c =
     let a = c .args in (
@@ -42,18 +39,9 @@ array-read-either c = let l = c .before .loop in row-lt (c .before .before .args
 element-copy-out-either : tie.Need-element-copy-out-either Inv-loop μ-loop
 element-copy-out-either c = let l = c .before .loop in row-lt (c .before .before .args .n) (l .s) (l .inv .0) (omega (arith, l .inv .1))
 
-either-requires : tie.Need-either-requires Inv-loop μ-loop
-either-requires c κs = search needs
-
 array-write-bytes : tie.Need-array-write-bytes Inv-loop μ-loop
 array-write-bytes c =
     let l = c .before .before .before .loop in row-lt (c .before .before .before .before .args .n) (l .s) (l .inv .0) (omega (arith, l .inv .1))
-
-add-s : tie.Need-add-s Inv-loop μ-loop
-add-s c = search needs
-
-loop-less : tie.Need-loop-less Inv-loop μ-loop
-loop-less c = search needs
 
 loop-again : tie.Need-loop-again Inv-loop μ-loop
 loop-again c =
@@ -81,17 +69,5 @@ returns c =
 
 pub joined-bytes-spec : {M : Type 1} → statement M
 joined-bytes-spec =
-    tie.close
-    (tie.spec
-    Inv-loop
-    μ-loop
-    shl-masks
-    loop-holds
-    array-read-either
-    element-copy-out-either
-    either-requires
-    array-write-bytes
-    add-s
-    loop-less
-    loop-again
-    returns)
+    tie.close (tie.spec Inv-loop μ-loop (λ c. search needs) loop-holds array-read-either element-copy-out-either (λ c κs. search needs)
+    array-write-bytes (λ c. search needs) (λ c. search needs) loop-again returns)

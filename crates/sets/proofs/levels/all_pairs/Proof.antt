@@ -28,27 +28,12 @@ abbrev μ-loop : tie.MeasureT-loop
 loop-holds : tie.Need-loop-holds Inv-loop μ-loop
 loop-holds c = let a = c .args in (search needs, every-zero (test (a .t1) (a .s) (a .n)))
 
-mul-others-in-if : tie.Need-mul-others-in-if Inv-loop μ-loop
-mul-others-in-if c = search needs
-
-array-read-others-in-if : tie.Need-array-read-others-in-if Inv-loop μ-loop
-array-read-others-in-if c = search needs
-
-others-in-if-requires : tie.Need-others-in-if-requires Inv-loop μ-loop
-others-in-if-requires c κs = search needs
-
 returns : tie.Need-returns Inv-loop μ-loop
 returns c =
     let l = c .before .before .before .loop in
     let a = c .before .before .before .before .args in
     sym (every-none (a .n) (test (a .t1) (a .s) (a .n)) (l .i) (omega arith)
     (sym (c .before .others-in-if .ensures) ∙ not-true (c .before .others-in-if .result) (c .if1 .taken)))
-
-add-i : tie.Need-add-i Inv-loop μ-loop
-add-i c = search needs
-
-loop-less : tie.Need-loop-less Inv-loop μ-loop
-loop-less c = search needs
 
 loop-again : tie.Need-loop-again Inv-loop μ-loop
 loop-again c =
@@ -68,16 +53,5 @@ returns-2 c =
 
 pub all-pairs-spec : {M : Type 1} → statement M
 all-pairs-spec =
-    tie.close
-    (tie.spec
-    Inv-loop
-    μ-loop
-    loop-holds
-    mul-others-in-if
-    array-read-others-in-if
-    others-in-if-requires
-    returns
-    add-i
-    loop-less
-    loop-again
-    returns-2)
+    tie.close (tie.spec Inv-loop μ-loop loop-holds (λ c. search needs) (λ c. search needs) (λ c κs. search needs) returns
+    (λ c. search needs) (λ c. search needs) loop-again returns-2)

@@ -1,97 +1,97 @@
--- `levels::levels` meets its contract. The invariant: the masks below s have their byte.
-use mathlib.Core.Path.{_≡_, refl, sym, ap, _∙_, subst}
-use mathlib.Core.Bool.{Bool}
+-- `levels::levels`: the masks below s of their levels are marked, and what joins from them.
+use mathlib.Core.Path.{_≡_, refl, sym, ap, ap₂, _∙_}
+use mathlib.Core.Bool.{Bool, cond}
 use mathlib.Core.List.{List}
+use mathlib.Core.Logic.{⊎-elim}
 use Prim.Native.Nat.{ℕ, _+_, _-_, _^_, _≤_, _<_}
 use native.Mathlib.Omega.{arith}
+use lib.Count.{ones}
 use lib.Dec.{eqb}
-use lib.ListN.{length, getD, set, replicate, length-replicate}
+use lib.ListN.{getD, set, replicate, length, length-replicate, getD-replicate}
+use lib.Pow.{pow-mono}
 use Rattle.masks.specs.Operations.{shifted-is}
-use Rattle.lists.specs.Written.{written}
 use Rattle.masks.specs.Presence.{byte, stands, byte-stands}
+use Rattle.lists.proofs.Somes.{some-zero}
+use Rattle.sets.specs.Marked.{marked}
 use Rattle.sets.specs.Sets.{joined}
-use Rattle.sets.specs.Steps.{levelFrom}
+use Rattle.sets.specs.Steps.{joiningOf, levelBelow}
 use Rattle.sets.proofs.Masks.{row-lt}
-use Rattle.lists.proofs.Writing.{written-none, written-before, write-next}
-use Rattle.sets.proofs.LevelStep.{level-step}
+use Rattle.sets.proofs.Marks.{zeros, marks, marked-at, marked-none}
+use Rattle.sets.proofs.LevelStep.{level-test, level-all, level-beyond, level-next, level-not}
 use Rattle.sets.proofs.levels.levels.Statement.{statement}
 use borrow.Author.Needs.{needs}
 use Rattle.sets.proofs.levels.levels.Tie as tie
 
+abbrev below : List ℕ → List ℕ → List ℕ → ℕ → ℕ → ℕ → Bool
+below found overlapping containing n = levelBelow n (stands found) (λ i. getD overlapping i 0) (λ i. getD containing i 0)
+
 abbrev Inv-loop : tie.InvT-loop
 Inv-loop found overlapping containing n level₀ masks s₀ level s =
-    (n ≤ 10) × (masks ≡ 2 ^ n) × (level₀ ≡ replicate 1024 0) × (s ≤ masks)
-    × (level ≡ written (λ S. byte (joined n (stands found) (λ i. getD overlapping i 0) (λ i. getD containing i 0) S)) s (replicate 1024 0))
+    (n ≤ 10) × (masks ≡ 2 ^ n) × (s ≤ masks) × (level ≡ marked (below found overlapping containing n s) (zeros 1024))
 
 abbrev μ-loop : tie.MeasureT-loop
 μ-loop found overlapping containing n level₀ masks s₀ level s = masks - s
 
-shl-masks : tie.Need-shl-masks Inv-loop μ-loop
-shl-masks c = search needs
-
 loop-holds : tie.Need-loop-holds Inv-loop μ-loop
 loop-holds c =
-    let a = c .args in (
-      c .pre,
-      shifted-is 64 (a .n) (omega arith),
-      refl,
-      search needs,
-      written-none (λ S. byte (joined (a .n) (stands (a .found .now)) (λ i. getD (a .overlapping) i 0) (λ i. getD (a .containing) i 0) S)) (replicate 1024 0),
-    )
+    let a = c .args in
+    (c .pre, shifted-is 64 (a .n) (omega arith), search needs, marked-none _ (zeros 1024) (λ S k. some-zero _))
 
-level-byte-requires : tie.Need-level-byte-requires Inv-loop μ-loop
-level-byte-requires c κs = let l = c .before .before .loop in (l .inv .0, omega (arith, l .inv .1))
+element-copy-out-in-level : tie.Need-element-copy-out-in-level Inv-loop μ-loop
+element-copy-out-in-level c = let l = c .before .loop in row-lt (c .before .before .args .n) (l .s) (l .inv .0) (omega (arith, l .inv .1))
+
+array-read-in-level : tie.Need-array-read-in-level Inv-loop μ-loop
+array-read-in-level c =
+    let l = c .before .before .loop in row-lt (c .before .before .before .args .n) (l .s) (l .inv .0) (omega (arith, l .inv .1))
 
 array-write-level : tie.Need-array-write-level Inv-loop μ-loop
 array-write-level c =
-    let l = c .before .before .before .loop in row-lt (c .before .before .before .before .args .n) (l .s) (l .inv .0) (omega (arith, l .inv .1))
+    let l = c .before .before .before .before .loop in
+    row-lt (c .before .before .before .before .before .args .n) (l .s) (l .inv .0) (omega (arith, l .inv .1))
 
-add-s : tie.Need-add-s Inv-loop μ-loop
-add-s c = search needs
-
-loop-less : tie.Need-loop-less Inv-loop μ-loop
-loop-less c = search needs
+add-joining-requires : tie.Need-add-joining-requires Inv-loop μ-loop
+add-joining-requires c κs = let l = c .before .before .before .before .before .loop in (l .inv .0, omega (arith, l .inv .1))
 
 loop-again : tie.Need-loop-again Inv-loop μ-loop
 loop-again c =
-    let l = c .before .before .before .loop in
-    let a = c .before .before .before .before .args in
-    let p : ℕ → Bool = λ S. joined (a .n) (stands (a .found .now)) (λ i. getD (a .overlapping) i 0) (λ i. getD (a .containing) i 0) S in
-    let f : ℕ → ℕ = λ S. byte (p S) in
+    let v = c .before in
+    let l = v .before .before .before .loop in
+    let a = v .before .before .before .before .args in
+    let f = stands (a .found .now) in
+    let o : ℕ → ℕ = λ i. getD (a .overlapping) i 0 in
+    let d : ℕ → ℕ = λ i. getD (a .containing) i 0 in
     let room : l .s < 2 ^ a .n = omega (arith, l .inv .1) in
-    let v = c .level-byte .ensures
-    ∙ ap (λ (t : List ℕ). byte (levelFrom (a .n) (stands (a .found .now) (l .s)) (stands t) (λ i. getD (a .overlapping) i 0) (λ i. getD (a .containing) i 0)
-    (l .s))) (l .inv .4)
-    ∙ ap byte (level-step (a .n) (stands (a .found .now)) (stands (written f (l .s) (replicate 1024 0))) (λ i. getD (a .overlapping) i 0)
-    (λ i. getD (a .containing) i 0) (l .s) room (λ T h. ap (λ (x : ℕ). eqb x 1) (written-before f (l .s) T (replicate 1024 0) 0 h) ∙ byte-stands (p T))) in (
+    let row : l .s < 1024 = row-lt (a .n) (l .s) (l .inv .0) room in
+    let was : eqb (getD (l .level) (l .s) 0) 1 ≡ levelBelow (a .n) f o d (l .s) (l .s) =
+    ap (λ (t : List ℕ). eqb (getD t (l .s) 0) 1) (l .inv .3)
+    ∙ ap (λ (x : ℕ). eqb x 1) (marked-at (levelBelow (a .n) f o d (l .s)) (zeros 1024) (l .s) (omega (arith, row, length-replicate {A = ℕ} 1024 0))
+    ∙ ap (λ (x : ℕ). cond (levelBelow (a .n) f o d (l .s) (l .s)) 1 x) (getD-replicate 1024 (l .s) 0 0 row))
+    ∙ byte-stands (levelBelow (a .n) f o d (l .s) (l .s)) in
+    let got : v .in-level .result ≡ joined (a .n) f o d (l .s) =
+    v .in-level .ensures ∙ ap (λ (b : Bool). cond (f (l .s)) (eqb (ones (l .s)) 2) b) was ∙ level-test (a .n) f o d (l .s) room in (
       l .inv .0,
       l .inv .1,
-      l .inv .2,
       omega arith,
-      ap (λ (t : List ℕ). set t (l .s) (c .level-byte .result)) (l .inv .4)
-          ∙ write-next f (l .s) (replicate 1024 0) (c .level-byte .result) 0
-          (omega (arith, length-replicate {A = ℕ} 1024 0, row-lt (a .n) (l .s) (l .inv .0) room)) v,
+      ⊎-elim
+          (λ w. w .3 ∙ w .2 .ensures ∙ ap (λ (t : List ℕ). marked (joiningOf (a .n) f o d (l .s)) (set t (l .s) 1)) (l .inv .3)
+          ∙ level-next (a .n) f o d (l .s) (zeros 1024) (sym got ∙ w .0 .taken))
+          (λ w. w .1 ∙ l .inv .3 ∙ level-not (a .n) f o d (l .s) (zeros 1024) (sym got ∙ w .0 .left))
+          (c .if1 .came),
     )
 
 returns : tie.Need-returns Inv-loop μ-loop
 returns c =
     let l = c .before .loop in
     let a = c .before .before .args in
+    let f = stands (a .found .now) in
+    let o : ℕ → ℕ = λ i. getD (a .overlapping) i 0 in
+    let d : ℕ → ℕ = λ i. getD (a .containing) i 0 in
     let e : l .s ≡ 2 ^ a .n = omega (arith, l .inv .1) in
-    l .inv .4 ∙ ap (λ (m : ℕ). written (λ S. byte
-    (joined (a .n) (stands (a .found .now)) (λ i. getD (a .overlapping) i 0) (λ i. getD (a .containing) i 0) S)) m (replicate 1024 0)) e
+    l .inv .3 ∙ ap (λ (m : ℕ). marked (levelBelow (a .n) f o d m) (zeros 1024)) e
+    ∙ marks (levelBelow (a .n) f o d (2 ^ a .n)) (joined (a .n) f o d) (2 ^ a .n) (pow-mono {i = a .n} {j = 10} (l .inv .0))
+    (level-all (a .n) f o d) (level-beyond (a .n) f o d)
 
 pub levels-spec : {M : Type 1} → statement M
 levels-spec =
-    tie.close
-    (tie.spec
-    Inv-loop
-    μ-loop
-    shl-masks
-    loop-holds
-    level-byte-requires
-    array-write-level
-    add-s
-    loop-less
-    loop-again
-    returns)
+    tie.close (tie.spec Inv-loop μ-loop (λ c. search needs) loop-holds element-copy-out-in-level array-read-in-level (λ c κs. search needs)
+    array-write-level add-joining-requires (λ c. search needs) (λ c. search needs) loop-again returns)

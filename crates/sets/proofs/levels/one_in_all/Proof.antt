@@ -27,26 +27,11 @@ abbrev μ-loop : tie.MeasureT-loop
 loop-holds : tie.Need-loop-holds Inv-loop μ-loop
 loop-holds c = let a = c .args in (search needs, some-zero (test (a .t1) (a .s) (a .n)))
 
-mul-others-in : tie.Need-mul-others-in Inv-loop μ-loop
-mul-others-in c = search needs
-
-array-read-others-in : tie.Need-array-read-others-in Inv-loop μ-loop
-array-read-others-in c = search needs
-
-others-in-requires : tie.Need-others-in-requires Inv-loop μ-loop
-others-in-requires c κs = search needs
-
 returns : tie.Need-returns Inv-loop μ-loop
 returns c =
     let l = c .before .before .before .loop in
     let a = c .before .before .before .before .args in
     sym (some-of (a .n) (test (a .t1) (a .s) (a .n)) (l .i) (omega arith) (sym (c .before .others-in .ensures) ∙ c .if1 .taken))
-
-add-i : tie.Need-add-i Inv-loop μ-loop
-add-i c = search needs
-
-loop-less : tie.Need-loop-less Inv-loop μ-loop
-loop-less c = search needs
 
 loop-again : tie.Need-loop-again Inv-loop μ-loop
 loop-again c =
@@ -63,16 +48,5 @@ returns-2 c =
 
 pub one-in-all-spec : {M : Type 1} → statement M
 one-in-all-spec =
-    tie.close
-    (tie.spec
-    Inv-loop
-    μ-loop
-    loop-holds
-    mul-others-in
-    array-read-others-in
-    others-in-requires
-    returns
-    add-i
-    loop-less
-    loop-again
-    returns-2)
+    tie.close (tie.spec Inv-loop μ-loop loop-holds (λ c. search needs) (λ c. search needs) (λ c κs. search needs) returns
+    (λ c. search needs) (λ c. search needs) loop-again returns-2)

@@ -26,23 +26,8 @@ loop-holds : tie.Need-loop-holds Inv-loop μ-loop
 unfolding gather
 loop-holds c = (c .pre .0, c .pre .1, search needs, refl)
 
-shl-if1 : tie.Need-shl-if1 Inv-loop μ-loop
-shl-if1 c = search needs
-
-shl-if1-2 : tie.Need-shl-if1-2 Inv-loop μ-loop
-shl-if1-2 c = search needs
-
 element-copy-out-if1 : tie.Need-element-copy-out-if1 Inv-loop μ-loop
 element-copy-out-if1 c = let l = c .before .loop in let a = c .before .before .args in pair-lt (a .n) (a .i) (l .j) (l .inv .0) (l .inv .1) (omega arith)
-
-shl-mask : tie.Need-shl-mask Inv-loop μ-loop
-shl-mask c = search needs
-
-add-j : tie.Need-add-j Inv-loop μ-loop
-add-j c = search needs
-
-loop-less : tie.Need-loop-less Inv-loop μ-loop
-loop-less c = search needs
 
 loop-again : tie.Need-loop-again Inv-loop μ-loop
 loop-again c =
@@ -67,16 +52,5 @@ returns c =
 
 pub overlapping-head-spec : {M : Type 1} → statement M
 overlapping-head-spec =
-    tie.close
-    (tie.spec
-    Inv-loop
-    μ-loop
-    loop-holds
-    shl-if1
-    shl-if1-2
-    element-copy-out-if1
-    shl-mask
-    add-j
-    loop-less
-    loop-again
-    returns)
+    tie.close (tie.spec Inv-loop μ-loop loop-holds (λ c. search needs) (λ c. search needs) element-copy-out-if1 (λ c. search needs)
+    (λ c. search needs) (λ c. search needs) loop-again returns)

@@ -31,9 +31,6 @@ Inv-loop n points bytes₀ masks count k₀ bytes k =
 abbrev μ-loop : tie.MeasureT-loop
 μ-loop n points bytes₀ masks count k₀ bytes k = 90 - k
 
-shl-masks : tie.Need-shl-masks Inv-loop μ-loop
-shl-masks c = search needs
-
 none : (a : Bool) {b : Bool} → b ≡ false → (a && b) ≡ false
 none true e = e
 none false e = refl
@@ -72,12 +69,6 @@ array-write-bytes c =
     let l = c .before .before .before .before .loop in let a = c .before .before .before .before .before .args in
     row-lt (a .n) (getD (a .t2 .all) (l .k) noPoint .adopters) (l .inv .2) (omega (arith, l .inv .3, c .if2 .taken))
 
-add-k : tie.Need-add-k Inv-loop μ-loop
-add-k c = search needs
-
-loop-less : tie.Need-loop-less Inv-loop μ-loop
-loop-less c = search needs
-
 loop-again : tie.Need-loop-again Inv-loop μ-loop
 loop-again c =
     let l = c .before .before .before .before .loop in let a = c .before .before .before .before .before .args in
@@ -104,17 +95,5 @@ returns-2 c =
 
 pub add-adopters-spec : {M : Type 1} → statement M
 add-adopters-spec =
-    tie.close
-    (tie.spec
-    Inv-loop
-    μ-loop
-    shl-masks
-    loop-holds
-    returns
-    mul-q
-    element-copy-out-q
-    array-write-bytes
-    add-k
-    loop-less
-    loop-again
-    returns-2)
+    tie.close (tie.spec Inv-loop μ-loop (λ c. search needs) loop-holds returns mul-q element-copy-out-q array-write-bytes
+    (λ c. search needs) (λ c. search needs) loop-again returns-2)

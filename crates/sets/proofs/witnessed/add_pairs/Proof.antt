@@ -35,12 +35,6 @@ loop-holds c =
 add-pairs-of-requires : tie.Need-add-pairs-of-requires Inv-loop μ-loop
 add-pairs-of-requires c κs = (c .before .before .loop .inv .0, omega arith)
 
-add-i : tie.Need-add-i Inv-loop μ-loop
-add-i c = search needs
-
-loop-less : tie.Need-loop-less Inv-loop μ-loop
-loop-less c = search needs
-
 loop-again : tie.Need-loop-again Inv-loop μ-loop
 loop-again c =
     let l = c .before .before .before .loop in let a = c .before .before .before .before .args in
@@ -61,5 +55,4 @@ returns c =
 
 pub add-pairs-spec : {M : Type 1} → statement M
 add-pairs-spec =
-    tie.close
-    (tie.spec Inv-loop μ-loop loop-holds add-pairs-of-requires add-i loop-less loop-again returns)
+    tie.close (tie.spec Inv-loop μ-loop loop-holds add-pairs-of-requires (λ c. search needs) (λ c. search needs) loop-again returns)

@@ -43,22 +43,10 @@ loop-holds c =
 is-pair-requires : tie.Need-is-pair-requires Inv-loop μ-loop
 is-pair-requires c κs = (omega arith, (omega arith, omega arith))
 
-shl-found : tie.Need-shl-found Inv-loop μ-loop
-shl-found c = search needs
-
-shl-found-2 : tie.Need-shl-found-2 Inv-loop μ-loop
-shl-found-2 c = search needs
-
 element-write-found : tie.Need-element-write-found Inv-loop μ-loop
 element-write-found c =
     let l = c .before .before .before .loop in let a = c .before .before .before .before .args in
     pair-lt (a .n) (a .i) (l .j) (l .inv .0) (l .inv .1) (omega arith)
-
-add-j : tie.Need-add-j Inv-loop μ-loop
-add-j c = search needs
-
-loop-less : tie.Need-loop-less Inv-loop μ-loop
-loop-less c = search needs
 
 loop-again : tie.Need-loop-again Inv-loop μ-loop
 loop-again c =
@@ -87,16 +75,5 @@ returns c =
 
 pub add-pairs-of-spec : {M : Type 1} → statement M
 add-pairs-of-spec =
-    tie.close
-    (tie.spec
-    Inv-loop
-    μ-loop
-    loop-holds
-    is-pair-requires
-    shl-found
-    shl-found-2
-    element-write-found
-    add-j
-    loop-less
-    loop-again
-    returns)
+    tie.close (tie.spec Inv-loop μ-loop loop-holds is-pair-requires (λ c. search needs) (λ c. search needs) element-write-found
+    (λ c. search needs) (λ c. search needs) loop-again returns)

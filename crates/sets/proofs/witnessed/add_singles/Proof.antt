@@ -28,17 +28,8 @@ loop-holds c =
     let a = c .args in
     (c .pre, search needs, marked-none (λ S. some 0 (λ k. eqb S (single (a .n) k))) (a .found) (λ S k. some-zero (λ k. eqb S (single (a .n) k))))
 
-shl-bytes : tie.Need-shl-bytes Inv-loop μ-loop
-shl-bytes c = search needs
-
 array-write-bytes : tie.Need-array-write-bytes Inv-loop μ-loop
 array-write-bytes c = let l = c .before .loop in single-lt (c .before .before .args .n) (l .i) (l .inv .0) (omega arith)
-
-add-i : tie.Need-add-i Inv-loop μ-loop
-add-i c = search needs
-
-loop-less : tie.Need-loop-less Inv-loop μ-loop
-loop-less c = search needs
 
 loop-again : tie.Need-loop-again Inv-loop μ-loop
 loop-again c =
@@ -64,14 +55,5 @@ returns c =
 
 pub add-singles-spec : {M : Type 1} → statement M
 add-singles-spec =
-    tie.close
-    (tie.spec
-    Inv-loop
-    μ-loop
-    loop-holds
-    shl-bytes
-    array-write-bytes
-    add-i
-    loop-less
-    loop-again
+    tie.close (tie.spec Inv-loop μ-loop loop-holds (λ c. search needs) array-write-bytes (λ c. search needs) (λ c. search needs) loop-again
     returns)

@@ -13,9 +13,6 @@ use Rattle.sets.proofs.witnessed.is_pair.Statement.{statement}
 use borrow.Author.Needs.{needs}
 use Rattle.sets.proofs.witnessed.is_pair.Tie as tie
 
-meet-requires : tie.Need-meet-requires
-meet-requires c κs = search needs
-
 returns : tie.Need-returns
 returns c =
     let s = c .before .before in let a = s .args in
@@ -34,18 +31,12 @@ mul-b c = omega arith
 array-copy-out-b : tie.Need-array-copy-out-b
 array-copy-out-b c = omega arith
 
-contains-requires : tie.Need-contains-requires
-contains-requires c κs = search needs
-
 returns-2 : tie.Need-returns-2
 returns-2 c =
     let q = c .before in let m = q .before .before .before in let s = m .before .before in let a = s .args in
     let first = ap₂ contains (getD-take (a .n) (a .t1) (a .i) noCircle (omega arith)) (getD-take (a .n) (a .t1) (a .j) noCircle (omega arith))
     ∙ sym (q .contains .ensures) ∙ c .if2 .taken in
     sym (ap₂ (λ (x y : Bool). x || (y || containsAt (take (a .n) (a .t1)) (a .j) (a .i))) (sym (m .before .meet .ensures) ∙ m .if1 .left) first)
-
-contains-requires-2 : tie.Need-contains-requires-2
-contains-requires-2 c κs = search needs
 
 returns-3 : tie.Need-returns-3
 returns-3 c =
@@ -57,15 +48,5 @@ returns-3 c =
 
 pub is-pair-spec : {M : Type 1} → statement M
 is-pair-spec =
-    tie.close
-    (tie.spec
-    meet-requires
-    returns
-    mul-a
-    array-copy-out-a
-    mul-b
-    array-copy-out-b
-    contains-requires
-    returns-2
-    contains-requires-2
-    returns-3)
+    tie.close (tie.spec (λ c κs. search needs) returns mul-a array-copy-out-a mul-b array-copy-out-b (λ c κs. search needs) returns-2
+    (λ c κs. search needs) returns-3)

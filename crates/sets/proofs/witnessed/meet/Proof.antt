@@ -39,20 +39,11 @@ mul-q c = omega arith
 element-copy-out-q : tie.Need-element-copy-out-q Inv-loop μ-loop
 element-copy-out-q c = omega arith
 
-are-parents-requires : tie.Need-are-parents-requires Inv-loop μ-loop
-are-parents-requires c κs = search needs
-
 returns-2 : tie.Need-returns-2 Inv-loop μ-loop
 returns-2 c =
     let l = c .before .before .before .before .before .loop in let a = c .before .before .before .before .before .before .args in
     sym (any-of (parents (a .i) (a .j)) (a .t1 .all) (l .k) (a .t1 .n) noPoint (omega arith) (omega arith)
     (sym (c .before .are-parents .ensures) ∙ c .if2 .taken))
-
-add-k : tie.Need-add-k Inv-loop μ-loop
-add-k c = search needs
-
-loop-less : tie.Need-loop-less Inv-loop μ-loop
-loop-less c = search needs
 
 loop-again : tie.Need-loop-again Inv-loop μ-loop
 loop-again c =
@@ -73,17 +64,5 @@ returns-3 c =
 
 pub meet-spec : {M : Type 1} → statement M
 meet-spec =
-    tie.close
-    (tie.spec
-    Inv-loop
-    μ-loop
-    loop-holds
-    returns
-    mul-q
-    element-copy-out-q
-    are-parents-requires
-    returns-2
-    add-k
-    loop-less
-    loop-again
-    returns-3)
+    tie.close (tie.spec Inv-loop μ-loop loop-holds returns mul-q element-copy-out-q (λ c κs. search needs) returns-2 (λ c. search needs)
+    (λ c. search needs) loop-again returns-3)

@@ -1,6 +1,5 @@
 use borrow.Author.Needs.{needs}
 use mathlib.Core.Path.{_≡_, sym, ap, _∙_}
-use mathlib.Core.List.{List}
 use lib.ListN.{length}
 use Rattle.lists.proofs.Arrays.{length-of-values}
 use Rattle.masks.specs.Presence.{stands}
@@ -10,7 +9,8 @@ use Rattle.areas.specs.Sets.{planSets}
 use Rattle.regions.specs.Slices.{PlanSlices, planSlices, afreshAnswer}
 use Rattle.regions.proofs.Slices.{Room, afresh-room, afresh-refused}
 use Rattle.table.specs.Method.{methodOver}
-use Rattle.table.proofs.Calls.{sets-say, afresh-step}
+use Rattle.table.specs.Tables.{tablesWritten, afreshOver}
+use Rattle.table.proofs.Calls.{made-so, sets-made, sets-say, afresh-step}
 use Rattle.table.proofs.afresh.work_out.Statement.{statement}
 use Rattle.table.proofs.afresh.work_out.Tie as tie
 
@@ -24,7 +24,7 @@ abbrev checked : tie.After-enum-told → tie.After-check-call
 checked c = c .before .before
 
 abbrev taken : tie.After-slice-known8 → tie.After-enum-told
-taken c = c .before .before .before .before .before .before .before .before .before .before .before .before .before .before .before
+taken c = c .before .before .before .before .before .before .before .before .before .before .before .before .before .before .before .before
 
 -- the plan and the slices handed in
 abbrev given : tie.Start → PlanSlices
@@ -38,44 +38,25 @@ answered c = c .check-call .ensures ∙ ap (callAnswer (entry c .args .plan) Non
 room : (c : tie.After-enum-told) → let d = given (entry (checked c)) in Room (d .plan .n) (d .tables)
 room c = let s = entry (checked c) in afresh-room (given s) (ten s) (sym (answered (checked c)) ∙ c .enum-told .given .1)
 
-lent-by-requires : tie.Need-lent-by-requires
-lent-by-requires c κs = search needs
-
-check-call-requires : tie.Need-check-call-requires
-check-call-requires c κs = search needs
-
 enum-told : tie.Need-enum-told
 enum-told c = search needs
 
-sets-of-requires : tie.Need-sets-of-requires
-sets-of-requires c κs = search needs
-
 write-afresh-requires : tie.Need-write-afresh-requires
-write-afresh-requires c κs = room (c .before .before .before .before .before .before)
-
-enum-known-answer : tie.Need-enum-known-answer
-enum-known-answer c = search needs
-
-same-length : tie.Need-same-length
-same-length c = search needs
-
-same-length-2 : tie.Need-same-length-2
-same-length-2 c = search needs
-
-same-length-3 : tie.Need-same-length-3
-same-length-3 c = search needs
-
-same-length-4 : tie.Need-same-length-4
-same-length-4 c = search needs
+write-afresh-requires c κs = let r = c .before .before .before .before .before .before in (room (r .before), made-so (r .ready-of .ensures))
 
 returns : tie.Need-returns
 returns c =
     let t = taken c in
     let s = entry (checked t) in
+    let p = s .args .plan in
+    let d = given s in
+    let ready = c .before .before .before .before .before .before .before .before .before .before .before .before .before .before .before .ready-of in
     let sets = c .before .before .before .before .before .before .before .before .before .before .before .before .before .before .sets-of in
-    let say = sets-say (s .args .plan) (ten s) (room t .count) in
-    afresh-step (s .args .clipped) planSets (given s) (sets .result) _ (sym (answered (checked t)) ∙ t .enum-told .given .1)
-    (λ S h. ap (λ l. stands l S) (sets .ensures) ∙ say S h) (c .before .before .before .before .before .before .before .before .write-afresh .ensures)
+    let of = ready .ensures in
+    afresh-step (s .args .clipped) planSets d (sets .result) _ (sym (answered (checked t)) ∙ t .enum-told .given .1)
+    (λ S h. ap (λ l. stands l S) (sets .ensures ∙ sets-made p (s .args .clipped) (ready .result) of) ∙ sets-say p (ten s) (room t .count) S h)
+    (c .before .before .before .before .before .before .before .before .write-afresh .ensures
+    ∙ ap (λ b. tablesWritten (p .n) (afreshOver (methodOver b planSets) p (sets .result)) (d .tables)) (of .clipped))
 
 returns-2 : tie.Need-returns-2
 returns-2 c =
@@ -84,17 +65,6 @@ returns-2 c =
 
 pub work-out-spec : {M : Type 1} → statement M
 work-out-spec =
-    tie.close
-    (tie.spec
-    lent-by-requires
-    check-call-requires
-    enum-told
-    sets-of-requires
-    write-afresh-requires
-    enum-known-answer
-    same-length
-    same-length-2
-    same-length-3
-    same-length-4
-    returns
+    tie.close (tie.spec (λ c κs. search needs) (λ c κs. search needs) enum-told (λ c κs. search needs) (λ c κs. search needs)
+    write-afresh-requires (λ c. search needs) (λ c. search needs) (λ c. search needs) (λ c. search needs) (λ c. search needs) returns
     returns-2)

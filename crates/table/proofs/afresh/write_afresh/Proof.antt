@@ -1,12 +1,11 @@
 use borrow.Author.Needs.{needs}
-use mathlib.Core.Path.{_≡_, refl, sym, ap, _∙_, subst}
+use mathlib.Core.Path.{sym, ap, _∙_, subst}
 use native.Mathlib.Omega.{arith}
 use Prim.Native.Nat.{_<_}
 use lib.ListN.{length, set, replicate, length-set}
 use lib.Pow.{pow-pos}
 use Rattle.geometry.specs.Rectangle.{area}
 use Rattle.areas.specs.Sets.{planSets}
-use Rattle.drawn.specs.Drawn.{boxOf}
 use Rattle.regions.specs.Slices.{LentTables, tablesOf}
 use Rattle.regions.proofs.Slices.{Room}
 use Rattle.table.specs.Method.{methodOver}
@@ -16,86 +15,58 @@ use Rattle.table.proofs.Calls.{serves, afresh-written}
 use Rattle.table.proofs.afresh.write_afresh.Statement.{statement}
 use Rattle.table.proofs.afresh.write_afresh.Tie as tie
 
-box-of-requires : tie.Need-box-of-requires
-box-of-requires c κs = search needs
+abbrev entry : tie.After-area → tie.Start
+entry c = c .before .before .before .before .before .before .before
 
-area-requires : tie.Need-area-requires
-area-requires c κs = search needs
-
-abbrev entry : tie.After-ready-of → tie.Start
-entry c = c .before .before .before .before .before .before .before .before
-
-abbrev made : tie.After-slice-known8 → tie.After-ready-of
-made c = c .before .before .before .before .before .before .before .before .before .before .before .before .before .before
+abbrev boxed : tie.After-slice-known8 → tie.After-area
+boxed c = c .before .before .before .before .before .before .before .before .before .before .before .before .before .before
 
 -- the slices with the box's area in row 0
-abbrev with-box : tie.After-ready-of → LentTables
+abbrev with-box : tie.After-area → LentTables
 with-box c =
     let a = entry c .args in
-    tablesOf (a .presence .now) (set (a .rows .now) 0 (c .before .area .result)) (a .exclusive-presence .now) (a .exclusives .now)
+    tablesOf (a .presence .now) (set (a .rows .now) 0 (c .area .result)) (a .exclusive-presence .now) (a .exclusives .now)
 
 -- there is a row 0
 some : (c : tie.Start) → 0 < length (c .args .rows .now)
-some c = let k = pow-pos (c .args .plan .n) in omega (arith, c .pre .numbers)
+some c = let k = pow-pos (c .args .plan .n) in omega (arith, c .pre .0 .numbers)
 
 slice-write-rows : tie.Need-slice-write-rows
-slice-write-rows c = some (c .before .before .before .before .before .before .before)
-
-ready-of-requires : tie.Need-ready-of-requires
-ready-of-requires c κs = search needs
+slice-write-rows c = some (entry c)
 
 -- room for the rows of the plan made ready
-room : (c : tie.After-ready-of) → Room (c .ready-of .result .n) (with-box c)
+room : (c : tie.After-area) → Room (entry c .args .ready .n) (with-box c)
 room c =
-    let r = entry c .pre in
-    let same = length-set (entry c .args .rows .now) 0 (c .before .area .result) in
-    subst (λ n. Room n (with-box c)) (sym (c .ready-of .ensures .n))
+    let r = entry c .pre .0 in
+    let same = length-set (entry c .args .rows .now) 0 (c .area .result) in
+    subst (λ n. Room n (with-box c)) (sym (entry c .pre .1 .n))
     (record { count = r .count; bytes = r .bytes; numbers = omega (arith, r .numbers); others = r .others; areas = r .areas })
 
 write-tables-requires : tie.Need-write-tables-requires
 write-tables-requires c κs = room (c .before .before .before .before .before)
 
-same-length : tie.Need-same-length
-same-length c = search needs
-
 same-length-2 : tie.Need-same-length-2
 same-length-2 c =
-    let r = made c in
+    let b = boxed c in
     c .before .before .before .before .before .before .before .before .write-tables .kept .1 .1 .1 .1 .1 .0
-    ∙ length-set (entry r .args .rows .now) 0 (r .before .area .result)
-
-same-length-3 : tie.Need-same-length-3
-same-length-3 c = search needs
-
-same-length-4 : tie.Need-same-length-4
-same-length-4 c = search needs
+    ∙ length-set (entry b .args .rows .now) 0 (b .area .result)
 
 returns : tie.Need-returns
 returns c =
-    let ready = made c in
-    let s = entry ready in
+    let b = boxed c in
+    let s = entry b in
     let a = s .args in
-    let r = ready .ready-of in
-    let box = ready .before .area in
-    let t = with-box ready in
-    let rows = rowsWritten (r .result) (record { own = 0; met = 0 }) (replicate 1024 0) (a .sets .now) (t .rows .bytes) (t .rows .numbers) in
+    let r = a .ready in
+    let of = s .pre .1 in
+    let t = with-box b in
+    let rows = rowsWritten r (record { own = 0; met = 0 }) (replicate 1024 0) (a .sets .now) (t .rows .bytes) (t .rows .numbers) in
     c .before .before .before .before .before .before .before .before .write-tables .ensures
-    ∙ ap (λ n. tablesWritten n rows t) (r .ensures .n)
-    ∙ afresh-written (methodOver (a .clipped) planSets) (a .plan) (r .result) (serves (a .clipped) planSets (a .plan) (r .result) (r .ensures)) (a .sets .now)
-    (a .presence .now) (a .rows .now) (box .result) (s .pre .count) (box .ensures ∙ ap area (ready .before .before .box-of .ensures)) (some s)
+    ∙ ap (λ n. tablesWritten n rows t) (of .n)
+    ∙ afresh-written (methodOver (r .clipped) planSets) (a .plan) r (serves (r .clipped) planSets (a .plan) r of) (a .sets .now)
+    (a .presence .now) (a .rows .now) (b .area .result) (s .pre .0 .count) (b .area .ensures ∙ ap area (b .before .box-of .ensures)) (some s)
     (a .exclusive-presence .now) (a .exclusives .now)
 
 pub write-afresh-spec : {M : Type 1} → statement M
 write-afresh-spec =
-    tie.close
-    (tie.spec
-    box-of-requires
-    area-requires
-    slice-write-rows
-    ready-of-requires
-    write-tables-requires
-    same-length
-    same-length-2
-    same-length-3
-    same-length-4
-    returns)
+    tie.close (tie.spec (λ c κs. search needs) (λ c κs. search needs) slice-write-rows write-tables-requires (λ c. search needs)
+    same-length-2 (λ c. search needs) (λ c. search needs) returns)

@@ -6,12 +6,6 @@ use Rattle.heads.proofs.Signed.{read-back}
 use Rattle.table.proofs.edit.change_of.Statement.{statement}
 use Rattle.table.proofs.edit.change_of.Tie as tie
 
-shl-t6 : tie.Need-shl-t6
-shl-t6 c = search needs
-
-met-by-requires : tie.Need-met-by-requires
-met-by-requires c κs = search needs
-
 returns : tie.Need-returns
 returns c =
     let s = c .before .before .before in
@@ -22,4 +16,4 @@ returns c =
     (c .met-by .ensures ∙ simp (read-back (e .x) (told .1 .0 .1), read-back (e .y) (told .1 .1 .0 .1), read-back (e .radius) (told .1 .1 .1 .0 .1)))
 
 pub change-of-spec : {M : Type 1} → statement M
-change-of-spec = tie.close (tie.spec shl-t6 met-by-requires returns)
+change-of-spec = tie.close (tie.spec (λ c. search needs) (λ c κs. search needs) returns)

@@ -7,21 +7,6 @@ use Rattle.table.proofs.Calls.{edit-kept, edit-reworks}
 use Rattle.table.proofs.edit.edit.Statement.{statement}
 use Rattle.table.proofs.edit.edit.Tie as tie
 
-edit-one-requires : tie.Need-edit-one-requires
-edit-one-requires c κs = search needs
-
-same-length : tie.Need-same-length
-same-length c = search needs
-
-same-length-2 : tie.Need-same-length-2
-same-length-2 c = search needs
-
-same-length-3 : tie.Need-same-length-3
-same-length-3 c = search needs
-
-same-length-4 : tie.Need-same-length-4
-same-length-4 c = search needs
-
 returns : tie.Need-returns
 returns c =
     let s = c .before .before .before .before .before .before .before .before .before .before .before .before .before .before .before .before .before in
@@ -33,11 +18,4 @@ returns c =
 
 pub edit-spec : {M : Type 1} → statement M
 edit-spec =
-    tie.close
-    (tie.spec
-    edit-one-requires
-    same-length
-    same-length-2
-    same-length-3
-    same-length-4
-    returns)
+    tie.close (tie.spec (λ c κs. search needs) (λ c. search needs) (λ c. search needs) (λ c. search needs) (λ c. search needs) returns)

@@ -1,5 +1,6 @@
 use borrow.Author.Needs.{needs}
-use mathlib.Core.Path.{_≡_, sym, ap, _∙_}
+use mathlib.Core.Path.{_≡_, sym, ap, _∙_, subst}
+use mathlib.Core.Bool.{true}
 use Prim.Native.Nat.{_<_}
 use lib.ListN.{length, length-set}
 use Rattle.lists.proofs.Arrays.{length-of-values}
@@ -10,8 +11,8 @@ use Rattle.areas.specs.Sets.{planSets}
 use Rattle.regions.specs.Slices.{PlanSlices, planSlices, sliceAnswer}
 use Rattle.regions.proofs.Slices.{Room, edit-room, edit-step-refused}
 use Rattle.table.specs.Method.{clippedTable}
-use Rattle.table.specs.Ready.{setsWritten}
-use Rattle.table.proofs.Calls.{sets-say, edit-step}
+use Rattle.table.specs.Ready.{Of}
+use Rattle.table.proofs.Calls.{sets-made, sets-say, edit-step}
 use Rattle.table.proofs.edit.edit_one.Statement.{statement}
 use Rattle.table.proofs.edit.edit_one.Tie as tie
 
@@ -25,7 +26,7 @@ abbrev decided : tie.After-enum-told → tie.After-decide
 decided c = c .before .before
 
 abbrev taken : tie.After-slice-known8 → tie.After-enum-told
-taken c = c .before .before .before .before .before .before .before .before .before .before .before .before .before .before .before .before .before .before
+taken c = c .before .before .before .before .before .before .before .before .before .before .before .before .before .before .before .before .before .before .before .before
 
 -- the plan and the slices handed in
 abbrev given : tie.Start → PlanSlices
@@ -39,41 +40,18 @@ answered c = let a = entry c .args in c .decide .ensures ∙ ap (editAnswer (a .
 room : (c : tie.After-enum-told) → let s = entry (decided c) in Room (s .args .plan .n) (given s .tables) × (s .args .edit .head < s .args .plan .n)
 room c = let s = entry (decided c) in edit-room (given s) (s .args .edit) (ten s) (sym (answered (decided c)) ∙ c .enum-told .given .1)
 
-lent-by-requires : tie.Need-lent-by-requires
-lent-by-requires c κs = search needs
-
-decide-requires : tie.Need-decide-requires
-decide-requires c κs = search needs
-
 enum-told : tie.Need-enum-told
 enum-told c = search needs
 
-apply-requires : tie.Need-apply-requires
-apply-requires c κs = search needs
-
-sets-of-requires : tie.Need-sets-of-requires
-sets-of-requires c κs = search needs
-
-sets-of-requires-2 : tie.Need-sets-of-requires-2
-sets-of-requires-2 c κs = search needs
+-- what the rows are worked out from is made of the plan after the edit
+made : (c : tie.After-ready-of2) → let a = entry (decided (c .before .before .before)) .args in Of (applied (a .plan) (a .edit)) true (c .ready-of2 .result)
+made c = subst (λ p. Of p true (c .ready-of2 .result)) (c .before .before .apply .ensures) (c .ready-of2 .ensures)
 
 write-edited-requires : tie.Need-write-edited-requires
-write-edited-requires c κs = room (c .before .before .before .before .before .before .before .before .before)
-
-enum-known-answer : tie.Need-enum-known-answer
-enum-known-answer c = search needs
-
-same-length : tie.Need-same-length
-same-length c = search needs
-
-same-length-2 : tie.Need-same-length-2
-same-length-2 c = search needs
-
-same-length-3 : tie.Need-same-length-3
-same-length-3 c = search needs
-
-same-length-4 : tie.Need-same-length-4
-same-length-4 c = search needs
+write-edited-requires c κs =
+    let r = c .before .before .before .before .before .before .before .before in
+    let h = room (r .before .before .before) in
+    (h .0, h .1, made r)
 
 returns : tie.Need-returns
 returns c =
@@ -83,13 +61,14 @@ returns c =
     let e = s .args .edit in
     let few = room t .0 .count in
     let found = c .before .before .before .before .before .before .before .before .before .before .before .before .before .before .before in
-    let next = found .before .before .apply in
+    let ready = found .before .before in
+    let next = ready .before .before .apply in
     let earlier = found .before .sets-of in
     let later = found .sets-of2 in
     let many = length-set (p .heads) (e .head) (headOf e) ∙ ten s in
     edit-step planSets (given s) e (earlier .result) (later .result) (next .result) _ (sym (answered (decided t)) ∙ t .enum-told .given .1)
-    (λ S h. ap (λ l. stands l S) (earlier .ensures) ∙ sets-say p (ten s) few S h)
-    (λ S h. ap (λ l. stands l S) (later .ensures ∙ ap setsWritten (next .ensures)) ∙ sets-say (applied p e) many few S h)
+    (λ S h. ap (λ l. stands l S) (earlier .ensures ∙ sets-made p true _ (ready .before .ready-of .ensures)) ∙ sets-say p (ten s) few S h)
+    (λ S h. ap (λ l. stands l S) (later .ensures ∙ sets-made (applied p e) true _ (made ready)) ∙ sets-say (applied p e) many few S h)
     (next .ensures)
     (c .before .before .before .before .before .before .before .before .write-edited .ensures)
 
@@ -100,19 +79,6 @@ returns-2 c =
 
 pub edit-one-spec : {M : Type 1} → statement M
 edit-one-spec =
-    tie.close
-    (tie.spec
-    lent-by-requires
-    decide-requires
-    enum-told
-    apply-requires
-    sets-of-requires
-    sets-of-requires-2
-    write-edited-requires
-    enum-known-answer
-    same-length
-    same-length-2
-    same-length-3
-    same-length-4
-    returns
-    returns-2)
+    tie.close (tie.spec (λ c κs. search needs) (λ c κs. search needs) enum-told (λ c κs. search needs) (λ c κs. search needs)
+    (λ c κs. search needs) (λ c κs. search needs) (λ c κs. search needs) write-edited-requires (λ c. search needs) (λ c. search needs)
+    (λ c. search needs) (λ c. search needs) (λ c. search needs) returns returns-2)

@@ -1,77 +1,44 @@
 use borrow.Author.Needs.{needs}
-use mathlib.Core.Path.{_≡_, sym, ap, ap₂, _∙_, subst}
-use Prim.Native.Nat.{_≤_, _<_}
+use mathlib.Core.Path.{sym, ap₂, _∙_, subst}
 use mathlib.Core.Bool.{true}
 use Rattle.plan.specs.Book.{applied}
 use Rattle.areas.specs.Sets.{planSets}
 use Rattle.regions.specs.Slices.{LentTables, tablesOf}
 use Rattle.regions.proofs.Slices.{Room}
 use Rattle.table.specs.Method.{clippedTable}
-use Rattle.table.specs.Ready.{Of}
 use Rattle.table.specs.Rows.{rowsWritten}
-use Rattle.table.specs.Tables.{changeOf, tablesWritten}
+use Rattle.table.specs.Tables.{tablesWritten}
 use Rattle.table.proofs.Calls.{serves, edited-written}
 use Rattle.table.proofs.edit.write_edited.Statement.{statement}
 use Rattle.table.proofs.edit.write_edited.Tie as tie
 
-abbrev entry : tie.After-ready-of → tie.Start
-entry c = c .before .before .before .before .before .before .before
+abbrev entry : tie.After-change-of → tie.Start
+entry c = c .before .before .before .before .before
 
 -- the slices handed in
 abbrev given : tie.Start → LentTables
 given c = let a = c .args in tablesOf (a .presence .now) (a .rows .now) (a .exclusive-presence .now) (a .exclusives .now)
 
--- what the rows are worked out from is made of the plan after the edit
-made : (c : tie.After-ready-of) → let a = entry c .args in Of (applied (a .plan) (a .edit)) true (c .ready-of .result)
-made c = subst (λ p. Of p true (c .ready-of .result)) (c .before .apply .ensures) (c .ready-of .ensures)
-
 change-of-requires : tie.Need-change-of-requires
 change-of-requires c κs = let s = c .before .before .before .before in (s .pre .0 .count, s .pre .1)
 
-apply-requires : tie.Need-apply-requires
-apply-requires c κs = search needs
-
-ready-of-requires : tie.Need-ready-of-requires
-ready-of-requires c κs = search needs
-
 write-tables-requires : tie.Need-write-tables-requires
-write-tables-requires c κs = let r = c .before .before .before .before in subst (λ n. Room n (given (entry r))) (sym (made r .n)) (entry r .pre .0)
-
-same-length : tie.Need-same-length
-same-length c = search needs
-
-same-length-2 : tie.Need-same-length-2
-same-length-2 c = search needs
-
-same-length-3 : tie.Need-same-length-3
-same-length-3 c = search needs
-
-same-length-4 : tie.Need-same-length-4
-same-length-4 c = search needs
+write-tables-requires c κs = let s = entry (c .before .before .before .before) in subst (λ n. Room n (given s)) (sym (s .pre .2 .n)) (s .pre .0)
 
 returns : tie.Need-returns
 returns c =
-    let ready = c .before .before .before .before .before .before .before .before .before .before .before .before .before in
-    let s = entry ready in
+    let changed = c .before .before .before .before .before .before .before .before .before .before .before .before .before in
+    let s = entry changed in
     let a = s .args in
-    let of = made ready in
-    let r = ready .ready-of .result in
+    let of = s .pre .2 in
+    let r = a .ready in
     c .before .before .before .before .before .before .before .before .write-tables .ensures
     ∙ ap₂ (λ n change. tablesWritten n (rowsWritten r change (a .earlier .now) (a .later .now) (a .presence .now) (a .rows .now)) (given s))
-    (of .n) (c .before .before .before .before .before .before .before .before .before .before .before .before .before .before .before .change-of .ensures)
+    (of .n) (changed .change-of .ensures)
     ∙ edited-written clippedTable (a .plan) (a .edit) r (serves true planSets (applied (a .plan) (a .edit)) r of) (a .earlier .now) (a .later .now)
     (a .presence .now) (a .rows .now) (a .plan .n) (a .exclusive-presence .now) (a .exclusives .now)
 
 pub write-edited-spec : {M : Type 1} → statement M
 write-edited-spec =
-    tie.close
-    (tie.spec
-    change-of-requires
-    apply-requires
-    ready-of-requires
-    write-tables-requires
-    same-length
-    same-length-2
-    same-length-3
-    same-length-4
-    returns)
+    tie.close (tie.spec change-of-requires write-tables-requires (λ c. search needs) (λ c. search needs) (λ c. search needs)
+    (λ c. search needs) returns)

@@ -23,17 +23,8 @@ to-length c =
     let s = c .before in
     ap length (c .loop .inv .1) ∙ length-written (λ S. getD (s .args .from .now) S 0) (c .loop .i) (s .args .to .now) (omega (arith, s .pre .1))
 
-shared-slice-read-to : tie.Need-shared-slice-read-to Inv-loop μ-loop
-shared-slice-read-to c = search needs
-
 slice-write-to : tie.Need-slice-write-to Inv-loop μ-loop
 slice-write-to c = let k = to-length (c .before .before) in omega arith
-
-add-i : tie.Need-add-i Inv-loop μ-loop
-add-i c = search needs
-
-loop-less : tie.Need-loop-less Inv-loop μ-loop
-loop-less c = search needs
 
 loop-again : tie.Need-loop-again Inv-loop μ-loop
 loop-again c =
@@ -52,15 +43,5 @@ returns c =
 
 pub copy-bytes-spec : {M : Type 1} → statement M
 copy-bytes-spec =
-    tie.close
-    (tie.spec
-    Inv-loop
-    μ-loop
-    loop-holds
-    shared-slice-read-to
-    slice-write-to
-    add-i
-    loop-less
-    loop-again
-    same-length
-    returns)
+    tie.close (tie.spec Inv-loop μ-loop loop-holds (λ c. search needs) slice-write-to (λ c. search needs) (λ c. search needs) loop-again
+    same-length returns)

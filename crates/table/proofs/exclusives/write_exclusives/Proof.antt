@@ -14,23 +14,11 @@ counted c =
     let s = c .before .before .before .before .before .before in
     rows-count (s .args .n) (c .rows-needed .result) (s .pre .0) (c .rows-needed .ensures)
 
-rows-needed-requires : tie.Need-rows-needed-requires
-rows-needed-requires c κs = search needs
-
 copy-bytes-requires : tie.Need-copy-bytes-requires
 copy-bytes-requires c κs =
     let e = counted c in
     let s = c .before .before .before .before .before .before in
     (omega (arith, s .pre .1), omega (arith, s .pre .3))
-
-to-exclusive-areas-requires : tie.Need-to-exclusive-areas-requires
-to-exclusive-areas-requires c κs = search needs
-
-same-length : tie.Need-same-length
-same-length c = search needs
-
-same-length-2 : tie.Need-same-length-2
-same-length-2 c = search needs
 
 returns : tie.Need-returns
 returns c =
@@ -46,11 +34,4 @@ returns c =
 
 pub write-exclusives-spec : {M : Type 1} → statement M
 write-exclusives-spec =
-    tie.close
-    (tie.spec
-    rows-needed-requires
-    copy-bytes-requires
-    to-exclusive-areas-requires
-    same-length
-    same-length-2
-    returns)
+    tie.close (tie.spec (λ c κs. search needs) copy-bytes-requires (λ c κs. search needs) (λ c. search needs) (λ c. search needs) returns)

@@ -16,36 +16,12 @@ returns : tie.Need-returns
 unfolding meetsAny
 returns c = met-self _ _ _ (c .if1 .taken)
 
-mul-meets : tie.Need-mul-meets
-mul-meets c = search needs
-
-array-copy-out-meets : tie.Need-array-copy-out-meets
-array-copy-out-meets c = search needs
-
-mul-meets-2 : tie.Need-mul-meets-2
-mul-meets-2 c = search needs
-
-array-copy-out-meets-2 : tie.Need-array-copy-out-meets-2
-array-copy-out-meets-2 c = search needs
-
-meets-requires : tie.Need-meets-requires
-meets-requires c κs = search needs
-
 returns-2 : tie.Need-returns-2
 unfolding meetsAny
 returns-2 c =
     let a = c .before .before .before .before .before .args in
     met-before (a .j) (a .k) (meetsOf (getD (a .t1) (a .k) noHead) (getD (a .t1) (a .j) noHead)) (meetsOf (a .head) (getD (a .t1) (a .j) noHead))
     (c .before .before .before .before .if1 .left) (sym (c .before .meets .ensures) ∙ c .if2 .taken)
-
-mul-meets-3 : tie.Need-mul-meets-3
-mul-meets-3 c = search needs
-
-array-copy-out-meets-3 : tie.Need-array-copy-out-meets-3
-array-copy-out-meets-3 c = search needs
-
-meets-requires-2 : tie.Need-meets-requires-2
-meets-requires-2 c κs = search needs
 
 returns-3 : tie.Need-returns-3
 unfolding meetsAny
@@ -57,16 +33,5 @@ returns-3 c =
 
 pub is-met-spec : {M : Type 1} → statement M
 is-met-spec =
-    tie.close
-    (tie.spec
-    returns
-    mul-meets
-    array-copy-out-meets
-    mul-meets-2
-    array-copy-out-meets-2
-    meets-requires
-    returns-2
-    mul-meets-3
-    array-copy-out-meets-3
-    meets-requires-2
-    returns-3)
+    tie.close (tie.spec returns (λ c. search needs) (λ c. search needs) (λ c. search needs) (λ c. search needs) (λ c κs. search needs)
+    returns-2 (λ c. search needs) (λ c. search needs) (λ c κs. search needs) returns-3)

@@ -27,18 +27,6 @@ loop-holds : tie.Need-loop-holds Inv-loop μ-loop
 unfolding gather
 loop-holds c = (omega arith, refl)
 
-is-met-requires : tie.Need-is-met-requires Inv-loop μ-loop
-is-met-requires c κs = search needs
-
-shl-mask : tie.Need-shl-mask Inv-loop μ-loop
-shl-mask c = search needs
-
-add-j : tie.Need-add-j Inv-loop μ-loop
-add-j c = search needs
-
-loop-less : tie.Need-loop-less Inv-loop μ-loop
-loop-less c = search needs
-
 loop-again : tie.Need-loop-again Inv-loop μ-loop
 loop-again c =
     let l = c .before .before .before .loop in
@@ -58,14 +46,5 @@ returns c = let e : c .before .loop .j ≡ c .before .before .args .n = omega ar
 
 pub met-by-spec : {M : Type 1} → statement M
 met-by-spec =
-    tie.close
-    (tie.spec
-    Inv-loop
-    μ-loop
-    loop-holds
-    is-met-requires
-    shl-mask
-    add-j
-    loop-less
-    loop-again
-    returns)
+    tie.close (tie.spec Inv-loop μ-loop loop-holds (λ c κs. search needs) (λ c. search needs) (λ c. search needs) (λ c. search needs)
+    loop-again returns)

@@ -7,18 +7,6 @@ use Rattle.intersections.specs.Points.{collected}
 use Rattle.table.proofs.ready.ready_of.Statement.{statement}
 use Rattle.table.proofs.ready.ready_of.Tie as tie
 
-circles-of-requires : tie.Need-circles-of-requires
-circles-of-requires c κs = search needs
-
-collect-intersections-requires : tie.Need-collect-intersections-requires
-collect-intersections-requires c κs = search needs
-
-box-of-requires : tie.Need-box-of-requires
-box-of-requires c κs = search needs
-
-bounds-requires : tie.Need-bounds-requires
-bounds-requires c κs = search needs
-
 -- the first n circles are the plan's
 circles : (c : tie.After-circles-of) → take (c .before .before .args .plan .n) (c .circles-of .result) ≡ planCircles (c .before .before .args .plan)
 unfolding planCircles
@@ -36,5 +24,4 @@ returns c =
     }
 
 pub ready-of-spec : {M : Type 1} → statement M
-ready-of-spec =
-    tie.close (tie.spec circles-of-requires collect-intersections-requires box-of-requires bounds-requires returns)
+ready-of-spec = tie.close (tie.spec (λ c κs. search needs) (λ c κs. search needs) (λ c κs. search needs) (λ c κs. search needs) returns)

@@ -1,137 +1,100 @@
 use borrow.Author.Needs.{needs}
-use mathlib.Core.Path.{_≡_, refl, sym, ap, _∙_}
+use mathlib.Core.Path.{_≡_, refl, sym, ap, _∙_, subst}
+use mathlib.Core.Bool.{cond}
+use mathlib.Core.List.{List}
+use native.Mathlib.Nat.{le-refl}
 use native.Mathlib.Omega.{arith}
-use Prim.Native.Nat.{ℕ, _-_, _≤_}
-use mathlib.Core.Bool.{Bool}
-use lib.Ieee.{nan}
-use lib.ListN.{length, getD}
+use Prim.Native.Nat.{ℕ, _^_, _<_}
+use lib.Dec.{eqb}
+use lib.Ieee.{Float, nan}
+use lib.ListN.{drop, getD, replicate}
+use Rattle.binary64.specs.Constants.{zero64}
 use Rattle.lists.specs.Written.{written}
-use Rattle.lists.proofs.Writing.{written-none, length-written, written-past, write-next}
-use Rattle.masks.specs.Presence.{stands}
+use Rattle.lists.proofs.Writing.{written-before, written-cong, drop-written}
+use Rattle.masks.specs.Presence.{byte, stands, byte-stands}
 use Rattle.regions.specs.Edit.{Row}
 use Rattle.regions.specs.Slices.{slicesOf, rowAt}
+use Rattle.sums.specs.Rows.{numberAt}
+use Rattle.sums.specs.Presence.{among}
+use Rattle.sums.proofs.Passes.{areas-all, bytes-all, cleared-all}
 use Rattle.table.specs.Ready.{areaOf}
-use Rattle.table.specs.Rows.{rowsWritten}
-use Rattle.table.proofs.Writing.{row-cong, byte-after}
+use Rattle.table.specs.Rows.{rowsWritten, workedOut}
+use Rattle.table.proofs.Second.{rows-most}
+use Rattle.table.proofs.Writing.{byte-left, number-left}
 use Rattle.table.proofs.rows.write_rows.Statement.{statement}
 use Rattle.table.proofs.rows.write_rows.Tie as tie
 
-abbrev Inv-loop : tie.InvT-loop
-Inv-loop ready change earlier later count presence₀ rows₀ clipped mask₀ presence rows mask =
-    (mask ≤ count) × (clipped ≡ ready .clipped)
-    × (presence ≡ written (λ S. rowsWritten ready change earlier later presence₀ rows₀ S .byte) mask presence₀)
-    × (rows ≡ written (λ S. rowsWritten ready change earlier later presence₀ rows₀ S .number) mask rows₀)
+abbrev entry : tie.After-bounds → tie.Start
+entry c = c .before .before .before .before .before
 
-abbrev μ-loop : tie.MeasureT-loop
-μ-loop ready change earlier later count presence₀ rows₀ clipped mask₀ presence rows mask = count - mask
+abbrev asked : tie.After-write-areas → tie.After-rows-worked-out
+asked c = c .before .before .before
 
-loop-holds : tie.Need-loop-holds Inv-loop μ-loop
-loop-holds c = (omega arith, refl, written-none _ _, written-none _ _)
+abbrev given : tie.After-write-areas → tie.Start
+given c = entry (asked c .before)
 
--- the row for each row number that the pass writes
-abbrev rowOf : tie.Start Inv-loop μ-loop → ℕ → Row
+abbrev first : tie.After-clear-absent → tie.After-write-areas
+first c = c .before .before .before .before
+
+abbrev cleared : tie.After-slice-known5 → tie.After-clear-absent
+cleared c = c .before .before .before .before .before .before
+
+-- the numbers that the first pass leaves
+abbrev worked : tie.After-write-areas → List Float
+worked c = c .write-areas .last .1 .1 .1 .1 .1 .1 .0
+
+-- the row for each row number that the passes leave
+abbrev rowOf : tie.Start → ℕ → Row
 rowOf s = let a = s .args in rowsWritten (a .ready) (a .change) (a .earlier .now) (a .later .now) (a .presence .now) (a .rows .now)
 
--- the lengths stay
-bytes-length : (c : tie.At-loop Inv-loop μ-loop) → length (c .loop .presence) ≡ length (c .before .before .before .args .presence .now)
-bytes-length c =
-    let s = c .before .before .before in
-    ap length (c .loop .inv .2) ∙ length-written (λ S. rowOf s S .byte) (c .loop .mask) (s .args .presence .now) (omega (arith, s .pre .1))
+-- the bytes of the rows to be worked out say so
+wanted-say : (c : tie.After-rows-worked-out) (S : ℕ) → S < entry (c .before) .args .count
+    → let a = entry (c .before) .args in stands (c .rows-worked-out .result) S ≡ workedOut (a .change) (stands (a .earlier .now)) (stands (a .later .now)) S
+wanted-say c S h =
+    let a = entry (c .before) .args in
+    let worked-out = workedOut (a .change) (stands (a .earlier .now)) (stands (a .later .now)) in
+    ap (λ l. stands l S) (c .rows-worked-out .ensures)
+    ∙ ap (λ b. eqb b 1) (written-before (λ T. byte (worked-out T)) (a .count) S (replicate 1024 0) 0 h)
+    ∙ byte-stands (worked-out S)
 
-rows-length : (c : tie.At-loop Inv-loop μ-loop) → length (c .loop .rows) ≡ length (c .before .before .before .args .rows .now)
-rows-length c =
-    let s = c .before .before .before in
-    ap length (c .loop .inv .3) ∙ length-written (λ S. rowOf s S .number) (c .loop .mask) (s .args .rows .now) (omega (arith, s .pre .2))
+rows-worked-out-requires : tie.Need-rows-worked-out-requires
+rows-worked-out-requires c κs = let p = entry c .pre in omega (arith, p .1, rows-most (entry c .args .ready .n) (p .0))
 
-element-copy-out-row-number : tie.Need-element-copy-out-row-number Inv-loop μ-loop
-element-copy-out-row-number c = search needs
+same-length-2 : tie.Need-same-length-2
+same-length-2 c = cleared c .clear-absent .kept .1 .1 .1 .0 ∙ first (cleared c) .write-areas .kept .1 .1 .1 .1 .1 .1 .0
 
-element-copy-out-row-number-2 : tie.Need-element-copy-out-row-number-2 Inv-loop μ-loop
-element-copy-out-row-number-2 c = search needs
-
-mul-row-number : tie.Need-mul-row-number Inv-loop μ-loop
-mul-row-number c = search needs
-
-slice-read-row-number : tie.Need-slice-read-row-number Inv-loop μ-loop
-slice-read-row-number c = let k = rows-length (c .before .before .before .before) in omega arith
-
-row-number-requires : tie.Need-row-number-requires Inv-loop μ-loop
-row-number-requires c κs = search needs
-
-mul-rows : tie.Need-mul-rows Inv-loop μ-loop
-mul-rows c = search needs
-
-slice-write-rows : tie.Need-slice-write-rows Inv-loop μ-loop
-slice-write-rows c = let k = rows-length (c .before .before .before .before .before) in omega arith
-
-element-copy-out-row-byte : tie.Need-element-copy-out-row-byte Inv-loop μ-loop
-element-copy-out-row-byte c = search needs
-
-row-byte-requires : tie.Need-row-byte-requires Inv-loop μ-loop
-row-byte-requires c κs = search needs
-
-slice-write-presence : tie.Need-slice-write-presence Inv-loop μ-loop
-slice-write-presence c = let k = bytes-length (c .before .before .before .before .before .before .before) in omega arith
-
-add-mask : tie.Need-add-mask Inv-loop μ-loop
-add-mask c = search needs
-
-loop-less : tie.Need-loop-less Inv-loop μ-loop
-loop-less c = search needs
-
-loop-again : tie.Need-loop-again Inv-loop μ-loop
-loop-again c =
-    let l = c .before .before .before .before .before .before .before .loop in
-    let s = c .before .before .before .before .before .before .before .before .before .before in
-    let a = s .args in
-    let was = rowAt (slicesOf (a .presence .now) (a .rows .now)) in
-    let kept : getD (l .rows) (l .mask) nan ≡ getD (a .rows .now) (l .mask) nan =
-    ap (λ r. getD r (l .mask) nan) (l .inv .3) ∙ written-past (λ S. rowOf s S .number) (l .mask) (l .mask) (a .rows .now) nan (omega arith) in
-    let v = c .before .before .row-number .ensures
-    ∙ ap (λ r. r .number)
-    (row-cong (a .ready .clipped) (a .change .own) (a .change .met) (areaOf (a .ready)) (areaOf (a .ready)) _ (stands (a .earlier .now)) _
-    (stands (a .later .now)) _ was (l .mask) refl refl refl kept) in
-    let w = c .row-byte .ensures
-    ∙ byte-after (a .ready .clipped) (a .change .own) (a .change .met) (areaOf (a .ready)) (stands (a .earlier .now))
-    (stands (a .later .now)) was _ (l .mask) refl in (
-      omega arith,
-      l .inv .1,
-      rw (l .inv .2) (write-next (λ S. rowOf s S .byte) (l .mask) (a .presence .now) _ 0 (omega arith) w),
-      rw (l .inv .3) (write-next (λ S. rowOf s S .number) (l .mask) (a .rows .now) _ nan (omega arith) v),
-    )
-
-same-length : tie.Need-same-length Inv-loop μ-loop
-same-length c = bytes-length (c .before)
-
-same-length-2 : tie.Need-same-length-2 Inv-loop μ-loop
-same-length-2 c = rows-length (c .before)
-
-returns : tie.Need-returns Inv-loop μ-loop
+returns : tie.Need-returns
+unfolding areaOf
 returns c =
-    let l = c .before .loop in
-    let e : l .mask ≡ c .before .before .before .before .args .count = omega arith in
-    (rw e at (l .inv .2), rw e at (l .inv .3))
+    let w = first (cleared c) in
+    let s = given w in
+    let a = s .args in
+    let r = a .ready in
+    let n = r .n in
+    let few = s .pre .0 in
+    let count = s .pre .1 in
+    let earlier = stands (a .earlier .now) in
+    let later = stands (a .later .now) in
+    let rows = rowAt (slicesOf (a .presence .now) (a .rows .now)) in
+    let wanted = stands (asked w .rows-worked-out .result) in
+    let places = w .write-areas .kept .1 .1 .1 .1 .1 .1 .0 in
+    let areas = w .write-areas .ensures ∙ areas-all n few wanted (areaOf r) (a .rows .now) (omega (arith, s .pre .3)) in
+    let row : (S : ℕ) → S < 2 ^ n → cond (among (r .clipped) later S) (getD (worked w) S nan) zero64 ≡ rowOf s S .number =
+    λ S h. ap (λ l. cond (among (r .clipped) later S) (getD l S nan) zero64) areas
+    ∙ ap (λ v. cond (among (r .clipped) later S) v zero64) (written-before (numberAt wanted (areaOf r) (a .rows .now)) (2 ^ n) S (a .rows .now) nan h)
+    ∙ number-left (r .clipped) (a .change) (areaOf r) earlier later rows wanted (a .rows .now) S
+    (wanted-say (asked w) S (subst (λ m. S < m) (sym count) h)) refl in (
+      c .before .before .write-presence .ensures ∙ bytes-all n few (among (r .clipped) later) (a .presence .now) (omega (arith, s .pre .2))
+          ∙ written-cong _ (λ S. rowOf s S .byte) (2 ^ n) (a .presence .now) (a .presence .now)
+          (λ S h. byte-left (r .clipped) (a .change) (areaOf r) earlier later rows S) refl
+          ∙ ap (λ m. written (λ S. rowOf s S .byte) m (a .presence .now)) (sym count),
+      cleared c .clear-absent .ensures
+          ∙ cleared-all n few (among (r .clipped) later) (worked w) (a .rows .now) (λ S. rowOf s S .number) (omega (arith, places, s .pre .3))
+          (ap (drop (2 ^ n)) areas ∙ drop-written _ (2 ^ n) (2 ^ n) (a .rows .now) (le-refl (2 ^ n))) row
+          ∙ ap (λ m. written (λ S. rowOf s S .number) m (a .rows .now)) (sym count),
+    )
 
 pub write-rows-spec : {M : Type 1} → statement M
 write-rows-spec =
-    tie.close
-    (tie.spec
-    Inv-loop
-    μ-loop
-    loop-holds
-    element-copy-out-row-number
-    element-copy-out-row-number-2
-    mul-row-number
-    slice-read-row-number
-    row-number-requires
-    mul-rows
-    slice-write-rows
-    element-copy-out-row-byte
-    row-byte-requires
-    slice-write-presence
-    add-mask
-    loop-less
-    loop-again
-    same-length
-    same-length-2
-    returns)
+    tie.close (tie.spec rows-worked-out-requires (λ c κs. search needs) (λ c κs. search needs) (λ c κs. search needs) (λ c. search needs)
+    same-length-2 returns)

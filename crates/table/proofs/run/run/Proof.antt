@@ -55,18 +55,6 @@ edit-of c = let a = c .args in editAt (a .head .now) (a .x .now) (a .y .now) (a 
 abbrev count-of : tie.Start Inv-loop μ-loop → ℕ
 count-of c = let a = c .args in editCount (a .head .now) (a .x .now) (a .y .now) (a .radius .now) (a .answers .now)
 
-shorter-requires : tie.Need-shorter-requires Inv-loop μ-loop
-shorter-requires c κs = search needs
-
-shorter-requires-2 : tie.Need-shorter-requires-2 Inv-loop μ-loop
-shorter-requires-2 c κs = search needs
-
-shorter-requires-3 : tie.Need-shorter-requires-3 Inv-loop μ-loop
-shorter-requires-3 c κs = search needs
-
-shorter-requires-4 : tie.Need-shorter-requires-4 Inv-loop μ-loop
-shorter-requires-4 c κs = search needs
-
 -- the shortest of five
 counted : (c : tie.After-shorter4 Inv-loop μ-loop)
     → c .shorter4 .result ≡ count-of (c .before .before .before .before .before .before .before .before .before .before)
@@ -96,12 +84,6 @@ within c =
 
 edit-at-requires : tie.Need-edit-at-requires Inv-loop μ-loop
 edit-at-requires c κs = let w = within c in (w .head, w .x, w .y, w .radius)
-
-edit-one-requires : tie.Need-edit-one-requires Inv-loop μ-loop
-edit-one-requires c κs = search needs
-
-answer-number-requires : tie.Need-answer-number-requires Inv-loop μ-loop
-answer-number-requires c κs = search needs
 
 slice-write-answers : tie.Need-slice-write-answers Inv-loop μ-loop
 slice-write-answers c =
@@ -177,25 +159,6 @@ returns c =
 
 pub run-spec : {M : Type 1} → statement M
 run-spec =
-    tie.close
-    (tie.spec
-    Inv-loop
-    μ-loop
-    shorter-requires
-    shorter-requires-2
-    shorter-requires-3
-    shorter-requires-4
-    loop-holds
-    edit-at-requires
-    edit-one-requires
-    answer-number-requires
-    slice-write-answers
-    add-i
-    loop-less
-    loop-again
-    same-length
-    same-length-2
-    same-length-3
-    same-length-4
-    same-length-5
-    returns)
+    tie.close (tie.spec Inv-loop μ-loop (λ c κs. search needs) (λ c κs. search needs) (λ c κs. search needs) (λ c κs. search needs)
+    loop-holds edit-at-requires (λ c κs. search needs) (λ c κs. search needs) slice-write-answers add-i loop-less loop-again same-length
+    same-length-2 same-length-3 same-length-4 same-length-5 returns)

@@ -7,7 +7,7 @@ use Rattle.regions.specs.Slices.{tablesOf, writtenBytes, writtenNumbers}
 use Rattle.regions.proofs.Slices.{settled-of}
 use Rattle.table.specs.Method.{clippedTable}
 use Rattle.table.specs.Rows.{rowsWritten}
-use Rattle.table.proofs.Second.{rows-count, rows-most}
+use Rattle.table.proofs.Second.{rows-count}
 use Rattle.table.proofs.tables.write_tables.Statement.{statement}
 use Rattle.table.proofs.tables.write_tables.Tie as tie
 
@@ -17,15 +17,11 @@ counted c =
     let s = c .before .before .before .before .before in
     rows-count (s .args .ready .n) (c .rows-needed .result) (s .pre .count) (c .rows-needed .ensures)
 
-rows-needed-requires : tie.Need-rows-needed-requires
-rows-needed-requires c κs = search needs
-
 write-rows-requires : tie.Need-write-rows-requires
 write-rows-requires c κs =
     let s = c .before .before .before .before .before .before .before in
     let e = counted (c .before .before) in
-    let k = rows-most (s .args .ready .n) (s .pre .count) in
-    (omega arith, omega (arith, s .pre .bytes), omega (arith, s .pre .numbers))
+    (s .pre .count, e, omega (arith, s .pre .bytes), omega (arith, s .pre .numbers))
 
 write-exclusives-requires : tie.Need-write-exclusives-requires
 write-exclusives-requires c κs =
@@ -33,18 +29,6 @@ write-exclusives-requires c κs =
     let w = c .before .before .before .before .before .before .before .before .write-rows in
     let r = s .pre in
     (r .count, omega (arith, r .bytes), omega (arith, r .numbers), r .others, r .areas)
-
-same-length : tie.Need-same-length
-same-length c = search needs
-
-same-length-2 : tie.Need-same-length-2
-same-length-2 c = search needs
-
-same-length-3 : tie.Need-same-length-3
-same-length-3 c = search needs
-
-same-length-4 : tie.Need-same-length-4
-same-length-4 c = search needs
 
 returns : tie.Need-returns
 returns c =
@@ -64,13 +48,5 @@ returns c =
 
 pub write-tables-spec : {M : Type 1} → statement M
 write-tables-spec =
-    tie.close
-    (tie.spec
-    rows-needed-requires
-    write-rows-requires
-    write-exclusives-requires
-    same-length
-    same-length-2
-    same-length-3
-    same-length-4
-    returns)
+    tie.close (tie.spec (λ c κs. search needs) write-rows-requires write-exclusives-requires (λ c. search needs) (λ c. search needs)
+    (λ c. search needs) (λ c. search needs) returns)

@@ -15,36 +15,6 @@ use Rattle.watered.specs.Handed.{three}
 use Rattle.watered.proofs.handed.numbers_of.Statement.{statement}
 use Rattle.watered.proofs.handed.numbers_of.Tie as tie
 
-array-copy-out-a : tie.Need-array-copy-out-a
-array-copy-out-a c = search needs
-
-array-copy-out-b : tie.Need-array-copy-out-b
-array-copy-out-b c = search needs
-
-array-copy-out-c : tie.Need-array-copy-out-c
-array-copy-out-c c = search needs
-
-array-copy-out-d : tie.Need-array-copy-out-d
-array-copy-out-d c = search needs
-
-array-copy-out-e : tie.Need-array-copy-out-e
-array-copy-out-e c = search needs
-
-array-copy-out-f : tie.Need-array-copy-out-f
-array-copy-out-f c = search needs
-
-array-copy-out-g : tie.Need-array-copy-out-g
-array-copy-out-g c = search needs
-
-array-copy-out-h : tie.Need-array-copy-out-h
-array-copy-out-h c = search needs
-
-array-copy-out-i : tie.Need-array-copy-out-i
-array-copy-out-i c = search needs
-
-array-copy-out-j : tie.Need-array-copy-out-j
-array-copy-out-j c = search needs
-
 -- three numbers of 32 bits come back from their bits
 three-kept : (h : Head) {r r' : List ℤ} → mag (h .x) < 2 ^ 31 → mag (h .y) < 2 ^ 31 → mag (h .radius) < 2 ^ 31 → r ≡ r'
     → (toZ w32 (ofZ w32 (h .x)) ∷ toZ w32 (ofZ w32 (h .y)) ∷ toZ w32 (ofZ w32 (h .radius)) ∷ r) ≡ three h r'
@@ -76,16 +46,5 @@ returns c =
 
 pub numbers-of-spec : {M : Type 1} → statement M
 numbers-of-spec =
-    tie.close
-    (tie.spec
-    array-copy-out-a
-    array-copy-out-b
-    array-copy-out-c
-    array-copy-out-d
-    array-copy-out-e
-    array-copy-out-f
-    array-copy-out-g
-    array-copy-out-h
-    array-copy-out-i
-    array-copy-out-j
-    returns)
+    tie.close (tie.spec (λ c. search needs) (λ c. search needs) (λ c. search needs) (λ c. search needs) (λ c. search needs)
+    (λ c. search needs) (λ c. search needs) (λ c. search needs) (λ c. search needs) (λ c. search needs) returns)

@@ -4,16 +4,9 @@ use borrow.Author.Needs.{needs}
 use Rattle.watered.proofs.slopes.overlap_of.Statement.{statement}
 use Rattle.watered.proofs.slopes.overlap_of.Tie as tie
 
-circles-of-requires : tie.Need-circles-of-requires
-circles-of-requires c κs = search needs
-
-compute-overlaps-circles-requires : tie.Need-compute-overlaps-circles-requires
-compute-overlaps-circles-requires c κs = search needs
-
 returns : tie.Need-returns
 unfolding planCircles
 returns c = rw (c .compute-overlaps-circles .ensures, c .before .circles-of .ensures)
 
 pub overlap-of-spec : {M : Type 1} → statement M
-overlap-of-spec =
-    tie.close (tie.spec circles-of-requires compute-overlaps-circles-requires returns)
+overlap-of-spec = tie.close (tie.spec (λ c κs. search needs) (λ c κs. search needs) returns)

@@ -10,24 +10,6 @@ use borrow.Author.Needs.{needs}
 use Rattle.watered.proofs.slopes.watered_gradients.Statement.{statement}
 use Rattle.watered.proofs.slopes.watered_gradients.Tie as tie
 
-plan-of-requires : tie.Need-plan-of-requires
-plan-of-requires c κs = search needs
-
-gradients-requires : tie.Need-gradients-requires
-gradients-requires c κs = search needs
-
-number-of-requires : tie.Need-number-of-requires
-number-of-requires c κs = search needs
-
-same-length : tie.Need-same-length
-same-length c = search needs
-
-same-length-2 : tie.Need-same-length-2
-same-length-2 c = search needs
-
-same-length-3 : tie.Need-same-length-3
-same-length-3 c = search needs
-
 -- after the call, and at the start
 abbrev called : tie.After-number-of → tie.After-gradients
 called c = c .before .before .before .before .before .before .before
@@ -45,12 +27,5 @@ returns c =
 
 pub watered-gradients-spec : {M : Type 1} → statement M
 watered-gradients-spec =
-    tie.close
-    (tie.spec
-    plan-of-requires
-    gradients-requires
-    number-of-requires
-    same-length
-    same-length-2
-    same-length-3
-    returns)
+    tie.close (tie.spec (λ c κs. search needs) (λ c κs. search needs) (λ c κs. search needs) (λ c. search needs) (λ c. search needs)
+    (λ c. search needs) returns)

@@ -9,18 +9,6 @@ use borrow.Author.Needs.{needs}
 use Rattle.watered.proofs.slopes.watered_overlap.Statement.{statement}
 use Rattle.watered.proofs.slopes.watered_overlap.Tie as tie
 
-plan-of-requires : tie.Need-plan-of-requires
-plan-of-requires c κs = search needs
-
-check-requires : tie.Need-check-requires
-check-requires c κs = search needs
-
-number-of-requires : tie.Need-number-of-requires
-number-of-requires c κs = search needs
-
-overlap-of-requires : tie.Need-overlap-of-requires
-overlap-of-requires c κs = search needs
-
 -- the plan's own number
 numbered : (c : tie.After-number-of) → c .number-of .result ≡ answerNumber (planAnswer (planOf (c .before .before .before .args .n) (c .before .before .before .args .sides .now) (c .before .before .before .args .heads .now)))
 numbered c =
@@ -36,11 +24,4 @@ returns-2 c = (numbered (c .before), overlap-refused _ _ _ (numbered (c .before)
 
 pub watered-overlap-spec : {M : Type 1} → statement M
 watered-overlap-spec =
-    tie.close
-    (tie.spec
-    plan-of-requires
-    check-requires
-    number-of-requires
-    overlap-of-requires
-    returns
-    returns-2)
+    tie.close (tie.spec (λ c κs. search needs) (λ c κs. search needs) (λ c κs. search needs) (λ c κs. search needs) returns returns-2)

@@ -8,30 +8,6 @@ use Rattle.watered.proofs.Told.{run-told}
 use Rattle.watered.proofs.tables.watered_run.Statement.{statement}
 use Rattle.watered.proofs.tables.watered_run.Tie as tie
 
-plan-of-requires : tie.Need-plan-of-requires
-plan-of-requires c κs = search needs
-
-run-requires : tie.Need-run-requires
-run-requires c κs = search needs
-
-numbers-of-requires : tie.Need-numbers-of-requires
-numbers-of-requires c κs = search needs
-
-same-length : tie.Need-same-length
-same-length c = search needs
-
-same-length-2 : tie.Need-same-length-2
-same-length-2 c = search needs
-
-same-length-3 : tie.Need-same-length-3
-same-length-3 c = search needs
-
-same-length-4 : tie.Need-same-length-4
-same-length-4 c = search needs
-
-same-length-5 : tie.Need-same-length-5
-same-length-5 c = search needs
-
 -- after the call, with the plan made, and at the start
 abbrev called : tie.After-numbers-of → tie.After-run
 called c = c .before .before .before .before .before .before .before .before .before .before .before .before .before
@@ -52,14 +28,5 @@ returns c =
 
 pub watered-run-spec : {M : Type 1} → statement M
 watered-run-spec =
-    tie.close
-    (tie.spec
-    plan-of-requires
-    run-requires
-    numbers-of-requires
-    same-length
-    same-length-2
-    same-length-3
-    same-length-4
-    same-length-5
-    returns)
+    tie.close (tie.spec (λ c κs. search needs) (λ c κs. search needs) (λ c κs. search needs) (λ c. search needs) (λ c. search needs)
+    (λ c. search needs) (λ c. search needs) (λ c. search needs) returns)

@@ -3,9 +3,6 @@ use borrow.Author.Needs.{needs}
 use Rattle.geometry.proofs.circle.Circle.apart.Statement.{statement}
 use Rattle.geometry.proofs.circle.Circle.apart.Tie as tie
 
-abs-requires : tie.Need-abs-requires
-abs-requires c κs = search needs
-
 returns : tie.Need-returns
 returns c = rw (c .if1 .taken)
 
@@ -13,4 +10,4 @@ returns-2 : tie.Need-returns-2
 returns-2 c = rw (c .before .before .before .if1 .left, c .abs .ensures)
 
 pub apart-spec : {M : Type 1} → statement M
-apart-spec = tie.close (tie.spec abs-requires returns returns-2)
+apart-spec = tie.close (tie.spec (λ c κs. search needs) returns returns-2)

@@ -3,11 +3,8 @@ use borrow.Author.Needs.{needs}
 use Rattle.geometry.proofs.circle.Circle.contains.Statement.{statement}
 use Rattle.geometry.proofs.circle.Circle.contains.Tie as tie
 
-distance-requires : tie.Need-distance-requires
-distance-requires c κs = search needs
-
 returns : tie.Need-returns
 returns c = rw (c .before .before .distance .ensures)
 
 pub contains-spec : {M : Type 1} → statement M
-contains-spec = tie.close (tie.spec distance-requires returns)
+contains-spec = tie.close (tie.spec (λ c κs. search needs) returns)

@@ -3,20 +3,8 @@ use borrow.Author.Needs.{needs}
 use Rattle.geometry.proofs.circle.Circle.crossing.Statement.{statement}
 use Rattle.geometry.proofs.circle.Circle.crossing.Tie as tie
 
-root-requires : tie.Need-root-requires
-root-requires c κs = search needs
-
-new-requires : tie.Need-new-requires
-new-requires c κs = search needs
-
-new-requires-2 : tie.Need-new-requires-2
-new-requires-2 c κs = search needs
-
-of-requires : tie.Need-of-requires
-of-requires c κs = search needs
-
 returns : tie.Need-returns
 returns c = rw (c .of .ensures, c .before .new2 .ensures, c .before .before .new .ensures, c .before .before .before .root .ensures)
 
 pub crossing-spec : {M : Type 1} → statement M
-crossing-spec = tie.close (tie.spec root-requires new-requires new-requires-2 of-requires returns)
+crossing-spec = tie.close (tie.spec (λ c κs. search needs) (λ c κs. search needs) (λ c κs. search needs) (λ c κs. search needs) returns)

@@ -3,17 +3,8 @@ use borrow.Author.Needs.{needs}
 use Rattle.geometry.proofs.circle.Circle.intersection_points.Statement.{statement}
 use Rattle.geometry.proofs.circle.Circle.intersection_points.Tie as tie
 
-identical-requires : tie.Need-identical-requires
-identical-requires c κs = search needs
-
 returns : tie.Need-returns
 returns c = rw (← c .before .identical .ensures, c .if1 .taken)
-
-distance-requires : tie.Need-distance-requires
-distance-requires c κs = search needs
-
-apart-requires : tie.Need-apart-requires
-apart-requires c κs = search needs
 
 returns-2 : tie.Need-returns-2
 returns-2 c =
@@ -24,9 +15,6 @@ returns-2 c =
       ← c .before .apart .ensures,
       c .if2 .taken,
     )
-
-crossing-requires : tie.Need-crossing-requires
-crossing-requires c κs = search needs
 
 returns-3 : tie.Need-returns-3
 returns-3 c =
@@ -41,12 +29,5 @@ returns-3 c =
 
 pub intersection-points-spec : {M : Type 1} → statement M
 intersection-points-spec =
-    tie.close
-    (tie.spec
-    identical-requires
-    returns
-    distance-requires
-    apart-requires
-    returns-2
-    crossing-requires
+    tie.close (tie.spec (λ c κs. search needs) returns (λ c κs. search needs) (λ c κs. search needs) returns-2 (λ c κs. search needs)
     returns-3)

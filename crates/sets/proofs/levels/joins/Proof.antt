@@ -1,0 +1,42 @@
+-- `levels::joins`: the three tests, one after another.
+use mathlib.Core.Path.{_≡_, refl, sym, _∙_}
+use Prim.Native.Nat.{ℕ}
+use borrow.Author.Tests.{eq-eqb, ne-eqb, not-true, not-false}
+use lib.ListN.{getD}
+use Rattle.masks.specs.Presence.{stands}
+use Rattle.sets.specs.Sets.{allPairs, oneInAll}
+use Rattle.sets.proofs.Masks.{row-lt}
+use Rattle.sets.proofs.LevelStep.{joins-by}
+use Rattle.sets.proofs.levels.joins.Statement.{statement}
+use borrow.Author.Needs.{needs}
+use Rattle.sets.proofs.levels.joins.Tie as tie
+
+element-copy-out-if1 : tie.Need-element-copy-out-if1
+element-copy-out-if1 c = row-lt (c .args .n) (c .args .s) (c .pre .0) (c .pre .1)
+
+returns : tie.Need-returns
+returns c =
+    let a = c .before .before .args in
+    joins-by (a .n) (stands (a .found .now)) (λ i. getD (a .overlapping) i 0) (λ i. getD (a .containing) i 0) (a .s) (eq-eqb _ _ (c .if1 .taken)) refl refl
+
+returns-2 : tie.Need-returns-2
+unfolding allPairs
+returns-2 c =
+    let p = c .before in
+    let q = p .before in
+    let a = q .before .before .args in
+    joins-by (a .n) (stands (a .found .now)) (λ i. getD (a .overlapping) i 0) (λ i. getD (a .containing) i 0) (a .s) (ne-eqb _ _ (q .if1 .left))
+    (sym (p .all-pairs .ensures) ∙ not-true (p .all-pairs .result) (c .if2 .taken)) refl
+
+returns-3 : tie.Need-returns-3
+unfolding allPairs oneInAll
+returns-3 c =
+    let e = c .before in
+    let p = e .before in
+    let q = p .before in
+    let a = q .before .before .args in
+    joins-by (a .n) (stands (a .found .now)) (λ i. getD (a .overlapping) i 0) (λ i. getD (a .containing) i 0) (a .s) (ne-eqb _ _ (q .if1 .left))
+    (sym (p .all-pairs .ensures) ∙ not-false (p .all-pairs .result) (e .if2 .left)) (sym (c .one-in-all .ensures))
+
+pub joins-spec : {M : Type 1} → statement M
+joins-spec = tie.close (tie.spec element-copy-out-if1 returns (λ c κs. search needs) returns-2 (λ c κs. search needs) returns-3)

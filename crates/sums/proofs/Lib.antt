@@ -1,0 +1,16 @@
+pub mod Sorting
+pub mod Ranks
+pub mod Gaps
+pub mod Members
+pub mod Collected
+pub mod Carrying
+pub mod Owning
+pub mod Walking
+pub mod Laying
+pub mod Spans
+pub mod Filling
+pub mod Valuing
+pub mod Passing
+pub mod Counts
+pub mod Bytes
+pub mod Passes

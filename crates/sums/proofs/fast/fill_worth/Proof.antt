@@ -1,0 +1,47 @@
+-- `fast::fill_worth`: what each of the two ways fills.
+use borrow.Author.Needs.{needs}
+use mathlib.Core.Path.{_≡_, refl, sym, ap, _∙_}
+use mathlib.Core.Bool.{true, false, true≢false}
+use mathlib.Core.Logic.{⊎-elim}
+use Prim.Native.Nat.{ℕ, _+_, _-_, _*_, _^_, _/_, _%_, _≤_, _<_}
+use native.Mathlib.Omega.{arith}
+use borrow.Author.Tests.{eq-eqb, ne-eqb, lt-ltb, le-ltb, not-true, not-false}
+use lib.Dec.{eqb, ltb}
+use lib.ListN.{length, take, getD, set, length-take, length-set}
+use lib.Seq.{getD-take, take-all}
+use lib.Ieee.{Float, nan}
+use Rattle.lists.proofs.Arrays.{length-of-values}
+use Rattle.sums.proofs.fast.fill_worth.Statement.{statement}
+use Rattle.sums.proofs.fast.fill_worth.Tie as tie
+
+fill-integrals-requires : tie.Need-fill-integrals-requires
+fill-integrals-requires c κs = let s = c .before .before in ((s .pre .0 .0, (s .pre .0 .1 .0, s .pre .0 .1 .1 .0)), s .pre .1 .0 .0)
+
+fill-chords-requires : tie.Need-fill-chords-requires
+fill-chords-requires c κs = let s = c .before .before .before .before .before .before in ((s .pre .0 .0, s .pre .0 .1 .0), s .pre .1 .1)
+
+returns : tie.Need-returns
+returns c =
+    let f = c .before .before .before .before in
+    let i = f .before .before in
+    let s = i .before in
+    record {
+      integrals = λ e. f .fill-integrals .ensures;
+      chords = λ e. rw (s .pre .0 .1 .1 .1) (c .fill-chords .ensures);
+      terms = λ e. absurd (true≢false (sym (i .if1 .taken) ∙ e));
+    }
+
+fill-terms-requires : tie.Need-fill-terms-requires
+fill-terms-requires c κs = let s = c .before .before .before .before in ((s .pre .0 .0, (s .pre .0 .1 .0, s .pre .0 .1 .1 .0)), s .pre .1 .0)
+
+returns-2 : tie.Need-returns-2
+returns-2 c =
+    let i = c .before .before .before .before in
+    record {
+      integrals = λ e. absurd (true≢false (sym e ∙ i .if1 .left));
+      chords = λ e. absurd (true≢false (sym e ∙ i .if1 .left));
+      terms = λ e. c .fill-terms .ensures;
+    }
+
+pub fill-worth-spec : {M : Type 1} → statement M
+fill-worth-spec = tie.close (tie.spec fill-integrals-requires fill-chords-requires returns fill-terms-requires returns-2)

@@ -1,0 +1,56 @@
+-- `fast::write_marked`: what is filled for all heads serves each row.
+use borrow.Author.Needs.{needs}
+use mathlib.Core.Path.{_≡_, refl, sym, ap, _∙_}
+use mathlib.Core.Bool.{true, false, true≢false}
+use mathlib.Core.Logic.{⊎-elim}
+use Prim.Native.Nat.{ℕ, _+_, _-_, _*_, _^_, _/_, _%_, _≤_, _<_}
+use native.Mathlib.Omega.{arith}
+use borrow.Author.Tests.{eq-eqb, ne-eqb, lt-ltb, le-ltb, not-true, not-false}
+use lib.Dec.{eqb, ltb}
+use lib.ListN.{length, take, getD, set, length-take, length-set}
+use lib.Seq.{getD-take, take-all}
+use lib.Ieee.{Float, nan}
+use Rattle.lists.proofs.Arrays.{length-of-values}
+use Rattle.masks.specs.Subset.{subset-head}
+use Rattle.sums.specs.Walk.{circlesIn}
+use Rattle.sums.proofs.Valuing.{ready-roomy}
+use Rattle.sums.proofs.Passing.{ready-less, worth-less}
+use Rattle.sums.proofs.fast.write_marked.Statement.{statement}
+use Rattle.sums.proofs.fast.write_marked.Tie as tie
+
+fill-worth-requires : tie.Need-fill-worth-requires
+fill-worth-requires c κs =
+    let s = c .before .before .before .before .before .before .before in
+    let a = s .args in (
+      (
+        s .pre .0 .0,
+        (
+          s .pre .1 .0 .0,
+          (ready-roomy (a .c .now) (a .n-sets) (a .needed) (a .counts .now) (a .owners .now) (a .phi .now) (a .lets .now) (s .pre .1 .1), s .pre .1 .0 .1 .1),
+        ),
+      ),
+      ((search needs, (search needs, search needs)), (search needs, (search needs, search needs))),
+    )
+
+write-rows-requires : tie.Need-write-rows-requires
+write-rows-requires c κs =
+    let f = c .before .before .before .before .before .before .before in
+    let s = f .before .before .before .before .before .before .before .before in
+    let a = s .args in
+    let within = s .pre .1 .0 .1 .0 in (
+      s .pre .0,
+      λ S h is. record {
+        ready = ready-less (circlesIn (a .c .now) (a .n-sets)) (a .needed) (a .counts .now) (a .owners .now) (a .phi .now) (a .lets .now) S (within S h is) (s .pre .1 .1);
+        worth = worth-less S (within S h is) (f .fill-worth .ensures);
+      },
+    )
+
+returns : tie.Need-returns
+returns c =
+    let w = c .before .before in
+    let s = w .before .before .before .before .before .before .before .before .before .before .before .before .before .before .before .before in
+    let within = s .pre .1 .0 .1 .0 in
+    λ points few marks. w .write-rows .ensures points few (λ S h is j k i. marks j k (subset-head S (s .args .needed) (within S h is) j i))
+
+pub write-marked-spec : {M : Type 1} → statement M
+write-marked-spec = tie.close (tie.spec fill-worth-requires write-rows-requires (λ c. search needs) returns)

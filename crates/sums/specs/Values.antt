@@ -1,0 +1,96 @@
+-- What each arc adds to the sum of a set, by the arc's number: in the box one number, without it three. Those of an arc between
+-- neighbours and of a whole circle are the same for every set, and are held in arrays.
+use Prim.Native.Nat.{ℕ, _-_, _/_, _%_, _<_, _≤_}
+use mathlib.Core.Path.{_≡_}
+use mathlib.Core.Bool.{Bool, true, _&&_, cond}
+use mathlib.Core.List.{List}
+use lib.Dec.{ltb}
+use lib.ListN.{length, getD}
+use lib.Ieee.{Float, nan}
+use Rattle.masks.specs.Mask.{inSet}
+use Rattle.elementary.specs.Sine.{sine as sin, cosine as cos}
+use Rattle.binary64.specs.Floats.{_+ᶠ_, _-ᶠ_, _*ᶠ_}
+use Rattle.geometry.specs.declared.circle.Circle.{Circle}
+use Rattle.intersections.specs.declared.points.IntersectionPoint.{IntersectionPoint}
+use Rattle.intersections.specs.Members.{circleAt}
+use Rattle.boundary.specs.declared.arcs.BoundaryArc.{BoundaryArc}
+use Rattle.sums.specs.Marks.{marksAt}
+use Rattle.sums.specs.Walk.{marksIn, arcAt}
+
+-- the head of the arc of a number
+unfoldable pub headOf : ℕ → ℕ
+headOf p = cond (ltb p 320) (p / 32) (cond (ltb p 330) (p - 320) ((p - 330) / 320 / 32))
+
+-- the arc of a number can be read from the arrays
+pub record Readable (counts : List ℕ) (p : ℕ) : Type 0 where
+  pub next : p < 320 → p % 32 < getD counts (p / 32) 0
+  pub few : p < 320 → getD counts (p / 32) 0 ≤ 32
+  pub far : 330 ≤ p → (p - 330) / 320 < 320
+
+-- ---- without a box an arc adds three terms, one after another
+
+unfoldable pub termX : Circle → BoundaryArc → Float
+termX c arc = let a = arc .«phi_start» in c .center .x *ᶠ c .radius *ᶠ (sin (a +ᶠ arc .«delta_phi») -ᶠ sin a)
+
+unfoldable pub termY : Circle → BoundaryArc → Float
+termY c arc = let a = arc .«phi_start» in c .center .y *ᶠ c .radius *ᶠ (cos a -ᶠ cos (a +ᶠ arc .«delta_phi»))
+
+unfoldable pub termR : Circle → BoundaryArc → Float
+termR c arc = c .radius *ᶠ c .radius *ᶠ arc .«delta_phi»
+
+-- ---- the arcs of a list of numbers, added up
+
+-- a term of the arc of a number: one of these three, or in the box the integral
+unfoldable pub termOf : (Circle → BoundaryArc → Float) → List Circle → List ℕ → List Float → ℕ → Float
+unfolding headOf arcAt
+termOf term circles counts phi p = term (circleAt circles (headOf p)) (arcAt circles counts phi p)
+
+-- in the box, and without it
+abbrev pub addOne : (ℕ → Float) → Float → ℕ → Float
+addOne f total p = total +ᶠ f p
+
+abbrev pub addThree : (ℕ → Float) → (ℕ → Float) → (ℕ → Float) → Float → ℕ → Float
+addThree x y r total p = total +ᶠ x p +ᶠ y p +ᶠ r p
+
+-- ---- what the arrays hold
+
+-- the angles of the heads of `needed` have places
+abbrev pub Roomy : ℕ → ℕ → List ℕ → Type 0
+Roomy n needed counts = (j : ℕ) → j < n → inSet needed j ≡ true → getD counts j 0 ≤ 32
+
+-- the number below 330 of an arc between neighbours, or of the whole circle, of a head of `needed`
+unfoldable pub standing : ℕ → List ℕ → ℕ → Bool
+standing needed counts p =
+    cond (ltb p 320) (inSet needed (p / 32) && ltb (p % 32) (getD counts (p / 32) 0)) (inSet needed (p - 320))
+
+-- these are f of the numbers of all such arcs
+pub record Valued (needed : ℕ) (counts : List ℕ) (f : ℕ → Float) (value : List Float) : Type 0 where
+  pub here : (p : ℕ) → p < 330 → standing needed counts p ≡ true → getD value p nan ≡ f p
+
+-- the arc of a number is one of a head below n and can be read, and if it is held then as f of it
+pub record Known (n : ℕ) (counts : List ℕ) (f : ℕ → Float) (value : List Float) (p : ℕ) : Type 0 where
+  pub below : headOf p < n
+  pub readable : Readable counts p
+  pub held : p < 330 → getD value p nan ≡ f p
+
+-- ---- the three terms together
+
+abbrev pub addTerms : List Circle → List ℕ → List Float → Float → ℕ → Float
+addTerms circles counts phi = addThree (termOf termX circles counts phi) (termOf termY circles counts phi) (termOf termR circles counts phi)
+
+pub record TermsValued (needed : ℕ) (circles : List Circle) (counts : List ℕ) (phi xs ys rs : List Float) : Type 0 where
+  pub x : Valued needed counts (termOf termX circles counts phi) xs
+  pub y : Valued needed counts (termOf termY circles counts phi) ys
+  pub r : Valued needed counts (termOf termR circles counts phi) rs
+
+pub record TermsKnown (n : ℕ) (circles : List Circle) (counts : List ℕ) (phi xs ys rs : List Float) (p : ℕ) : Type 0 where
+  pub x : Known n counts (termOf termX circles counts phi) xs p
+  pub y : Known n counts (termOf termY circles counts phi) ys p
+  pub r : Known n counts (termOf termR circles counts phi) rs p
+
+-- ---- what a row asks of the points
+
+-- the angles and adopters of the heads of S are those of their meeting points
+abbrev pub MarksOf : List Circle → List IntersectionPoint → ℕ → List ℕ → List Float → List ℕ → Type 0
+MarksOf circles points S counts phi adopters =
+    (j : ℕ) → j < length circles → inSet S j ≡ true → marksIn counts phi adopters j ≡ marksAt (circleAt circles j) j points

@@ -1,0 +1,235 @@
+// What is worked out once a head, laid into arrays of 32 places a head. Rests on specs/Walk.antt.
+use crate::walk::circle_at;
+use crate::walk::next;
+use boundary::angles::angle_about;
+use boundary::angles::collapsed;
+use boundary::angles::gap;
+use boundary::angles::point_at;
+use boundary::angles::probe;
+use boundary::ownership::lets;
+use geometry::circle::Circle;
+use geometry::point::Point;
+use intersections::points::IntersectionPoint;
+use intersections::points::Intersections;
+ghost use mathlib.Core.Path.{_≡_};
+ghost use mathlib.Core.Bool.{true, false};
+ghost use Prim.Native.Nat.{_+_, _*_, _%_, _<_, _≤_};
+ghost use lib.ListN.{length, getD};
+ghost use lib.Ieee.{nan};
+ghost use Rattle.lists.specs.Lists.{keep};
+ghost use Rattle.lists.specs.Written.{tab};
+ghost use Rattle.intersections.specs.Counted.{pointList};
+ghost use Rattle.boundary.specs.Sort.{place};
+ghost use Rattle.sums.specs.Marks.{mark, marksFrom, insertMark, hasParent, marksAt};
+ghost use Rattle.sums.specs.Walk.{circlesIn, letters, gapLetters, Few, fewPoints, Marked};
+ghost use Rattle.sums.specs.Filled.{Filled, Kept, Long};
+
+// The heads that let head j have the point p of its edge.
+fn letters(c: &[f64; 30], n_sets: usize, j: usize, p: Point) -> usize
+    requires { ⌜ «n_sets» ≤ 10 ⌝ }
+    ensures { λ r. ⌜ r ≡ letters (circlesIn (now (c .entry)) «n_sets») j p ⌝ }
+{
+    let mut mask: usize = 0;
+    let mut l: usize = 0;
+    while l < n_sets {
+        if lets(j, p, l, circle_at(c, l)) {
+            mask = mask | 1 << l;
+        }
+        l += 1;
+    }
+    mask
+}
+
+// The heads that let head j have the gap from one angle to another: nobody, where it is collapsed.
+fn gap_letters(c: &[f64; 30], n_sets: usize, j: usize, phi_a: f64, phi_b: f64) -> usize
+    requires { ⌜ («n_sets» ≤ 10) × (j < «n_sets») ⌝ }
+    ensures { λ r. ⌜ r ≡ gapLetters (circlesIn (now (c .entry)) «n_sets») j «phi_a» «phi_b» ⌝ }
+{
+    let delta = gap(phi_a, phi_b);
+    if collapsed(delta) {
+        return 0;
+    }
+    let circle = circle_at(c, j);
+    letters(c, n_sets, j, point_at(circle, phi_a + delta * 0.5))
+}
+
+// How many of n angles stand before the first that is greater than x.
+fn place_at(phi: &[f64; 320], at: usize, n: usize, x: f64) -> usize
+    requires { ⌜ at + n ≤ 320 ⌝ }
+    ensures { λ r. ⌜ r ≡ place x (tab (λ i. getD (now (phi .entry)) (at + i) nan) n) ⌝ }
+{
+    let mut i: usize = 0;
+    while i < n {
+        if x < phi[at + i] {
+            return i;
+        }
+        i += 1;
+    }
+    i
+}
+
+// An angle and its point's adopters put in among n, before the first of a greater angle.
+fn insert_at(
+    phi: &mut [f64; 320],
+    adopters: &mut [usize; 320],
+    at: usize,
+    n: usize,
+    x: f64,
+    who: usize,
+)
+    requires { ⌜ (at + 32 ≤ 320) × ((n < 32) × ((length (now phi) ≡ 320) × (length (now adopters) ≡ 320))) ⌝ }
+    ensures { λ r. ⌜ marksFrom (now (phi .exit)) (now (adopters .exit)) at (n + 1)
+        ≡ insertMark (mark x who) (marksFrom (now (phi .entry)) (now (adopters .entry)) at n) ⌝ }
+    ensures { λ r. ⌜ Kept at nan (now (phi .entry)) (now (phi .exit)) × Kept at 0 (now (adopters .entry)) (now (adopters .exit)) ⌝ }
+{
+    let mut i = place_at(phi, at, n, x);
+    let mut carry = x;
+    let mut carried = who;
+    while i < n {
+        let p = at + i;
+        let next = phi[p];
+        let after = adopters[p];
+        phi[p] = carry;
+        adopters[p] = carried;
+        carry = next;
+        carried = after;
+        i += 1;
+    }
+    let last = at + n;
+    phi[last] = carry;
+    adopters[last] = carried;
+}
+
+fn has_parent(j: usize, q: IntersectionPoint) -> bool
+    ensures { λ r. ⌜ r ≡ hasParent j q ⌝ }
+{
+    if q.first == j {
+        return true;
+    }
+    q.second == j
+}
+
+// How many meeting points head j has.
+fn points_of(points: Intersections, j: usize) -> usize
+    ensures { λ r. ⌜ r ≡ length (keep (hasParent j) (pointList points)) ⌝ }
+{
+    let n = points.n;
+    let mut count: usize = 0;
+    let mut i: usize = 0;
+    while i < 90 {
+        if n <= i {
+            return count;
+        }
+        if has_parent(j, points.all[i]) {
+            count += 1;
+        }
+        i += 1;
+    }
+    count
+}
+
+// Whether there are places for the meeting points of every head.
+pub(crate) fn few(points: Intersections, n_sets: usize) -> bool
+    ensures { λ r. ⌜ r ≡ fewPoints «n_sets» (pointList points) ⌝ }
+{
+    let mut j: usize = 0;
+    while j < n_sets {
+        if 32 < points_of(points, j) {
+            return false;
+        }
+        j += 1;
+    }
+    true
+}
+
+// The meeting points of head j by angle, at its places; how many there are.
+fn fill_marks(
+    points: Intersections,
+    j: usize,
+    circle: Circle,
+    phi: &mut [f64; 320],
+    adopters: &mut [usize; 320],
+) -> usize
+    requires { ⌜ (j < 10) × ((length (now phi) ≡ 320) × (length (now adopters) ≡ 320)) ⌝ }
+    requires { ⌜ length (keep (hasParent j) (pointList points)) ≤ 32 ⌝ }
+    ensures { λ r. ⌜ (r ≤ 32) × (marksFrom (now (phi .exit)) (now (adopters .exit)) (j * 32) r ≡ marksAt circle j (pointList points)) ⌝ }
+    ensures { λ r. ⌜ Kept (j * 32) nan (now (phi .entry)) (now (phi .exit)) × Kept (j * 32) 0 (now (adopters .entry)) (now (adopters .exit)) ⌝ }
+{
+    let n = points.n;
+    let mut count: usize = 0;
+    let mut i: usize = 0;
+    while i < 90 {
+        if n <= i {
+            return count;
+        }
+        let q = points.all[i];
+        if has_parent(j, q) {
+            insert_at(
+                phi,
+                adopters,
+                j * 32,
+                count,
+                angle_about(circle, q.point),
+                q.adopters,
+            );
+            count += 1;
+        }
+        i += 1;
+    }
+    count
+}
+
+// Who lets head j have the gap from each of its n angles to the next.
+fn fill_lets(
+    c: &[f64; 30],
+    n_sets: usize,
+    j: usize,
+    n: usize,
+    phi: &[f64; 320],
+    lets: &mut [usize; 320],
+)
+    requires { ⌜ («n_sets» ≤ 10) × ((j < «n_sets») × ((n ≤ 32) × (length (now lets) ≡ 320))) ⌝ }
+    ensures { λ r. ⌜ Filled (j * 32) n
+        (λ i. gapLetters (circlesIn (now (c .entry)) «n_sets») j (getD (now (phi .entry)) (j * 32 + i) nan)
+        (getD (now (phi .entry)) (j * 32 + (i + 1) % n) nan)) 0 (now (lets .entry)) (now (lets .exit)) ⌝ }
+{
+    let at = j * 32;
+    let mut i: usize = 0;
+    while i < n {
+        let to = at + next(i, n);
+        lets[at + i] = gap_letters(c, n_sets, j, phi[at + i], phi[to]);
+        i += 1;
+    }
+}
+
+// The arrays of the heads of a set; the others have no angle.
+pub(crate) fn fill_heads(
+    c: &[f64; 30],
+    n_sets: usize,
+    points: Intersections,
+    needed: usize,
+    counts: &mut [usize; 10],
+    owners: &mut [usize; 10],
+    phi: &mut [f64; 320],
+    adopters: &mut [usize; 320],
+    lets: &mut [usize; 320],
+)
+    requires { ⌜ («n_sets» ≤ 10) × Few (circlesIn (now c) «n_sets») (pointList points) ⌝ }
+    requires { ⌜ Long (now counts) (now owners) (now phi) (now adopters) (now lets) ⌝ }
+    ensures { λ r. ⌜ Long (now (counts .exit)) (now (owners .exit)) (now (phi .exit)) (now (adopters .exit)) (now (lets .exit)) ⌝ }
+    ensures { λ r. ⌜ Marked (circlesIn (now (c .entry)) «n_sets») (pointList points) needed «n_sets» (now (counts .exit)) (now (owners .exit))
+        (now (phi .exit)) (now (adopters .exit)) (now (lets .exit)) ⌝ }
+{
+    let mut j: usize = 0;
+    while j < n_sets {
+        let mut count: usize = 0;
+        if needed >> j & 1 == 1 {
+            let circle = circle_at(c, j);
+            count = fill_marks(points, j, circle, phi, adopters);
+            fill_lets(c, n_sets, j, count, phi, lets);
+            owners[j] = letters(c, n_sets, j, probe(circle));
+        }
+        counts[j] = count;
+        j += 1;
+    }
+}
