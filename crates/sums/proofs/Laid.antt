@@ -1,10 +1,12 @@
 -- Rows with gradients written one after another: the next one is worked out, or stays as it stands.
-use mathlib.Core.Path.{_≡_, refl, sym, ap, ap₂, _∙_}
+use mathlib.Core.Path.{_≡_, refl, sym, ap, ap₂, _∙_, subst}
 use mathlib.Core.Bool.{Bool, true, false, cond}
 use mathlib.Core.List.{List, [], _∷_, _++_}
 use Prim.Native.Nat.{ℕ, zero, suc, min, _+_, _-_, _*_, _/_, _^_, _≤_, _<_}
 use native.Mathlib.Nat.{le-trans, mul-le-mul-right, div-mul-le-self, le-div-iff-mul-le}
 use native.Mathlib.Omega.{arith}
+use borrow.Rule.Slice.PartMut.{midOf, putMid, mid-len}
+use lib.Dec.{eqb·suc-zero}
 use lib.Arith.{digits-div, digits-mod}
 use lib.Pow.{pow-mono}
 use lib.ListN.{length, getD, set, take, drop, replicate, length-take, length-drop}
@@ -64,6 +66,17 @@ module _ (wanted : ℕ → Bool) (row : ℕ → WithGradient) (width : ℕ) (are
         own : grad ≡ after S
         own = ap (λ (w : WithGradient). w .grad) er ∙ sym (ap (λ (b : Bool). cond b (row S .grad) (rowAt width gradients S)) is)
 
+    -- the same, where it stands in the place of a part that was lent
+    pub row-laid : suc S * width ≤ length gradients → length grad ≡ width → (l now : List Float) → l ≡ rowsTo wanted row width S gradients
+        → now ≡ putMid (S * width) ((S * width + width) - S * width) l grad → now ≡ rowsTo wanted row width (S + 1) gradients
+    row-laid room many l now el e =
+        let wide : (S * width + width) - S * width ≡ width = omega arith in
+        e ∙ ap (λ (k : ℕ). putMid (S * width) k l grad) wide ∙ row-put room many l el
+
+-- the part of a slice that is row S has width numbers
+pub part-many : (S width : ℕ) (l : List Float) → suc S * width ≤ length l → length (midOf (S * width) ((S * width + width) - S * width) l) ≡ width
+part-many S width l room = mid-len (S * width) (S * width + width) l (omega (arith, room)) ∙ omega arith
+
 -- no row yet
 pub none-laid : (wanted : ℕ → Bool) (row : ℕ → WithGradient) (width : ℕ) (areas gradients : List Float)
     → (areas ≡ areasTo wanted row 0 areas) × (gradients ≡ rowsTo wanted row width 0 gradients)
@@ -95,9 +108,17 @@ row-read width row m l S h room many =
 
 -- ---- rows counted in two slices
 
+-- a row of some numbers: as many as they divide
+held-some : (w places : ℕ) → rowsHeld (suc w) places ≡ places / suc w
+held-some w places = ap (λ (b : Bool). cond b 1024 (places / suc w)) (eqb·suc-zero w)
+
 held-room : (width places count : ℕ) → count ≤ rowsHeld width places → count * width ≤ places
-held-room zero places count h = omega arith
-held-room (suc w) places count h = le-trans (mul-le-mul-right {m = count} {n = places / suc w} (suc w) h) (div-mul-le-self places (suc w))
+held-room zero places count h = nothing count places
+  where
+    nothing : (count places : ℕ) → count * 0 ≤ places
+    nothing count places = omega arith
+held-room (suc w) places count h =
+    le-trans (mul-le-mul-right {m = count} {n = places / suc w} (suc w) (subst (λ (m : ℕ). count ≤ m) (held-some w places) h)) (div-mul-le-self places (suc w))
 
 -- a counted row is one of 1024 and has its place in both
 pub rows-room : (n width : ℕ) (areas gradients : List Float) {count : ℕ} → count ≡ rowsIn n width areas gradients
@@ -111,7 +132,8 @@ rows-room n width areas gradients {count} e =
 -- where there is room, all rows are counted
 held-all : (width places count : ℕ) → count ≤ 1024 → count * width ≤ places → count ≤ rowsHeld width places
 held-all zero places count most h = most
-held-all (suc w) places count most h = le-div-iff-mul-le {k = suc w} {x = count} {y = places} (omega arith) .1 h
+held-all (suc w) places count most h =
+    subst (λ (m : ℕ). count ≤ m) (sym (held-some w places)) (le-div-iff-mul-le {k = suc w} {x = count} {y = places} (omega arith) .1 h)
 
 pub rows-in-all : (n width : ℕ) (areas gradients : List Float) → n ≤ 10 → 2 ^ n ≤ length areas → 2 ^ n * width ≤ length gradients
     → rowsIn n width areas gradients ≡ 2 ^ n

@@ -9,7 +9,7 @@ use Rattle.sums.proofs.gradients.rows_in.Tie as tie
 first : (a b : ℕ) → a < b → a ≡ min a b
 first a b h = omega arith
 
-second : (a b : ℕ) → (a < b → ⊥) → b ≡ min a b
+second : (a b : ℕ) → b ≤ a → b ≡ min a b
 second a b h = omega arith
 
 returns : tie.Need-returns

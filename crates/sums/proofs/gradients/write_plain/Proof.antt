@@ -6,13 +6,12 @@ use Prim.Native.Nat.{ℕ, suc, _+_, _*_, _-_, _≤_, _<_}
 use native.Mathlib.Nat.{mul-le-mul-right}
 use native.Mathlib.Omega.{arith}
 use borrow.Author.Tests.{eq-eqb, ne-eqb}
-use borrow.Rule.Slice.PartMut.{midOf, putMid, mid-len, same-len-mid}
 use lib.ListN.{length, take, length-set}
 use Rattle.masks.specs.Presence.{stands}
 use Rattle.intersections.specs.Counted.{pointList}
 use Rattle.clip.specs.Gradient.{WithGradient}
 use Rattle.sums.specs.Gradients.{rowWith, areasTo, rowsTo}
-use Rattle.sums.proofs.Laid.{none-laid, area-kept, row-kept, area-put, row-put}
+use Rattle.sums.proofs.Laid.{none-laid, area-kept, row-kept, area-put, row-laid, part-many}
 use Rattle.sums.proofs.gradients.write_plain.Statement.{statement}
 use Rattle.sums.proofs.gradients.write_plain.Tie as tie
 
@@ -82,20 +81,17 @@ loop-again c =
     let w = a .width in
     let wanted = stands (a .wanted .now) in
     let more : S < length (a .areas .now) = omega (arith, m .loop-test .taken, s .pre .1 .0) in
-    let wide : (S * w + w) - S * w ≡ w = omega arith in
-    let many : length (midOf (S * w) ((S * w + w) - S * w) (l .gradients)) ≡ w = mid-len (S * w) (S * w + w) (l .gradients) (omega (arith, room m, i .2)) ∙ wide in
+    let many = part-many S w (l .gradients) (omega (arith, room m, i .2)) in
     ⊎-elim
     (λ t.
         let is = eq-eqb _ 1 (t .0 .taken) in
         let er = t .2 .ensures .0 ∙ ap (λ (k : ℕ). rowWith (a .clipped) (a .bounds) (take (a .n-sets) (a .circles)) (pointList (a .points)) k S) many in
-        let laid = t .6 ∙ ap (λ (k : ℕ). putMid (S * w) k (l .gradients) _) wide
-        ∙ row-put wanted (rowOf s) w (a .areas .now) (a .gradients .now) S er is (room m) (t .2 .ensures .1 ∙ many) (l .gradients) (i .4) in
         (
           omega (arith, m .loop-test .taken),
-          rw (t .5) (length-set (l .areas) S _ ∙ i .1),
-          rw (t .6) (same-len-mid (S * w) ((S * w + w) - S * w) (l .gradients) _ (t .2 .ensures .1) ∙ i .2),
+          ap length (t .5) ∙ length-set (l .areas) S _ ∙ i .1,
+          ap length (t .6) ∙ t .3 .given .1 ∙ i .2,
           t .5 ∙ area-put wanted (rowOf s) w (a .areas .now) (a .gradients .now) S er is more (l .areas) (i .3),
-          laid,
+          row-laid wanted (rowOf s) w (a .areas .now) (a .gradients .now) S er is (room m) (t .2 .ensures .1 ∙ many) (l .gradients) _ (i .4) (t .6),
         ))
     (λ t.
         let none = ne-eqb _ 1 (t .0 .left) in

@@ -7,7 +7,6 @@ use Prim.Native.Nat.{ℕ, suc, _+_, _*_, _-_, _≤_, _<_}
 use native.Mathlib.Nat.{mul-le-mul-right}
 use native.Mathlib.Omega.{arith}
 use borrow.Author.Tests.{eq-eqb, ne-eqb}
-use borrow.Rule.Slice.PartMut.{midOf, putMid, mid-len, same-len-mid}
 use lib.ListN.{length, length-set}
 use lib.Pow.{pow-mono}
 use Rattle.masks.specs.Presence.{stands}
@@ -17,7 +16,7 @@ use Rattle.sums.specs.Walk.{circlesIn, Few}
 use Rattle.sums.specs.Values.{MarksOf}
 use Rattle.sums.specs.Fast.{OfWanted}
 use Rattle.sums.specs.Gradients.{rowWith, areasTo, rowsTo}
-use Rattle.sums.proofs.Laid.{none-laid, area-kept, row-kept, area-put, row-put}
+use Rattle.sums.proofs.Laid.{none-laid, area-kept, row-kept, area-put, row-laid, part-many}
 use Rattle.sums.proofs.gradients.write_rows.Statement.{statement}
 use Rattle.sums.proofs.gradients.write_rows.Tie as tie
 
@@ -57,13 +56,13 @@ element-copy-out-if1 c =
     omega (arith, most, s .pre .0 .1 .0, c .loop-test .taken)
 
 mul-start : tie.Need-mul-start Inv-loop μ-loop
-mul-start c = let m = c .before .before in omega (arith, room m, m .before .loop .inv .3)
+mul-start c = let m = c .before .before in omega (arith, room m, m .before .loop .inv .3, m .before .before .slice-known2 .given)
 
 add-end : tie.Need-add-end Inv-loop μ-loop
-add-end c = let m = c .before .before in omega (arith, room m, m .before .loop .inv .3)
+add-end c = let m = c .before .before in omega (arith, room m, m .before .loop .inv .3, m .before .before .slice-known2 .given)
 
 mul-fast-row : tie.Need-mul-fast-row Inv-loop μ-loop
-mul-fast-row c = let m = c .before .before in omega (arith, room m, m .before .loop .inv .3)
+mul-fast-row c = let m = c .before .before in omega (arith, room m, m .before .loop .inv .3, m .before .before .slice-known2 .given)
 
 sub-fast-row : tie.Need-sub-fast-row Inv-loop μ-loop
 sub-fast-row c = let m = c .before .before in omega (arith, room m, m .before .loop .inv .3)
@@ -103,24 +102,22 @@ loop-again c =
     let wanted = stands (a .wanted .now) in
     let below : S < a .count = m .loop-test .taken in
     let more : S < length (a .areas .now) = omega (arith, below, s .pre .0 .1 .1 .0) in
-    let wide : (S * w + w) - S * w ≡ w = omega arith in
-    let many : length (midOf (S * w) ((S * w + w) - S * w) (l .gradients)) ≡ w = mid-len (S * w) (S * w + w) (l .gradients) (omega (arith, room m, i .3)) ∙ wide in
+    let many = part-many S w (l .gradients) (omega (arith, room m, i .3)) in
     ⊎-elim
     (λ t.
         let is = eq-eqb _ 1 (t .0 .taken) in
-        let kept = t .3 .ensures .0 .1 in
         (
           omega (arith, below),
-          rw (t .8) (t .3 .ensures .0 .0),
-          rw (t .6) (length-set (l .areas) S _ ∙ i .2),
-          rw (t .7) (same-len-mid (S * w) ((S * w + w) - S * w) (l .gradients) _ kept ∙ i .3),
+          ap length (t .8) ∙ t .3 .ensures .0 .0,
+          ap length (t .6) ∙ length-set (l .areas) S _ ∙ i .2,
+          ap length (t .7) ∙ t .4 .given .1 ∙ i .3,
           λ points few marks.
               let er = t .3 .ensures .1 points few (marks S below is)
               ∙ ap (λ (k : ℕ). rowWith (a .clipped) (a .bounds) (circlesIn (a .c .now) (a .n-sets)) points k S) many in
               (
                 t .6 ∙ area-put wanted (rowOf s points) w (a .areas .now) (a .gradients .now) S er is more (l .areas) (i .4 points few marks .0),
-                t .7 ∙ ap (λ (k : ℕ). putMid (S * w) k (l .gradients) _) wide
-                    ∙ row-put wanted (rowOf s points) w (a .areas .now) (a .gradients .now) S er is (room m) (kept ∙ many) (l .gradients) (i .4 points few marks .1),
+                row-laid wanted (rowOf s points) w (a .areas .now) (a .gradients .now) S er is (room m) (t .3 .ensures .0 .1 ∙ many) (l .gradients) _
+                    (i .4 points few marks .1) (t .7),
               ),
         ))
     (λ t.
