@@ -3,7 +3,7 @@ use borrow.Author.Needs.{needs}
 use mathlib.Core.Path.{_≡_, refl, ap, _∙_}
 use mathlib.Core.List.{List}
 use mathlib.Core.Logic.{⊎-elim}
-use Prim.Native.Nat.{ℕ, suc, _+_, _*_, _-_, _≤_, _<_}
+use Prim.Native.Nat.{ℕ, suc, _+_, _*_, _-_, _^_, _≤_, _<_}
 use native.Mathlib.Nat.{mul-le-mul-right}
 use native.Mathlib.Omega.{arith}
 use borrow.Author.Tests.{eq-eqb, ne-eqb}
@@ -49,20 +49,28 @@ room c =
     let s = entry (c .before) in
     omega (arith, mul-le-mul-right {m = suc (c .before .loop .mask)} {n = s .args .count} (s .args .width) (c .loop-test .taken), s .pre .0 .1 .1 .1)
 
-element-copy-out-if1 : tie.Need-element-copy-out-if1 Inv-loop μ-loop
-element-copy-out-if1 c =
+-- the numbers of the gradients have their bytes
+bytes : (c : tie.At-loop Inv-loop μ-loop) → length (entry c .args .gradients .now) * 8 < 2 ^ 63
+bytes c = entry c .good .1 .1 .1 .1 .1 .0 .1
+
+-- it is one of 1024
+below : (c : tie.In-loop Inv-loop μ-loop) → c .before .loop .mask < 1024
+below c =
     let s = entry (c .before) in
     let most = pow-mono {i = s .args .n-sets} {j = 10} (s .pre .0 .0) in
     omega (arith, most, s .pre .0 .1 .0, c .loop-test .taken)
 
+element-copy-out-if1 : tie.Need-element-copy-out-if1 Inv-loop μ-loop
+element-copy-out-if1 c = omega (arith, below c)
+
 mul-start : tie.Need-mul-start Inv-loop μ-loop
-mul-start c = let m = c .before .before in omega (arith, room m, m .before .loop .inv .3, m .before .before .slice-known2 .given)
+mul-start c = let m = c .before .before in omega (arith, room m, m .before .loop .inv .3, bytes (m .before))
 
 add-end : tie.Need-add-end Inv-loop μ-loop
-add-end c = let m = c .before .before in omega (arith, room m, m .before .loop .inv .3, m .before .before .slice-known2 .given)
+add-end c = let m = c .before .before in omega (arith, room m, m .before .loop .inv .3, bytes (m .before))
 
 mul-fast-row : tie.Need-mul-fast-row Inv-loop μ-loop
-mul-fast-row c = let m = c .before .before in omega (arith, room m, m .before .loop .inv .3, m .before .before .slice-known2 .given)
+mul-fast-row c = let m = c .before .before in omega (arith, room m, m .before .loop .inv .3, bytes (m .before))
 
 sub-fast-row : tie.Need-sub-fast-row Inv-loop μ-loop
 sub-fast-row c = let m = c .before .before in omega (arith, room m, m .before .loop .inv .3)
@@ -79,16 +87,25 @@ fast-row-requires c κs =
     let m = t .before .before in
     let s = entry (m .before) in
     let l = m .before .loop in
-    let below : l .mask < s .args .count = m .loop-test .taken in
+    let test : l .mask < s .args .count = m .loop-test .taken in
     (
-      (s .pre .0 .0, (omega (arith, below, s .pre .0 .1 .0), l .inv .1)),
-      s .pre .1 (l .mask) below (eq-eqb _ 1 (t .if1 .taken)),
+      (s .pre .0 .0, (omega (arith, test, s .pre .0 .1 .0), l .inv .1)),
+      s .pre .1 (l .mask) test (eq-eqb _ 1 (t .if1 .taken)),
     )
+
+mul-areas : tie.Need-mul-areas Inv-loop μ-loop
+mul-areas c = omega (arith, below (c .before .before .before .before .before .before .before))
 
 slice-write-areas : tie.Need-slice-write-areas Inv-loop μ-loop
 slice-write-areas c =
     let m = c .before .before .before .before .before .before .before in
     omega (arith, m .loop-test .taken, entry (m .before) .pre .0 .1 .1 .0, m .before .loop .inv .2)
+
+add-mask : tie.Need-add-mask Inv-loop μ-loop
+add-mask c = omega (arith, below (c .before .before))
+
+loop-less : tie.Need-loop-less Inv-loop μ-loop
+loop-less c = omega (arith, c .before .before .loop-test .taken)
 
 loop-again : tie.Need-loop-again Inv-loop μ-loop
 loop-again c =
@@ -100,19 +117,19 @@ loop-again c =
     let S = l .mask in
     let w = a .width in
     let wanted = stands (a .wanted .now) in
-    let below : S < a .count = m .loop-test .taken in
-    let more : S < length (a .areas .now) = omega (arith, below, s .pre .0 .1 .1 .0) in
+    let test : S < a .count = m .loop-test .taken in
+    let more : S < length (a .areas .now) = omega (arith, test, s .pre .0 .1 .1 .0) in
     let many = part-many S w (l .gradients) (omega (arith, room m, i .3)) in
     ⊎-elim
     (λ t.
         let is = eq-eqb _ 1 (t .0 .taken) in
         (
-          omega (arith, below),
+          omega (arith, test),
           ap length (t .8) ∙ t .3 .ensures .0 .0,
           ap length (t .6) ∙ length-set (l .areas) S _ ∙ i .2,
           ap length (t .7) ∙ t .4 .given .1 ∙ i .3,
           λ points few marks.
-              let er = t .3 .ensures .1 points few (marks S below is)
+              let er = t .3 .ensures .1 points few (marks S test is)
               ∙ ap (λ (k : ℕ). rowWith (a .clipped) (a .bounds) (circlesIn (a .c .now) (a .n-sets)) points k S) many in
               (
                 t .6 ∙ area-put wanted (rowOf s points) w (a .areas .now) (a .gradients .now) S er is more (l .areas) (i .4 points few marks .0),
@@ -123,7 +140,7 @@ loop-again c =
     (λ t.
         let none = ne-eqb _ 1 (t .0 .left) in
         (
-          omega (arith, below),
+          omega (arith, test),
           rw (t .3) (i .1),
           rw (t .1) (i .2),
           rw (t .2) (i .3),
@@ -150,5 +167,5 @@ returns c =
 pub write-rows-spec : {M : Type 1} → statement M
 write-rows-spec =
     tie.close (tie.spec Inv-loop μ-loop loop-holds element-copy-out-if1 mul-start add-end mul-fast-row sub-fast-row part-fast-row-start
-    part-fast-row-end fast-row-requires (λ c. search needs) slice-write-areas (λ c. search needs) (λ c. search needs) loop-again
+    part-fast-row-end fast-row-requires mul-areas slice-write-areas add-mask loop-less loop-again
     same-length same-length-2 returns)
