@@ -2,7 +2,7 @@
 use mathlib.Core.Path.{_≡_, refl, sym, ap, ap₂, _∙_, subst}
 use mathlib.Core.Bool.{Bool, true, false, cond}
 use mathlib.Core.List.{List, [], _∷_, _++_}
-use Prim.Native.Nat.{ℕ, zero, suc, min, _+_, _-_, _*_, _/_, _^_, _≤_, _<_}
+use Prim.Native.Nat.{ℕ, zero, suc, _+_, _-_, _*_, _/_, _^_, _≤_, _<_}
 use native.Mathlib.Nat.{le-trans, mul-le-mul-right, div-mul-le-self, le-div-iff-mul-le}
 use native.Mathlib.Omega.{arith}
 use borrow.Rule.Slice.PartMut.{midOf, putMid, mid-len}
@@ -24,14 +24,11 @@ module _ (wanted : ℕ → Bool) (row : ℕ → WithGradient) (width : ℕ) (are
   abbrev after : ℕ → List Float
   after = rowAfter wanted row width gradients
 
-  -- as long as before
-  pub rows-length : suc S * width ≤ length gradients → length (rowsTo wanted row width (S + 1) gradients) ≡ length gradients
-  rows-length room = length-written (byRow width nan after) ((S + 1) * width) gradients (omega (arith, room))
-
   -- it is not wanted
   pub area-kept : S < length areas → wanted S ≡ false → areasTo wanted row S areas ≡ areasTo wanted row (S + 1) areas
   area-kept room none =
-      written-keep (numberAt wanted (λ T. row T .sum) areas) S areas nan room (ap (λ (b : Bool). cond b (row S .sum) (getD areas S nan)) none)
+      written-keep (numberAt wanted (λ T. row T .sum) areas) S areas nan room
+      (ap (λ (b : Bool). cond b (row S .sum) (getD areas S nan)) none)
 
   same-number : wanted S ≡ false → (r : ℕ) → r < width → byRow width nan after (S * width + r) ≡ getD gradients (S * width + r) nan
   same-number none r h =
@@ -40,7 +37,8 @@ module _ (wanted : ℕ → Bool) (row : ℕ → WithGradient) (width : ℕ) (are
       ∙ getD-take width (drop (S * width) gradients) r nan h
       ∙ getD-drop (S * width) gradients r nan
 
-  pub row-kept : suc S * width ≤ length gradients → wanted S ≡ false → rowsTo wanted row width S gradients ≡ rowsTo wanted row width (S + 1) gradients
+  pub row-kept : suc S * width ≤ length gradients → wanted S ≡ false
+      → rowsTo wanted row width S gradients ≡ rowsTo wanted row width (S + 1) gradients
   row-kept room none =
       written-on (byRow width nan after) (S * width) ((S + 1) * width) gradients nan (omega arith) (omega (arith, room)) number
     where
@@ -57,24 +55,20 @@ module _ (wanted : ℕ → Bool) (row : ℕ → WithGradient) (width : ℕ) (are
         ∙ write-next (numberAt wanted (λ T. row T .sum) areas) S areas area nan room
         (ap (λ (w : WithGradient). w .sum) er ∙ sym (ap (λ (b : Bool). cond b (row S .sum) (getD areas S nan)) is))
 
-    pub row-put : suc S * width ≤ length gradients → length grad ≡ width → (l : List Float) → l ≡ rowsTo wanted row width S gradients
-        → take (S * width) l ++ (grad ++ drop width (drop (S * width) l)) ≡ rowsTo wanted row width (S + 1) gradients
-    row-put room many l el =
-        ap (λ (t : List Float). take (S * width) l ++ (t ++ drop width (drop (S * width) l))) own
+    -- it comes back in the place of the part that was lent
+    pub row-laid : suc S * width ≤ length gradients → length grad ≡ width → (l now : List Float) → l ≡ rowsTo wanted row width S gradients
+        → now ≡ putMid (S * width) ((S * width + width) - S * width) l grad → now ≡ rowsTo wanted row width (S + 1) gradients
+    row-laid room many l now el e =
+        let wide : (S * width + width) - S * width ≡ width = omega arith in
+        e ∙ ap₂ (λ (k : ℕ) (t : List Float). putMid (S * width) k l t) wide own
         ∙ row-written width S nan after gradients l room (sym (ap length own) ∙ many) el
       where
         own : grad ≡ after S
         own = ap (λ (w : WithGradient). w .grad) er ∙ sym (ap (λ (b : Bool). cond b (row S .grad) (rowAt width gradients S)) is)
 
-    -- the same, where it stands in the place of a part that was lent
-    pub row-laid : suc S * width ≤ length gradients → length grad ≡ width → (l now : List Float) → l ≡ rowsTo wanted row width S gradients
-        → now ≡ putMid (S * width) ((S * width + width) - S * width) l grad → now ≡ rowsTo wanted row width (S + 1) gradients
-    row-laid room many l now el e =
-        let wide : (S * width + width) - S * width ≡ width = omega arith in
-        e ∙ ap (λ (k : ℕ). putMid (S * width) k l grad) wide ∙ row-put room many l el
-
 -- the part of a slice that is row S has width numbers
-pub part-many : (S width : ℕ) (l : List Float) → suc S * width ≤ length l → length (midOf (S * width) ((S * width + width) - S * width) l) ≡ width
+pub part-many : (S width : ℕ) (l : List Float) → suc S * width ≤ length l
+    → length (midOf (S * width) ((S * width + width) - S * width) l) ≡ width
 part-many S width l room = mid-len (S * width) (S * width + width) l (omega (arith, room)) ∙ omega arith
 
 -- no row yet
@@ -93,7 +87,15 @@ pub row-read : (width : ℕ) (row : ℕ → List Float) (m : ℕ) (l : List Floa
 row-read width row m l S h room many =
     let end = mul-le-mul-right {m = suc S} {n = m} width h in
     ext-getD nan (take width (drop (S * width) now)) (row S)
-    (omega (arith, length-take width (drop (S * width) now), length-drop (S * width) now, length-written (byRow width nan row) (m * width) l room, end, room, many))
+    (omega (
+      arith,
+      length-take width (drop (S * width) now),
+      length-drop (S * width) now,
+      length-written (byRow width nan row) (m * width) l room,
+      end,
+      room,
+      many,
+    ))
     (λ i k. number i (omega (arith, k, length-take width (drop (S * width) now))))
   where
     now : List Float
@@ -118,16 +120,16 @@ held-room zero places count h = nothing count places
     nothing : (count places : ℕ) → count * 0 ≤ places
     nothing count places = omega arith
 held-room (suc w) places count h =
-    le-trans (mul-le-mul-right {m = count} {n = places / suc w} (suc w) (subst (λ (m : ℕ). count ≤ m) (held-some w places) h)) (div-mul-le-self places (suc w))
+    le-trans (mul-le-mul-right {m = count} {n = places / suc w} (suc w) (subst (λ (m : ℕ). count ≤ m) (held-some w places) h))
+    (div-mul-le-self places (suc w))
 
 -- a counted row is one of 1024 and has its place in both
 pub rows-room : (n width : ℕ) (areas gradients : List Float) {count : ℕ} → count ≡ rowsIn n width areas gradients
     → (count ≤ rowsOf n) × ((count ≤ length areas) × (count * width ≤ length gradients))
-rows-room n width areas gradients {count} e =
-    (
-      omega (arith, e),
-      (omega (arith, e), held-room width (length gradients) count (omega (arith, e))),
-    )
+rows-room n width areas gradients {count} e = (
+  omega (arith, e),
+  (omega (arith, e), held-room width (length gradients) count (omega (arith, e))),
+)
 
 -- where there is room, all rows are counted
 held-all : (width places count : ℕ) → count ≤ 1024 → count * width ≤ places → count ≤ rowsHeld width places

@@ -1,6 +1,6 @@
 -- `gradients::fast_row`: a row of +0, then what each of the two ways adds to it.
 use borrow.Author.Needs.{needs}
-use mathlib.Core.Path.{_≡_, ap, _∙_}
+use mathlib.Core.Path.{ap, _∙_}
 use Rattle.sums.specs.Walk.{circlesIn}
 use Rattle.sums.specs.Gradients.{openOnto, clippedOnto}
 use Rattle.sums.proofs.gradients.fast_row.Statement.{statement}
@@ -22,10 +22,10 @@ returns c =
     let t = o .before .before .before in
     let k = t .before .before .before in
     let a = k .before .before .before .args in
-    let e = o .clipped-row-with-gradient .ensures in
-    (
+    let e = o .clipped-row-with-gradient .ensures in (
       (e .0, same-length c),
-      λ points few marks. rw (t .if1 .taken) (e .1 points few marks ∙ ap (clippedOnto (a .bounds) (circlesIn (a .c .now) (a .n-sets)) points (a .mask)) (k .clear .ensures)),
+      λ points few marks. rw (t .if1 .taken)
+          (e .1 points few marks ∙ ap (clippedOnto (a .bounds) (circlesIn (a .c .now) (a .n-sets)) points (a .mask)) (k .clear .ensures)),
     )
 
 open-row-with-gradient-requires : tie.Need-open-row-with-gradient-requires
@@ -44,10 +44,10 @@ returns-2 c =
     let t = o .before .before .before in
     let k = t .before .before .before in
     let a = k .before .before .before .args in
-    let e = o .open-row-with-gradient .ensures in
-    (
+    let e = o .open-row-with-gradient .ensures in (
       (e .0, same-length-2 c),
-      λ points few marks. rw (t .if1 .left) (e .1 points few marks ∙ ap (openOnto (circlesIn (a .c .now) (a .n-sets)) points (a .mask)) (k .clear .ensures)),
+      λ points few marks. rw (t .if1 .left)
+          (e .1 points few marks ∙ ap (openOnto (circlesIn (a .c .now) (a .n-sets)) points (a .mask)) (k .clear .ensures)),
     )
 
 pub fast-row-spec : {M : Type 1} → statement M

@@ -1,6 +1,5 @@
 -- `gradients::fill_worth`: what each of the two ways fills.
-use borrow.Author.Needs.{needs}
-use mathlib.Core.Path.{_≡_, sym, _∙_}
+use mathlib.Core.Path.{sym, _∙_}
 use mathlib.Core.Bool.{true, false, true≢false}
 use Rattle.sums.proofs.gradients.fill_worth.Statement.{statement}
 use Rattle.sums.proofs.gradients.fill_worth.Tie as tie
@@ -11,8 +10,7 @@ fill-chords-requires c κs = let s = c .before .before .before .before in ((s .p
 fill-parts-requires : tie.Need-fill-parts-requires
 fill-parts-requires c κs =
     let f = c .before .before .before .before .before .before in
-    let s = f .before .before .before .before .before in
-    (
+    let s = f .before .before .before .before .before in (
       (s .pre .0 .0, (s .pre .0 .1 .0, s .pre .0 .1 .1 .0)),
       ((s .pre .1 .1 .1 .0 .0, (s .pre .1 .1 .1 .0 .1, s .pre .1 .0 .0)), s .pre .1 .1 .0),
     )
@@ -30,7 +28,9 @@ returns c =
     }
 
 fill-terms-requires : tie.Need-fill-terms-requires
-fill-terms-requires c κs = let s = c .before .before .before .before in ((s .pre .0 .0, (s .pre .0 .1 .0, s .pre .0 .1 .1 .0)), s .pre .1 .0)
+fill-terms-requires c κs =
+    let s = c .before .before .before .before in
+    ((s .pre .0 .0, (s .pre .0 .1 .0, s .pre .0 .1 .1 .0)), s .pre .1 .0)
 
 fill-slopes-requires : tie.Need-fill-slopes-requires
 fill-slopes-requires c κs =

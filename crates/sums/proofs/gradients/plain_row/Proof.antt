@@ -1,6 +1,6 @@
 -- `gradients::plain_row`: a row of +0, then what is added to it.
 use borrow.Author.Needs.{needs}
-use mathlib.Core.Path.{_≡_, ap, _∙_}
+use mathlib.Core.Path.{ap, _∙_}
 use lib.ListN.{take}
 use Rattle.intersections.specs.Counted.{pointList}
 use Rattle.sums.specs.Gradients.{setOnto}
@@ -14,9 +14,9 @@ returns : tie.Need-returns
 returns c =
     let o = c .before .before in
     let k = o .before .before .before .before in
-    let a = k .before .before .before .args in
-    (
-      o .set-onto .ensures ∙ ap (setOnto (a .clipped) (a .bounds) (take (a .n-sets) (a .circles)) (pointList (a .points)) (a .mask)) (k .clear .ensures),
+    let a = k .before .before .before .args in (
+      o .set-onto .ensures
+          ∙ ap (setOnto (a .clipped) (a .bounds) (take (a .n-sets) (a .circles)) (pointList (a .points)) (a .mask)) (k .clear .ensures),
       same-length c,
     )
 

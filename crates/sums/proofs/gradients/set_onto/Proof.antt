@@ -1,6 +1,6 @@
 -- `gradients::set_onto`: each way out by the test that led there.
 use borrow.Author.Needs.{needs}
-use mathlib.Core.Path.{_≡_, ap, ap₂, _∙_}
+use mathlib.Core.Path.{ap, ap₂, _∙_}
 use mathlib.Core.List.{List, map}
 use lib.ListN.{length, take}
 use Rattle.geometry.specs.declared.circle.Circle.{Circle}
@@ -20,7 +20,8 @@ returns c =
     let cs : List Circle = take (a .n-sets) (a .circles) in
     rw (t .if1 .taken)
     (w .area-and-gradient-from-clipped-arcs .ensures
-    ∙ ap (λ (arcs : List BoundaryArc). clippedWithGradient (a .bounds) cs (map (circleAt cs) (headsOf (length cs) (a .mask))) arcs (a .grad .now))
+    ∙ ap (λ (arcs : List BoundaryArc).
+    clippedWithGradient (a .bounds) cs (map (circleAt cs) (headsOf (length cs) (a .mask))) arcs (a .grad .now))
     (r .region-boundary-arcs .ensures .0))
 
 returns-2 : tie.Need-returns-2

@@ -1,13 +1,14 @@
 -- `gradients::write_fast`: the numbers of the circles, the heads of the wanted rows, their arrays, and the rows.
 use borrow.Author.Needs.{needs}
-use mathlib.Core.Path.{_≡_, sym, ap, _∙_, subst}
+use mathlib.Core.Path.{sym, ap, _∙_, subst}
 use mathlib.Core.List.{List}
-use Prim.Native.Nat.{ℕ, _^_, _≤_, _<_}
+use Prim.Native.Nat.{ℕ}
 use native.Mathlib.Omega.{arith}
 use lib.Pow.{pow-mono}
 use Rattle.geometry.specs.declared.circle.Circle.{Circle}
 use Rattle.masks.specs.Presence.{stands}
 use Rattle.intersections.specs.Counted.{pointList}
+use Rattle.clip.specs.Gradient.{WithGradient}
 use Rattle.sums.specs.Walk.{Few}
 use Rattle.sums.specs.Gradients.{rowWith, areasTo, rowsTo}
 use Rattle.sums.proofs.Walking.{circles-many}
@@ -23,10 +24,15 @@ wanted-heads-requires c κs =
 fill-heads-requires : tie.Need-fill-heads-requires
 fill-heads-requires c κs =
     let n = c .before .before .before .before .before .before .before in
-    let s = n .before .before .before in
-    (
+    let s = n .before .before .before in (
       (s .pre .0 .0, subst (λ cs. Few cs (pointList (s .args .points))) (sym (n .numbers-of .ensures)) (s .pre .0 .1)),
-      record { counts-long = search needs; owners-long = search needs; phi-long = search needs; adopters-long = search needs; lets-long = search needs },
+      record {
+        counts-long = search needs;
+        owners-long = search needs;
+        phi-long = search needs;
+        adopters-long = search needs;
+        lets-long = search needs;
+      },
     )
 
 write-marked-requires : tie.Need-write-marked-requires
@@ -35,12 +41,11 @@ write-marked-requires c κs =
     let w = f .before .before .before .before .before .before .before in
     let n = w .before in
     let s = n .before .before .before in
-    let a = s .args in
-    (
+    let a = s .args in (
       (s .pre .0 .0, s .pre .1),
       (
-      (w .wanted-heads .ensures .1 (a .n-sets) (s .pre .1 .0), (w .wanted-heads .ensures .0, n .numbers-of .ensures)),
-      λ j h i. f .fill-heads .ensures .1 .ready j (rw (circles-many _ (a .n-sets)) at h) i,
+        (w .wanted-heads .ensures .1 (a .n-sets) (s .pre .1 .0), (w .wanted-heads .ensures .0, n .numbers-of .ensures)),
+        λ j h i. f .fill-heads .ensures .1 .ready j (rw (circles-many _ (a .n-sets)) at h) i,
       ),
     )
 
@@ -54,11 +59,12 @@ returns c =
     let points = pointList (a .points) in
     let wanted = stands (a .wanted .now) in
     let e = n .numbers-of .ensures in
+    let row : List Circle → ℕ → WithGradient = λ cs. rowWith (a .clipped) (a .bounds) cs points (a .width) in
     let both =
-        m .write-marked .ensures points (subst (λ cs. Few cs points) (sym e) (s .pre .0 .1)) (λ j h i. f .fill-heads .ensures .1 .marks j (rw (circles-many _ (a .n-sets)) at h) i) in
-    (
-      both .0 ∙ ap (λ (cs : List Circle). areasTo wanted (rowWith (a .clipped) (a .bounds) cs points (a .width)) (a .count) (a .areas .now)) e,
-      both .1 ∙ ap (λ (cs : List Circle). rowsTo wanted (rowWith (a .clipped) (a .bounds) cs points (a .width)) (a .width) (a .count) (a .gradients .now)) e,
+    m .write-marked .ensures points (subst (λ cs. Few cs points) (sym e) (s .pre .0 .1))
+    (λ j h i. f .fill-heads .ensures .1 .marks j (rw (circles-many _ (a .n-sets)) at h) i) in (
+      both .0 ∙ ap (λ (cs : List Circle). areasTo wanted (row cs) (a .count) (a .areas .now)) e,
+      both .1 ∙ ap (λ (cs : List Circle). rowsTo wanted (row cs) (a .width) (a .count) (a .gradients .now)) e,
     )
 
 pub write-fast-spec : {M : Type 1} → statement M

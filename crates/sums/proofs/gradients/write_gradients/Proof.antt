@@ -3,7 +3,7 @@ use borrow.Author.Needs.{needs}
 use mathlib.Core.Path.{_≡_, sym, ap, ap₂, _∙_}
 use mathlib.Core.Bool.{true}
 use mathlib.Core.List.{List}
-use Prim.Native.Nat.{ℕ, min, _^_, _≤_, _<_}
+use Prim.Native.Nat.{ℕ, min}
 use native.Mathlib.Omega.{arith}
 use lib.ListN.{length, take, length-take}
 use lib.Pow.{pow-mono}
@@ -30,12 +30,13 @@ write-fast-requires c κs =
     let ten : length (a .circles) ≡ 10 = search length-of-values in
     let n : ℕ = min (a .n-sets) 10 in
     let whole : length (take n (a .circles)) ≡ n = omega (arith, length-take n (a .circles), ten) in
-    let few : fewPoints n (pointList (a .points)) ≡ true = ap (λ (m : ℕ). fewPoints m (pointList (a .points))) (sym (t .at-most-ten .ensures)) ∙ sym (f .few .ensures) ∙ i .if1 .taken in
-    let room = rows-room (a .n-sets) (a .width) (a .areas .now) (a .gradients .now) (r .rows-in .ensures) in
-    (
+    let points = pointList (a .points) in
+    let few : fewPoints n points ≡ true =
+    ap (λ (m : ℕ). fewPoints m points) (sym (t .at-most-ten .ensures)) ∙ sym (f .few .ensures) ∙ i .if1 .taken in
+    let room = rows-room (a .n-sets) (a .width) (a .areas .now) (a .gradients .now) (r .rows-in .ensures) in (
       (
-      omega (arith, t .at-most-ten .ensures),
-      rw (t .at-most-ten .ensures) (few-means (take n (a .circles)) (pointList (a .points)) (ap (λ (m : ℕ). fewPoints m (pointList (a .points))) whole ∙ few)),
+        omega (arith, t .at-most-ten .ensures),
+        rw (t .at-most-ten .ensures) (few-means (take n (a .circles)) points (ap (λ (m : ℕ). fewPoints m points) whole ∙ few)),
       ),
       (rw (t .at-most-ten .ensures) (room .0), room .1),
     )
@@ -55,8 +56,7 @@ returns c =
     ap (λ (n : ℕ). take n (a .circles)) (t .at-most-ten .ensures) ∙ capped-take (a .circles) (a .n-sets) 10 ten in
     let k = r .rows-in .ensures in
     let row : List Circle → ℕ → WithGradient = λ cs. rowWith (a .clipped) (a .bounds) cs points (a .width) in
-    let e = w .write-fast .ensures in
-    (
+    let e = w .write-fast .ensures in (
       e .0 ∙ ap₂ (λ (cs : List Circle) (n : ℕ). areasTo wanted (row cs) n (a .areas .now)) same k,
       e .1 ∙ ap₂ (λ (cs : List Circle) (n : ℕ). rowsTo wanted (row cs) (a .width) n (a .gradients .now)) same k,
     )
@@ -80,8 +80,7 @@ returns-2 c =
     let wanted = stands (a .wanted .now) in
     let k = r .rows-in .ensures in
     let row : ℕ → WithGradient = rowWith (a .clipped) (a .bounds) (take (a .n-sets) (a .circles)) points (a .width) in
-    let e = w .write-plain .ensures in
-    (
+    let e = w .write-plain .ensures in (
       e .0 ∙ ap (λ (n : ℕ). areasTo wanted row n (a .areas .now)) k,
       e .1 ∙ ap (λ (n : ℕ). rowsTo wanted row (a .width) n (a .gradients .now)) k,
     )

@@ -1,6 +1,5 @@
 -- `gradients::write_marked`: what is filled for all heads serves each row.
 use borrow.Author.Needs.{needs}
-use mathlib.Core.Path.{_≡_}
 use Rattle.masks.specs.Subset.{subset-head}
 use Rattle.sums.specs.Walk.{circlesIn}
 use Rattle.sums.proofs.Valuing.{ready-roomy}
@@ -12,18 +11,20 @@ use Rattle.sums.proofs.gradients.write_marked.Tie as tie
 fill-worth-requires : tie.Need-fill-worth-requires
 fill-worth-requires c κs =
     let s = c .before .before .before .before .before .before .before .before .before .before .before .before .before in
-    let a = s .args in
-    (
+    let a = s .args in (
       (
-      s .pre .0 .0,
-      (
-      s .pre .1 .0 .0,
-      (ready-roomy (a .c .now) (a .n-sets) (a .needed) (a .counts .now) (a .owners .now) (a .phi .now) (a .lets .now) (s .pre .1 .1), s .pre .1 .0 .1 .1),
+        s .pre .0 .0,
+        (
+          s .pre .1 .0 .0,
+          (
+            ready-roomy (a .c .now) (a .n-sets) (a .needed) (a .counts .now) (a .owners .now) (a .phi .now) (a .lets .now) (s .pre .1 .1),
+            s .pre .1 .0 .1 .1,
+          ),
+        ),
       ),
-      ),
       (
-      (search needs, (search needs, search needs)),
-      ((search needs, (search needs, search needs)), ((search needs, search needs), (search needs, (search needs, search needs)))),
+        (search needs, (search needs, search needs)),
+        ((search needs, (search needs, search needs)), ((search needs, search needs), (search needs, (search needs, search needs)))),
       ),
     )
 
@@ -32,11 +33,11 @@ write-rows-requires c κs =
     let f = c .before .before .before .before .before .before .before .before .before .before .before .before .before in
     let s = f .before .before .before .before .before .before .before .before .before .before .before .before .before .before in
     let a = s .args in
-    let within = s .pre .1 .0 .1 .0 in
-    (
+    let within = s .pre .1 .0 .1 .0 in (
       s .pre .0,
       λ S h is. record {
-        ready = ready-less (circlesIn (a .c .now) (a .n-sets)) (a .needed) (a .counts .now) (a .owners .now) (a .phi .now) (a .lets .now) S (within S h is) (s .pre .1 .1);
+        ready = ready-less (circlesIn (a .c .now) (a .n-sets)) (a .needed) (a .counts .now) (a .owners .now) (a .phi .now) (a .lets .now) S
+            (within S h is) (s .pre .1 .1);
         worth = worth-with-less S (within S h is) (f .fill-worth .ensures);
       },
     )

@@ -2,7 +2,7 @@
 use borrow.Author.Needs.{needs}
 use mathlib.Core.Path.{_≡_, refl, ap, _∙_}
 use mathlib.Core.Logic.{⊎-elim}
-use Prim.Native.Nat.{ℕ, suc, _+_, _*_, _-_, _≤_, _<_}
+use Prim.Native.Nat.{ℕ, suc, _*_, _-_, _≤_, _<_}
 use native.Mathlib.Nat.{mul-le-mul-right}
 use native.Mathlib.Omega.{arith}
 use borrow.Author.Tests.{eq-eqb, ne-eqb}
@@ -39,10 +39,12 @@ loop-holds c =
     (omega arith, refl, refl, none .0, none .1)
 
 -- the row has its place
-room : (c : tie.In-loop Inv-loop μ-loop) → let s = entry (c .before) in suc (c .before .loop .mask) * s .args .width ≤ length (s .args .gradients .now)
+room : (c : tie.In-loop Inv-loop μ-loop)
+    → let s = entry (c .before) in suc (c .before .loop .mask) * s .args .width ≤ length (s .args .gradients .now)
 room c =
     let s = entry (c .before) in
-    omega (arith, mul-le-mul-right {m = suc (c .before .loop .mask)} {n = s .args .count} (s .args .width) (c .loop-test .taken), s .pre .1 .1)
+    let more = mul-le-mul-right {m = suc (c .before .loop .mask)} {n = s .args .count} (s .args .width) (c .loop-test .taken) in
+    omega (arith, more, s .pre .1 .1)
 
 element-copy-out-if1 : tie.Need-element-copy-out-if1 Inv-loop μ-loop
 element-copy-out-if1 c = omega (arith, c .loop-test .taken, entry (c .before) .pre .0)
@@ -84,24 +86,24 @@ loop-again c =
     let many = part-many S w (l .gradients) (omega (arith, room m, i .2)) in
     ⊎-elim
     (λ t.
-        let is = eq-eqb _ 1 (t .0 .taken) in
-        let er = t .2 .ensures .0 ∙ ap (λ (k : ℕ). rowWith (a .clipped) (a .bounds) (take (a .n-sets) (a .circles)) (pointList (a .points)) k S) many in
-        (
-          omega (arith, m .loop-test .taken),
-          ap length (t .5) ∙ length-set (l .areas) S _ ∙ i .1,
-          ap length (t .6) ∙ t .3 .given .1 ∙ i .2,
-          t .5 ∙ area-put wanted (rowOf s) w (a .areas .now) (a .gradients .now) S er is more (l .areas) (i .3),
-          row-laid wanted (rowOf s) w (a .areas .now) (a .gradients .now) S er is (room m) (t .2 .ensures .1 ∙ many) (l .gradients) _ (i .4) (t .6),
-        ))
+    let is = eq-eqb _ 1 (t .0 .taken) in
+    let er = t .2 .ensures .0
+    ∙ ap (λ (k : ℕ). rowWith (a .clipped) (a .bounds) (take (a .n-sets) (a .circles)) (pointList (a .points)) k S) many in (
+      omega (arith, m .loop-test .taken),
+      ap length (t .5) ∙ length-set (l .areas) S _ ∙ i .1,
+      ap length (t .6) ∙ t .3 .given .1 ∙ i .2,
+      t .5 ∙ area-put wanted (rowOf s) w (a .areas .now) (a .gradients .now) S er is more (l .areas) (i .3),
+      row-laid wanted (rowOf s) w (a .areas .now) (a .gradients .now) S er is (room m) (t .2 .ensures .1 ∙ many) (l .gradients) _
+          (i .4) (t .6),
+    ))
     (λ t.
-        let none = ne-eqb _ 1 (t .0 .left) in
-        (
-          omega (arith, m .loop-test .taken),
-          rw (t .1) (i .1),
-          rw (t .2) (i .2),
-          t .1 ∙ i .3 ∙ area-kept wanted (rowOf s) w (a .areas .now) (a .gradients .now) S more none,
-          t .2 ∙ i .4 ∙ row-kept wanted (rowOf s) w (a .areas .now) (a .gradients .now) S (room m) none,
-        ))
+    let none = ne-eqb _ 1 (t .0 .left) in (
+      omega (arith, m .loop-test .taken),
+      rw (t .1) (i .1),
+      rw (t .2) (i .2),
+      t .1 ∙ i .3 ∙ area-kept wanted (rowOf s) w (a .areas .now) (a .gradients .now) S more none,
+      t .2 ∙ i .4 ∙ row-kept wanted (rowOf s) w (a .areas .now) (a .gradients .now) S (room m) none,
+    ))
     (c .if1 .came)
 
 same-length : tie.Need-same-length Inv-loop μ-loop

@@ -3,7 +3,7 @@ use borrow.Author.Needs.{needs}
 use mathlib.Core.Path.{_≡_, refl, ap, _∙_}
 use mathlib.Core.List.{List}
 use mathlib.Core.Logic.{⊎-elim}
-use Prim.Native.Nat.{ℕ, suc, _+_, _*_, _-_, _^_, _≤_, _<_}
+use Prim.Native.Nat.{ℕ, suc, _*_, _-_, _^_, _≤_, _<_}
 use native.Mathlib.Nat.{mul-le-mul-right}
 use native.Mathlib.Omega.{arith}
 use borrow.Author.Tests.{eq-eqb, ne-eqb}
@@ -21,14 +21,17 @@ use Rattle.sums.proofs.gradients.write_rows.Statement.{statement}
 use Rattle.sums.proofs.gradients.write_rows.Tie as tie
 
 abbrev Inv-loop : tie.InvT-loop
-Inv-loop clipped wanted width count areas₀ gradients₀ c n-sets bounds counts owners phi adopters lets xs ys rs us vs ws first many stop reach low high list₀ mask₀ areas gradients list mask =
+Inv-loop clipped wanted width count areas₀ gradients₀ c n-sets bounds counts owners phi adopters lets xs ys rs us vs ws first many stop
+    reach low high list₀ mask₀ areas gradients list mask =
     (mask ≤ count) × (length list ≡ 320) × (length areas ≡ length areas₀) × (length gradients ≡ length gradients₀)
-    × ((points : List IntersectionPoint) → Few (circlesIn c n-sets) points → OfWanted wanted count (λ S. MarksOf (circlesIn c n-sets) points S counts phi adopters)
+    × ((points : List IntersectionPoint) → Few (circlesIn c n-sets) points
+    → OfWanted wanted count (λ S. MarksOf (circlesIn c n-sets) points S counts phi adopters)
     → (areas ≡ areasTo (stands wanted) (rowWith clipped bounds (circlesIn c n-sets) points width) mask areas₀)
     × (gradients ≡ rowsTo (stands wanted) (rowWith clipped bounds (circlesIn c n-sets) points width) width mask gradients₀))
 
 abbrev μ-loop : tie.MeasureT-loop
-μ-loop clipped wanted width count areas₀ gradients₀ c n-sets bounds counts owners phi adopters lets xs ys rs us vs ws first many stop reach low high list₀ mask₀ areas gradients list mask = count - mask
+μ-loop clipped wanted width count areas₀ gradients₀ c n-sets bounds counts owners phi adopters lets xs ys rs us vs ws first many stop
+    reach low high list₀ mask₀ areas gradients list mask = count - mask
 
 abbrev entry : tie.At-loop Inv-loop μ-loop → tie.Start Inv-loop μ-loop
 entry c = c .before .before .before
@@ -40,14 +43,21 @@ rowOf s points = let a = s .args in rowWith (a .clipped) (a .bounds) (circlesIn 
 loop-holds : tie.Need-loop-holds Inv-loop μ-loop
 loop-holds c =
     let s = c .before .before in
-    let a = s .args in
-    (omega arith, search needs, refl, refl, λ points few marks. none-laid (stands (a .wanted .now)) (rowOf s points) (a .width) (a .areas .now) (a .gradients .now))
+    let a = s .args in (
+      omega arith,
+      search needs,
+      refl,
+      refl,
+      λ points few marks. none-laid (stands (a .wanted .now)) (rowOf s points) (a .width) (a .areas .now) (a .gradients .now),
+    )
 
 -- the row has its place
-room : (c : tie.In-loop Inv-loop μ-loop) → let s = entry (c .before) in suc (c .before .loop .mask) * s .args .width ≤ length (s .args .gradients .now)
+room : (c : tie.In-loop Inv-loop μ-loop)
+    → let s = entry (c .before) in suc (c .before .loop .mask) * s .args .width ≤ length (s .args .gradients .now)
 room c =
     let s = entry (c .before) in
-    omega (arith, mul-le-mul-right {m = suc (c .before .loop .mask)} {n = s .args .count} (s .args .width) (c .loop-test .taken), s .pre .0 .1 .1 .1)
+    let more = mul-le-mul-right {m = suc (c .before .loop .mask)} {n = s .args .count} (s .args .width) (c .loop-test .taken) in
+    omega (arith, more, s .pre .0 .1 .1 .1)
 
 -- the numbers of the gradients have their bytes
 bytes : (c : tie.At-loop Inv-loop μ-loop) → length (entry c .args .gradients .now) * 8 < 2 ^ 63
@@ -87,8 +97,7 @@ fast-row-requires c κs =
     let m = t .before .before in
     let s = entry (m .before) in
     let l = m .before .loop in
-    let test : l .mask < s .args .count = m .loop-test .taken in
-    (
+    let test : l .mask < s .args .count = m .loop-test .taken in (
       (s .pre .0 .0, (omega (arith, test, s .pre .0 .1 .0), l .inv .1)),
       s .pre .1 (l .mask) test (eq-eqb _ 1 (t .if1 .taken)),
     )
@@ -122,33 +131,31 @@ loop-again c =
     let many = part-many S w (l .gradients) (omega (arith, room m, i .3)) in
     ⊎-elim
     (λ t.
-        let is = eq-eqb _ 1 (t .0 .taken) in
-        (
-          omega (arith, test),
-          ap length (t .8) ∙ t .3 .ensures .0 .0,
-          ap length (t .6) ∙ length-set (l .areas) S _ ∙ i .2,
-          ap length (t .7) ∙ t .4 .given .1 ∙ i .3,
-          λ points few marks.
-              let er = t .3 .ensures .1 points few (marks S test is)
-              ∙ ap (λ (k : ℕ). rowWith (a .clipped) (a .bounds) (circlesIn (a .c .now) (a .n-sets)) points k S) many in
-              (
-                t .6 ∙ area-put wanted (rowOf s points) w (a .areas .now) (a .gradients .now) S er is more (l .areas) (i .4 points few marks .0),
-                row-laid wanted (rowOf s points) w (a .areas .now) (a .gradients .now) S er is (room m) (t .3 .ensures .0 .1 ∙ many) (l .gradients) _
-                    (i .4 points few marks .1) (t .7),
-              ),
-        ))
-    (λ t.
-        let none = ne-eqb _ 1 (t .0 .left) in
-        (
-          omega (arith, test),
-          rw (t .3) (i .1),
-          rw (t .1) (i .2),
-          rw (t .2) (i .3),
-          λ points few marks. (
-            t .1 ∙ i .4 points few marks .0 ∙ area-kept wanted (rowOf s points) w (a .areas .now) (a .gradients .now) S more none,
-            t .2 ∙ i .4 points few marks .1 ∙ row-kept wanted (rowOf s points) w (a .areas .now) (a .gradients .now) S (room m) none,
+    let is = eq-eqb _ 1 (t .0 .taken) in (
+      omega (arith, test),
+      ap length (t .8) ∙ t .3 .ensures .0 .0,
+      ap length (t .6) ∙ length-set (l .areas) S _ ∙ i .2,
+      ap length (t .7) ∙ t .4 .given .1 ∙ i .3,
+      λ points few marks.
+          let stood = i .4 points few marks in
+          let er = t .3 .ensures .1 points few (marks S test is)
+          ∙ ap (λ (k : ℕ). rowWith (a .clipped) (a .bounds) (circlesIn (a .c .now) (a .n-sets)) points k S) many in (
+            t .6 ∙ area-put wanted (rowOf s points) w (a .areas .now) (a .gradients .now) S er is more (l .areas) (stood .0),
+            row-laid wanted (rowOf s points) w (a .areas .now) (a .gradients .now) S er is (room m) (t .3 .ensures .0 .1 ∙ many)
+                (l .gradients) _ (stood .1) (t .7),
           ),
-        ))
+    ))
+    (λ t.
+    let none = ne-eqb _ 1 (t .0 .left) in (
+      omega (arith, test),
+      rw (t .3) (i .1),
+      rw (t .1) (i .2),
+      rw (t .2) (i .3),
+      λ points few marks. (
+        t .1 ∙ i .4 points few marks .0 ∙ area-kept wanted (rowOf s points) w (a .areas .now) (a .gradients .now) S more none,
+        t .2 ∙ i .4 points few marks .1 ∙ row-kept wanted (rowOf s points) w (a .areas .now) (a .gradients .now) S (room m) none,
+      ),
+    ))
     (c .if1 .came)
 
 same-length : tie.Need-same-length Inv-loop μ-loop
@@ -167,5 +174,5 @@ returns c =
 pub write-rows-spec : {M : Type 1} → statement M
 write-rows-spec =
     tie.close (tie.spec Inv-loop μ-loop loop-holds element-copy-out-if1 mul-start add-end mul-fast-row sub-fast-row part-fast-row-start
-    part-fast-row-end fast-row-requires mul-areas slice-write-areas add-mask loop-less loop-again
-    same-length same-length-2 returns)
+    part-fast-row-end fast-row-requires mul-areas slice-write-areas add-mask loop-less loop-again same-length same-length-2
+    returns)
