@@ -59,14 +59,3 @@ module _ (hasBox : Bool) (sets : ℕ → Bool) (box x : Float) (area : ℕ → F
       by : (b : Bool) → sets (suc S) ≡ b → cond b (getD (set k 0 x) (suc S) nan) zero64 ≡ cond b (area (suc S)) zero64
       by true e = other ∙ ap (λ (b : Bool). cond b (area (suc S)) (getD l (suc S) nan)) e
       by false e = refl
-
--- ---- numbers all alike
-
-pub tab-alike : {A : Type 0} (x : A) (m : ℕ) → tab (λ i. x) m ≡ replicate m x
-unfolding tab
-tab-alike x zero = refl
-tab-alike x (suc m) = ap (λ l. l ++ (x ∷ [])) (tab-alike x m) ∙ at-end x m
-  where
-    at-end : {A : Type 0} (x : A) (m : ℕ) → replicate m x ++ (x ∷ []) ≡ x ∷ replicate m x
-    at-end x zero = refl
-    at-end x (suc m) = ap (λ l. x ∷ l) (at-end x m)

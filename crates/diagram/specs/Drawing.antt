@@ -4,7 +4,6 @@
 use Prim.Native.Nat.{ℕ, _+_, _*_}
 use mathlib.Core.Bool.{Bool, true, false, cond}
 use mathlib.Core.List.{List, map}
-use lib.Dec.{eqb}
 use lib.Ieee.{Float}
 use lib.ListN.{length, replicate, set, take}
 use Rattle.binary64.specs.Constants.{zero64}
@@ -19,7 +18,7 @@ use Rattle.outline.specs.Area.{areaOf, addGradient, openArea}
 use Rattle.clip.specs.Area.{clippedArea}
 use Rattle.clip.specs.Gradient.{WithGradient, with-gradient, clippedWithGradient}
 use Rattle.diagram.specs.declared.drawing.Drawing.{Drawing}
-use Rattle.diagram.specs.Rows.{Rows, Slopes, areaAt, slopesAt}
+use Rattle.diagram.specs.Rows.{Rows, Slopes}
 
 module _ (circles : List Circle) (points : List IntersectionPoint) where
   -- the area that the heads of a set water together, without a box and in one, and its gradient by head, added to a gradient
@@ -100,8 +99,3 @@ slopesBy width d sets = record {
 
 abbrev pub slopesOf : Drawing → (ℕ → Bool) → Slopes
 slopesOf d = slopesBy (widthOf d) d
-
--- row S with its gradient of some width, from the byte of its mask among the sets
-abbrev pub rowWith : ℕ → Drawing → ℕ → ℕ → WithGradient
-rowWith width d b S =
-    with-gradient (areaAt (slopesBy width d (λ T. eqb b 1) .rows) S) (slopesAt (slopesBy width d (λ T. eqb b 1)) S)

@@ -34,15 +34,7 @@ fn write_exclusives_with_gradients(
     ensures { λ r. ⌜ now (gradients .exit) ≡ slopesWritten (drawing .n) (slopesBy width drawing (stands (now (sets .entry)))) (now (gradients .entry)) ⌝ }
 {
     let n = drawing.n;
-    write_rows_with_gradients(
-        drawing,
-        sets,
-        1usize << n,
-        width,
-        presence,
-        exclusives,
-        gradients,
-    );
+    write_rows_with_gradients(drawing, sets, width, presence, exclusives, gradients);
     to_exclusive_areas_and_gradients(presence, exclusives, gradients, n, width);
 }
 

@@ -2,20 +2,19 @@
 // presence bytes. Rests on specs/Rows.antt.
 ghost use mathlib.Core.Path.{_≡_};
 ghost use Prim.Native.Nat.{_*_, _≤_, _^_};
+ghost use lib.Dec.{eqb};
 ghost use lib.Ieee.{nan};
-ghost use lib.ListN.{length, replicate, set};
+ghost use lib.ListN.{length, set};
 ghost use Rattle.lists.specs.Written.{written};
 ghost use Rattle.masks.specs.Presence.{byte, stands};
-ghost use Rattle.binary64.specs.Constants.{zero64};
 ghost use Rattle.clip.specs.Gradient.{with-gradient};
 ghost use Rattle.exclusive.proofs.TableRows.{byRow};
-ghost use Rattle.diagram.specs.Rows.{isThere, areaAt, slopesAt, presenceWritten};
-ghost use Rattle.diagram.specs.Drawing.{rowsOf, slopesBy, rowWith};
+ghost use Rattle.diagram.specs.Rows.{inRow, isThere, areaAt, slopesAt, boxWith, nothingWith, finishedRow, presenceWritten};
+ghost use Rattle.diagram.specs.Drawing.{rowsOf, slopesBy};
 use crate::drawing::Drawing;
-use crate::drawing::set_with_gradient;
-use intersections::members::at_most_ten;
+use sums::gradients::clear;
+use sums::gradients::write_gradients;
 use sums::presence::clear_absent;
-use sums::presence::row_byte;
 use sums::presence::write_presence;
 use sums::rows::write_areas;
 
@@ -41,17 +40,6 @@ pub(crate) fn write_rows(
     write_presence(boxed, n, sets, presence);
 }
 
-// All numbers of a slice made +0.
-fn clear(numbers: &mut [f64])
-    ensures { λ r. ⌜ now (numbers .exit) ≡ replicate (length (now (numbers .entry))) zero64 ⌝ }
-{
-    let mut i: usize = 0;
-    while i < numbers.len() {
-        numbers[i] = 0.0;
-        i += 1;
-    }
-}
-
 // x put at place i, where there is one.
 fn put_at(numbers: &mut [f64], i: usize, x: f64)
     ensures { λ r. ⌜ now (numbers .exit) ≡ set (now (numbers .entry)) i x ⌝ }
@@ -61,50 +49,98 @@ fn put_at(numbers: &mut [f64], i: usize, x: f64)
     }
 }
 
-// Row `mask` with its gradient: the area, and grad is written anew.
-fn row_with_gradient(drawing: Drawing, is: u8, mask: usize, grad: &mut [f64]) -> f64
-    ensures { λ r. ⌜ with-gradient r (now (grad .exit)) ≡ rowWith (length (now (grad .entry))) drawing is mask ⌝ }
+// Row `mask` once the rows of the sets are written, of which it has this area: row 0 and an absent row are written anew, any other stays.
+fn finish_row(
+    boxed: bool,
+    n: usize,
+    box_area: f64,
+    is: u8,
+    mask: usize,
+    area: f64,
+    grad: &mut [f64],
+) -> f64
+    requires { ⌜ n ≤ 10 ⌝ }
+    ensures { λ r. ⌜ with-gradient r (now (grad .exit)) ≡ inRow boxed (λ T. eqb is 1) (boxWith (length (now (grad .entry))) n «box_area») (λ T. with-gradient area (now (grad .entry))) (nothingWith (length (now (grad .entry)))) mask ⌝ }
     ensures { λ r. ⌜ length (now (grad .exit)) ≡ length (now (grad .entry)) ⌝ }
 {
-    clear(grad);
     if mask == 0 {
-        if drawing.boxed {
-            let container = drawing.container;
-            let area = container.area();
-            put_at(grad, at_most_ten(drawing.n) * 3 + 2, area);
-            return area;
+        clear(grad);
+        if boxed {
+            put_at(grad, n * 3 + 2, box_area);
+            return box_area;
         }
         return 0.0;
     }
     if is == 1 {
-        return set_with_gradient(drawing, mask, grad);
+        return area;
     }
+    clear(grad);
     0.0
 }
 
-// Rows 0 to count - 1: presence bytes, areas and gradients of `width` numbers.
+// The first `count` rows once those of the sets are written.
+fn finish_rows(
+    boxed: bool,
+    n: usize,
+    box_area: f64,
+    sets: &[u8; 1024],
+    count: usize,
+    width: usize,
+    areas: &mut [f64],
+    gradients: &mut [f64],
+)
+    requires { ⌜ (n ≤ 10) × ((count ≤ 1024) × ((count ≤ length (now areas)) × (count * width ≤ length (now gradients)))) ⌝ }
+    ensures { λ r. ⌜ now (areas .exit) ≡ written (λ S. finishedRow boxed n «box_area» (stands (now (sets .entry))) width (now (areas .entry)) (now (gradients .entry)) S .sum) count (now (areas .entry)) ⌝ }
+    ensures { λ r. ⌜ now (gradients .exit) ≡ written (byRow width nan (λ S. finishedRow boxed n «box_area» (stands (now (sets .entry))) width (now (areas .entry)) (now (gradients .entry)) S .grad)) (count * width) (now (gradients .entry)) ⌝ }
+{
+    let mut mask: usize = 0;
+    while mask < count {
+        let start = mask * width;
+        let end = start + width;
+        let area = finish_row(
+            boxed,
+            n,
+            box_area,
+            sets[mask],
+            mask,
+            areas[mask],
+            &mut gradients[start..end],
+        );
+        areas[mask] = area;
+        mask += 1;
+    }
+}
+
+// Rows 0 to 2^n - 1: presence bytes, areas and gradients of `width` numbers.
 pub(crate) fn write_rows_with_gradients(
     drawing: Drawing,
     sets: &[u8; 1024],
-    count: usize,
     width: usize,
     presence: &mut [u8],
     areas: &mut [f64],
     gradients: &mut [f64],
 )
-    requires { ⌜ (count ≤ 1024) × (count ≤ length (now presence)) × (count ≤ length (now areas)) × (count * width ≤ length (now gradients)) ⌝ }
-    ensures { λ r. ⌜ now (presence .exit) ≡ written (λ S. byte (isThere (rowsOf drawing (stands (now (sets .entry)))) S)) count (now (presence .entry)) ⌝ }
-    ensures { λ r. ⌜ now (areas .exit) ≡ written (areaAt (slopesBy width drawing (stands (now (sets .entry))) .rows)) count (now (areas .entry)) ⌝ }
-    ensures { λ r. ⌜ now (gradients .exit) ≡ written (byRow width nan (slopesAt (slopesBy width drawing (stands (now (sets .entry)))))) (count * width) (now (gradients .entry)) ⌝ }
+    requires { ⌜ (drawing .n ≤ 10) × (2 ^ drawing .n ≤ length (now presence)) × (2 ^ drawing .n ≤ length (now areas)) × (2 ^ drawing .n * width ≤ length (now gradients)) ⌝ }
+    ensures { λ r. ⌜ now (presence .exit) ≡ written (λ S. byte (isThere (rowsOf drawing (stands (now (sets .entry)))) S)) (2 ^ drawing .n) (now (presence .entry)) ⌝ }
+    ensures { λ r. ⌜ now (areas .exit) ≡ written (areaAt (slopesBy width drawing (stands (now (sets .entry))) .rows)) (2 ^ drawing .n) (now (areas .entry)) ⌝ }
+    ensures { λ r. ⌜ now (gradients .exit) ≡ written (byRow width nan (slopesAt (slopesBy width drawing (stands (now (sets .entry)))))) (2 ^ drawing .n * width) (now (gradients .entry)) ⌝ }
 {
+    let n = drawing.n;
     let boxed = drawing.boxed;
-    let mut mask: usize = 0;
-    while mask < count {
-        let start = mask * width;
-        let end = start + width;
-        let area = row_with_gradient(drawing, sets[mask], mask, &mut gradients[start..end]);
-        areas[mask] = area;
-        presence[mask] = row_byte(boxed, sets[mask], mask);
-        mask += 1;
-    }
+    let circles = drawing.circles;
+    let points = drawing.points;
+    let container = drawing.container;
+    write_presence(boxed, n, sets, presence);
+    write_gradients(
+        boxed,
+        circles,
+        points,
+        n,
+        container.bounds(),
+        sets,
+        width,
+        areas,
+        gradients,
+    );
+    finish_rows(boxed, n, container.area(), sets, 1usize << n, width, areas, gradients);
 }

@@ -77,7 +77,7 @@ module _ (circles : List Circle) (counts : List ℕ) (phi : List Float) (p : ℕ
       ∙ rw (ed, le-ltb p 320 wide, le-ltb p 330 h)
 
 -- its circle is that of its head
-arc-head : (circles : List Circle) (counts : List ℕ) (phi : List Float) (p : ℕ) → arcAt circles counts phi p .circle ≡ headOf p
+pub arc-head : (circles : List Circle) (counts : List ℕ) (phi : List Float) (p : ℕ) → arcAt circles counts phi p .circle ≡ headOf p
 unfolding arcAt gapArc between fullCircle headOf
 arc-head circles counts phi p = by (ltb p 320) (ltb p 330)
   where
@@ -143,7 +143,7 @@ standing-past needed counts p h none q l u =
 -- ---- the arcs of a set are known
 
 -- every arc of a set is one of a head of the set
-head-placed : (n S : ℕ) (counts : List ℕ) (p : ℕ) → Placed n S counts p → headOf p < n
+pub head-placed : (n S : ℕ) (counts : List ℕ) (p : ℕ) → Placed n S counts p → headOf p < n
 head-placed n S counts p placed = by (ltb p 320) (ltb p 330) refl refl
   where
     by : (s t : Bool) → ltb p 320 ≡ s → ltb p 330 ≡ t → headOf p < n
@@ -154,25 +154,33 @@ head-placed n S counts p placed = by (ltb p 320) (ltb p 330) refl refl
 pub heads-placed : (n S : ℕ) (counts : List ℕ) (list : List ℕ) → Every (Placed n S counts) list → Every (λ p. headOf p < n) list
 heads-placed n S counts list placed = every-map list (head-placed n S counts) placed
 
-module _ (n S : ℕ) (counts : List ℕ) (most : n ≤ 10) (roomy : Roomy n S counts) (f : ℕ → Float) (value : List Float) (valued : Valued S counts f value) where
-  placed-known : (p : ℕ) → Placed n S counts p → Known n counts f value p
-  placed-known p placed =
+-- it can be read, and if its number is below 330 it is held
+module _ (n S : ℕ) (counts : List ℕ) (most : n ≤ 10) (roomy : Roomy n S counts) (p : ℕ) (placed : Placed n S counts p) where
+  pub placed-readable : Readable counts p
+  placed-readable =
       record {
-        below = head-placed n S counts p placed;
-        readable =
-            record {
-              next = λ h. placed .neighbours h .held;
-              few = λ h. roomy (p / 32) (placed .neighbours h .below) (placed .neighbours h .member);
-              far = λ h. omega (arith, placed .start h .below);
-            };
-        held = λ h. valued .here p h (is (ltb p 320) refl h);
+        next = λ h. placed .neighbours h .held;
+        few = λ h. roomy (p / 32) (placed .neighbours h .below) (placed .neighbours h .member);
+        far = λ h. omega (arith, placed .start h .below);
       }
+
+  pub placed-standing : p < 330 → standing S counts p ≡ true
+  placed-standing = is (ltb p 320) refl
     where
       is : (s : Bool) → ltb p 320 ≡ s → p < 330 → standing S counts p ≡ true
       is true e k =
           let h = ltb-true p 320 e in
           standing-near S counts p h ∙ rw (placed .neighbours h .member, lt-ltb (p % 32) (getD counts (p / 32) 0) (placed .neighbours h .held))
       is false e k = let h = ltb-false p 320 e in standing-whole S counts p h ∙ placed .whole h k .1
+
+module _ (n S : ℕ) (counts : List ℕ) (most : n ≤ 10) (roomy : Roomy n S counts) (f : ℕ → Float) (value : List Float) (valued : Valued S counts f value) where
+  pub placed-known : (p : ℕ) → Placed n S counts p → Known n counts f value p
+  placed-known p placed =
+      record {
+        below = head-placed n S counts p placed;
+        readable = placed-readable n S counts most roomy p placed;
+        held = λ h. valued .here p h (placed-standing n S counts most roomy p placed h);
+      }
 
   pub all-known : {circles : List Circle} {phi : List Float} {arcs : List BoundaryArc} {k : ℕ} {list : List ℕ} → Listing circles counts phi n S arcs k list
       → Every (Known n counts f value) (take k list)
@@ -189,17 +197,20 @@ terms-known n S circles counts phi xs ys rs most roomy held {k = k} {list = list
     }) (listing .placed)
 
 -- fewer heads are asked for
-pub valued-less : {needed : ℕ} {counts : List ℕ} {f : ℕ → Float} {value : List Float} (S : ℕ) → Subset S needed → Valued needed counts f value → Valued S counts f value
-valued-less {needed = needed} {counts = counts} S within held = record { here = λ p h i. held .here p h (by p (ltb p 320) refl i) }
+pub standing-more : (S needed : ℕ) (counts : List ℕ) → Subset S needed → (p : ℕ) → standing S counts p ≡ true → standing needed counts p ≡ true
+standing-more S needed counts within p = by (ltb p 320) refl
   where
-    by : (p : ℕ) (s : Bool) → ltb p 320 ≡ s → standing S counts p ≡ true → standing needed counts p ≡ true
-    by p true e i =
+    by : (s : Bool) → ltb p 320 ≡ s → standing S counts p ≡ true → standing needed counts p ≡ true
+    by true e i =
         let h = ltb-true p 320 e in
         let both = and-both (inSet S (p / 32)) (ltb (p % 32) (getD counts (p / 32) 0)) (sym (standing-near S counts p h) ∙ i) in
         standing-near needed counts p h ∙ rw (subset-head S needed within (p / 32) (both .0), both .1)
-    by p false e i =
+    by false e i =
         let h = ltb-false p 320 e in
         standing-whole needed counts p h ∙ subset-head S needed within (p - 320) (sym (standing-whole S counts p h) ∙ i)
+
+pub valued-less : {needed : ℕ} {counts : List ℕ} {f : ℕ → Float} {value : List Float} (S : ℕ) → Subset S needed → Valued needed counts f value → Valued S counts f value
+valued-less {needed = needed} {counts = counts} S within held = record { here = λ p h i. held .here p h (standing-more S needed counts within p i) }
 
 pub terms-less : {needed : ℕ} {circles : List Circle} {counts : List ℕ} {phi xs ys rs : List Float} (S : ℕ) → Subset S needed
     → TermsValued needed circles counts phi xs ys rs → TermsValued S circles counts phi xs ys rs
@@ -290,15 +301,15 @@ ready-roomy c n S counts owners phi lets ready j h i = ready j (rw (circles-many
 module _ (c : List Float) (n : ℕ) (points : List IntersectionPoint) (S : ℕ) (counts : List ℕ) (phi : List Float) (adopters : List ℕ)
     (most : n ≤ 10) (below : S < 2 ^ n) (few : Few (circlesIn c n) points) (marks : MarksOf (circlesIn c n) points S counts phi adopters) {k : ℕ} {list : List ℕ}
     (listing : Listing (circlesIn c n) counts phi n S (arcsBy (circlesIn c n) (marksIn counts phi adopters) S) k list) where
-  abbrev cs : List Circle
+  abbrev pub cs : List Circle
   cs = circlesIn c n
 
-  said : map (arcAt cs counts phi) (take k list) ≡ map (numbered (headsOf (length cs) S)) (outline (membersOf cs points S))
+  pub said : map (arcAt cs counts phi) (take k list) ≡ map (numbered (headsOf (length cs) S)) (outline (membersOf cs points S))
   said =
       listing .said ∙ arcs-same cs (marksIn counts phi adopters) (marksOf cs points) S marks
       ∙ arcs-are cs points S (rw (circles-many c n) below) few (omega (arith, circles-many c n))
 
-  heads-in : Every (λ p. headOf p < length cs) (take k list)
+  pub heads-in : Every (λ p. headOf p < length cs) (take k list)
   heads-in = every-map (take k list) (λ p h. omega (arith, h, circles-many c n)) (heads-placed n S counts (take k list) (listing .placed))
 
   pub row-in-box : (box : Bounds) {sum edges : Float} → emptyBox box ≡ false

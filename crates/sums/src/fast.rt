@@ -38,7 +38,7 @@ fn number_of(circle: Circle, i: usize) -> f64
 }
 
 // Three numbers a circle: an array of circles is not lent.
-fn numbers_of(circles: [Circle; 10], n_sets: usize) -> [f64; 30]
+pub(crate) fn numbers_of(circles: [Circle; 10], n_sets: usize) -> [f64; 30]
     requires { ⌜ «n_sets» ≤ 10 ⌝ }
     ensures { λ r. ⌜ circlesIn r «n_sets» ≡ take «n_sets» circles ⌝ }
 {
@@ -52,7 +52,7 @@ fn numbers_of(circles: [Circle; 10], n_sets: usize) -> [f64; 30]
 }
 
 // The heads of the sets below count that are wanted.
-fn wanted_heads(wanted: &[u8; 1024], count: usize) -> usize
+pub(crate) fn wanted_heads(wanted: &[u8; 1024], count: usize) -> usize
     requires { ⌜ count ≤ 1024 ⌝ }
     ensures { λ r. ⌜ OfWanted (now (wanted .entry)) count (λ S. Subset S r) ⌝ }
     ensures { λ r. ⌜ ((n : ℕ) → count ≤ 2 ^ n → r < 2 ^ n) ⌝ }
@@ -141,20 +141,7 @@ fn fast_row(
             list,
         );
     }
-    open_row(
-        mask,
-        c,
-        n_sets,
-        counts,
-        owners,
-        phi,
-        adopters,
-        lets,
-        xs,
-        ys,
-        rs,
-        list,
-    )
+    open_row(mask, c, n_sets, counts, owners, phi, adopters, lets, xs, ys, rs, list)
 }
 
 // The area of each set below count that is wanted, at the place of its mask.
@@ -239,40 +226,10 @@ fn write_marked(
     let mut low = [0.0f64; 40];
     let mut high = [0.0f64; 40];
     fill_worth(
-        clipped,
-        circles,
-        c,
-        n_sets,
-        bounds,
-        needed,
-        counts,
-        phi,
-        &mut xs,
-        &mut ys,
-        &mut rs,
-        &mut reach,
-        &mut low,
-        &mut high,
+        clipped, circles, c, n_sets, bounds, needed, counts, phi, &mut xs, &mut ys, &mut rs, &mut reach, &mut low, &mut high,
     );
     write_rows(
-        clipped,
-        wanted,
-        count,
-        areas,
-        c,
-        n_sets,
-        bounds,
-        counts,
-        owners,
-        phi,
-        adopters,
-        lets,
-        &xs,
-        &ys,
-        &rs,
-        &reach,
-        &low,
-        &high,
+        clipped, wanted, count, areas, c, n_sets, bounds, counts, owners, phi, adopters, lets, &xs, &ys, &rs, &reach, &low, &high,
     );
 }
 
@@ -302,30 +259,9 @@ pub(crate) fn write_fast(
     let mut adopters = [0usize; 320];
     let mut lets = [0usize; 320];
     fill_heads(
-        &c,
-        n_sets,
-        points,
-        needed,
-        &mut counts,
-        &mut owners,
-        &mut phi,
-        &mut adopters,
-        &mut lets,
+        &c, n_sets, points, needed, &mut counts, &mut owners, &mut phi, &mut adopters, &mut lets,
     );
     write_marked(
-        clipped,
-        wanted,
-        count,
-        areas,
-        circles,
-        &c,
-        n_sets,
-        bounds,
-        needed,
-        &counts,
-        &owners,
-        &phi,
-        &adopters,
-        &lets,
+        clipped, wanted, count, areas, circles, &c, n_sets, bounds, needed, &counts, &owners, &phi, &adopters, &lets,
     );
 }

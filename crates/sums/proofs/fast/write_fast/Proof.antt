@@ -12,15 +12,13 @@ use lib.Seq.{getD-take, take-all}
 use lib.Ieee.{Float, nan}
 use Rattle.lists.proofs.Arrays.{length-of-values}
 use mathlib.Core.Path.{subst}
-use mathlib.Core.List.{List}
-use Rattle.geometry.specs.declared.circle.Circle.{Circle}
-use Rattle.lists.specs.Written.{written}
 use Rattle.masks.specs.Presence.{stands}
 use Rattle.intersections.specs.Counted.{pointList}
 use Rattle.intersections.specs.Members.{membersOf}
-use Rattle.sums.specs.Rows.{areaOf, numberAt}
+use Rattle.sums.specs.Rows.{areaOf}
 use Rattle.sums.specs.Walk.{Few}
 use Rattle.sums.proofs.Counts.{count-few}
+use Rattle.sums.proofs.Passing.{written-alike}
 use Rattle.sums.proofs.Walking.{circles-many}
 use Rattle.sums.proofs.fast.write_fast.Statement.{statement}
 use Rattle.sums.proofs.fast.write_fast.Tie as tie
@@ -33,7 +31,8 @@ wanted-heads-requires c κs =
 fill-heads-requires : tie.Need-fill-heads-requires
 fill-heads-requires c κs =
     let n = c .before .before .before .before .before .before .before .before in
-    let s = n .before .before in (
+    let s = n .before .before in
+    (
       (s .pre .0, subst (λ cs. Few cs (pointList (s .args .points))) (sym (n .numbers-of .ensures)) (s .pre .1)),
       record { counts-long = search needs; owners-long = search needs; phi-long = search needs; adopters-long = search needs; lets-long = search needs },
     )
@@ -46,11 +45,12 @@ write-marked-requires c κs =
     let n = r .before in
     let s = n .before .before in
     let a = s .args in
-    let counted = count-few (a .n-sets) _ (length (a .areas .now)) (s .pre .0) (r .row-count .ensures) in (
+    let counted = count-few (a .n-sets) _ (length (a .areas .now)) (s .pre .0) (r .row-count .ensures) in
+    (
       (s .pre .0, counted .1),
       (
-        (w .wanted-heads .ensures .1 (a .n-sets) (counted .1 .0), (w .wanted-heads .ensures .0, n .numbers-of .ensures)),
-        λ j h i. f .fill-heads .ensures .1 .ready j (rw (circles-many _ (a .n-sets)) at h) i,
+      (w .wanted-heads .ensures .1 (a .n-sets) (counted .1 .0), (w .wanted-heads .ensures .0, n .numbers-of .ensures)),
+      λ j h i. f .fill-heads .ensures .1 .ready j (rw (circles-many _ (a .n-sets)) at h) i,
       ),
     )
 
@@ -62,12 +62,11 @@ returns c =
     let s = n .before .before in
     let a = s .args in
     let points = pointList (a .points) in
-    let done : List Circle → ℕ → List Float =
-    λ cs k. written (numberAt (stands (a .wanted .now)) (λ S. areaOf (a .clipped) (a .bounds) (membersOf cs points S)) (a .areas .now)) k (a .areas .now) in
-    m .write-marked .ensures points (subst (λ cs. Few cs points) (sym (n .numbers-of .ensures)) (s .pre .1))
-    (λ j h i. f .fill-heads .ensures .1 .marks j (rw (circles-many _ (a .n-sets)) at h) i)
-    ∙ ap (λ cs. done cs (f .before .before .before .before .before .before .before .before .row-count .result)) (n .numbers-of .ensures)
-    ∙ ap (done (take (a .n-sets) (a .circles))) (f .before .before .before .before .before .before .before .before .row-count .ensures)
+    written-alike (λ cs S. areaOf (a .clipped) (a .bounds) (membersOf cs points S)) (stands (a .wanted .now)) (a .areas .now)
+    (m .write-marked .ensures points (subst (λ cs. Few cs points) (sym (n .numbers-of .ensures)) (s .pre .1))
+    (λ j h i. f .fill-heads .ensures .1 .marks j (rw (circles-many _ (a .n-sets)) at h) i))
+    (n .numbers-of .ensures)
+    (f .before .before .before .before .before .before .before .before .row-count .ensures)
 
 pub write-fast-spec : {M : Type 1} → statement M
 write-fast-spec =

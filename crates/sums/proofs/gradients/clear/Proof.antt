@@ -1,17 +1,17 @@
--- `rows::clear` meets its contract. The invariant: the first i numbers are +0, the others are as they were.
+-- `gradients::clear` meets its contract. The invariant: the first i numbers are +0, the others are as they were.
 use mathlib.Core.Path.{_≡_, refl, ap, _∙_}
 use mathlib.Core.List.{List}
-use Prim.Native.Nat.{ℕ, _+_, _-_, _≤_, _<_}
+use Prim.Native.Nat.{_+_, _-_, _≤_}
 use native.Mathlib.Omega.{arith}
 use lib.Ieee.{Float, nan}
 use lib.ListN.{length, set, length-set}
 use Rattle.lists.specs.Written.{written}
 use Rattle.lists.proofs.Writing.{written-none, write-next, written-whole}
 use Rattle.binary64.specs.Constants.{zero64}
-use Rattle.diagram.proofs.Laying.{tab-alike}
+use Rattle.sums.proofs.Laid.{tab-alike}
 use borrow.Author.Needs.{needs}
-use Rattle.diagram.proofs.rows.clear.Statement.{statement}
-use Rattle.diagram.proofs.rows.clear.Tie as tie
+use Rattle.sums.proofs.gradients.clear.Statement.{statement}
+use Rattle.sums.proofs.gradients.clear.Tie as tie
 
 abbrev Inv-loop : tie.InvT-loop
 Inv-loop numbers₀ i₀ numbers i = (i ≤ length numbers₀) × (length numbers ≡ length numbers₀) × (numbers ≡ written (λ k. zero64) i numbers₀)

@@ -1,0 +1,63 @@
+-- `gradient::open_row_with_gradient`: the first arcs that the walk lists.
+use borrow.Author.Needs.{needs}
+use mathlib.Core.Path.{_≡_}
+use Prim.Native.Nat.{ℕ, _≤_, _<_}
+use native.Mathlib.Omega.{arith}
+use lib.ListN.{length, take}
+use Rattle.sums.specs.Walk.{circlesIn}
+use Rattle.sums.proofs.Valuing.{terms-known, ready-roomy}
+use Rattle.sums.proofs.Sloping.{slopes-known, every-first, row-open-with}
+use Rattle.sums.proofs.gradient.open_row_with_gradient.Statement.{statement}
+use Rattle.sums.proofs.gradient.open_row_with_gradient.Tie as tie
+
+walk-requires : tie.Need-walk-requires
+walk-requires c κs = let s = c .before .before in (s .pre .0, s .pre .1 .0)
+
+add-slopes-requires : tie.Need-add-slopes-requires
+add-slopes-requires c κs =
+    let f = c .before .before in
+    let w = f .before in
+    let s = w .before .before .before in
+    let a = s .args in
+    let listing = w .walk .ensures .1 in
+    let roomy = ready-roomy (a .c .now) (a .n-sets) (a .mask) (a .counts .now) (a .owners .now) (a .phi .now) (a .lets .now) (s .pre .1 .0) in
+    (
+      (s .pre .0 .0, (omega (arith, f .first-arcs .ensures, w .walk .ensures .0), listing .long)),
+      every-first _ (w .walk .result) (f .first-arcs .result) _ (f .first-arcs .ensures)
+          (slopes-known (a .n-sets) (a .mask) (circlesIn (a .c .now) (a .n-sets)) (a .counts .now) (a .phi .now) (a .us .now) (a .vs .now) (a .ws .now) (s .pre .0 .0) roomy
+          (s .pre .1 .1 .1) _ (listing .placed)),
+    )
+
+add-terms-requires : tie.Need-add-terms-requires
+add-terms-requires c κs =
+    let f = c .before .before .before .before .before .before in
+    let w = f .before in
+    let s = w .before .before .before in
+    let a = s .args in
+    let listing = w .walk .ensures .1 in
+    let roomy = ready-roomy (a .c .now) (a .n-sets) (a .mask) (a .counts .now) (a .owners .now) (a .phi .now) (a .lets .now) (s .pre .1 .0) in
+    (
+      (s .pre .0 .0, (omega (arith, f .first-arcs .ensures, w .walk .ensures .0), listing .long)),
+      every-first _ (w .walk .result) (f .first-arcs .result) _ (f .first-arcs .ensures)
+          (terms-known (a .n-sets) (a .mask) (circlesIn (a .c .now) (a .n-sets)) (a .counts .now) (a .phi .now) (a .xs .now) (a .ys .now) (a .rs .now) (s .pre .0 .0) roomy
+          (s .pre .1 .1 .0) listing),
+    )
+
+returns : tie.Need-returns
+returns c =
+    let sl = c .before .before .before .before in
+    let f = sl .before .before .before in
+    let w = f .before in
+    let s = w .before .before .before in
+    let a = s .args in
+    let listing = w .walk .ensures .1 in
+    (
+      listing .long,
+      λ points few marks.
+          row-open-with (a .c .now) (a .n-sets) points (a .mask) (a .counts .now) (a .phi .now) (a .adopters .now) (s .pre .0 .0) (s .pre .0 .1 .0) few marks
+          listing (a .grad .now) (f .first-arcs .ensures) (c .add-terms .ensures) (sl .add-slopes .ensures),
+    )
+
+pub open-row-with-gradient-spec : {M : Type 1} → statement M
+open-row-with-gradient-spec =
+    tie.close (tie.spec walk-requires (λ c κs. search needs) add-slopes-requires add-terms-requires (λ c. search needs) returns)
