@@ -70,13 +70,13 @@ module _ (circles : List Circle) (counts : List ℕ) (phi : List Float) where
 -- ---- the arcs of a set are known
 
 pub slopes-known : (n S : ℕ) (circles : List Circle) (counts : List ℕ) (phi xs ys rs : List Float) → n ≤ 10 → Roomy n S counts → SlopesValued S circles counts phi xs ys rs
-    → (list : List ℕ) → Every (Placed n S counts) list → Every (SlopesKnown n circles counts phi xs ys rs) list
-slopes-known n S circles counts phi xs ys rs most roomy held list placed =
-    every-map list (λ p h. record {
+    → {arcs : List BoundaryArc} {k : ℕ} {list : List ℕ} → Listing circles counts phi n S arcs k list → Every (SlopesKnown n circles counts phi xs ys rs) (take k list)
+slopes-known n S circles counts phi xs ys rs most roomy held {k = k} {list = list} listing =
+    every-map (take k list) (λ p h. record {
       x = placed-known n S counts most roomy (termOf slopeX circles counts phi) xs (held .x) p h;
       y = placed-known n S counts most roomy (termOf slopeY circles counts phi) ys (held .y) p h;
       r = placed-known n S counts most roomy (termOf slopeR circles counts phi) rs (held .r) p h;
-    }) placed
+    }) (listing .placed)
 
 pub slopes-less : {needed : ℕ} {circles : List Circle} {counts : List ℕ} {phi xs ys rs : List Float} (S : ℕ) → Subset S needed
     → SlopesValued needed circles counts phi xs ys rs → SlopesValued S circles counts phi xs ys rs
@@ -84,14 +84,15 @@ slopes-less S within held = record { x = valued-less S within (held .x); y = val
 
 module _ {box : Bounds} {circles : List Circle} {counts : List ℕ} {phi : List Float} {first many : List ℕ} {sums xs ys rs : List Float} {stop : ℕ} where
   pub parts-known : (n S : ℕ) → n ≤ 10 → Roomy n S counts → PartsValued box circles S counts phi first many sums xs ys rs stop
-      → (list : List ℕ) → Every (Placed n S counts) list → Every (PartsKnown n box circles counts phi first many sums xs ys rs stop) list
-  parts-known n S most roomy held list placed =
-      every-map list (λ p h. record {
+      → {arcs : List BoundaryArc} {k : ℕ} {list : List ℕ} → Listing circles counts phi n S arcs k list
+      → Every (PartsKnown n box circles counts phi first many sums xs ys rs stop) (take k list)
+  parts-known n S most roomy held {k = k} {list = list} listing =
+      every-map (take k list) (λ p h. record {
         below = head-placed n S counts p h;
         readable = placed-readable n S counts most roomy p h;
         within = held .within;
-        held = λ k. held .held p k (placed-standing n S counts most roomy p h (omega (arith, k, held .within)));
-      }) placed
+        held = λ b. held .held p b (placed-standing n S counts most roomy p h (omega (arith, b, held .within)));
+      }) (listing .placed)
 
   pub parts-less : {needed : ℕ} (S : ℕ) → Subset S needed → PartsValued box circles needed counts phi first many sums xs ys rs stop
       → PartsValued box circles S counts phi first many sums xs ys rs stop

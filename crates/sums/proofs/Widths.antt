@@ -15,9 +15,10 @@ use Rattle.geometry.specs.declared.circle.Circle.{Circle}
 use Rattle.intersections.specs.declared.points.IntersectionPoint.{IntersectionPoint}
 use Rattle.intersections.specs.Members.{noCircle}
 use Rattle.boundary.specs.declared.arcs.BoundaryArc.{BoundaryArc}
+use Rattle.boundary.specs.Set.{regionArcs}
 use Rattle.inside.specs.Breaks.{breaks}
 use Rattle.inside.specs.Parts.{summed}
-use Rattle.inside.specs.Span.{Interval}
+use Rattle.inside.specs.Span.{Interval, horizontalSpan, verticalSpan}
 use Rattle.outline.specs.Area.{addAt, subAt, arcSlopes, addSlopes, addGradient}
 use Rattle.clip.specs.declared.edges.Edge.{Edge}
 use Rattle.clip.specs.Area.{emptyBox}
@@ -39,7 +40,7 @@ either false x y n e f = f
 
 slopes : (g : List Float) (c : Circle) (arc : BoundaryArc) → length (arcSlopes g c arc) ≡ length g
 unfolding arcSlopes
-slopes g c arc = added _ _ _ ∙ taken _ _ _ ∙ added g _ _
+slopes g c arc = simp length-set
 
 one-of : (b : Bool) (x y : List Float) (n : ℕ) → length x ≡ n → length y ≡ n → length (cond b x y) ≡ n
 one-of true x y n e f = e
@@ -58,7 +59,7 @@ arcs-open cs g (arc ∷ arcs) = arcs-open cs (addSlopes cs g arc) arcs ∙ arc-o
 
 share : (c : Circle) (off : ℕ) (sa ca sb cb delta : Float) (s : WithGradient) → length (subArcWithGradient c off sa ca sb cb delta s .grad) ≡ length (s .grad)
 unfolding subArcWithGradient partSlopes
-share c off sa ca sb cb delta s = added _ _ _ ∙ taken _ _ _ ∙ added (s .grad) _ _
+share c off sa ca sb cb delta s = simp length-set
 
 part : (box : Bounds) (c : Circle) (off : ℕ) (s : WithGradient) (a b : Float) → length (addPartWithGradient box c off s a b .grad) ≡ length (s .grad)
 unfolding addPartWithGradient
@@ -93,7 +94,7 @@ shifted false g i x = taken g i x
 
 edge : (e : Edge) (at : ℕ) (l : Float) (g : List Float) → length (edgeSlopes e at l g) ≡ length g
 unfolding edgeSlopes
-edge e at l g = shifted (e .upright) _ _ _ ∙ added _ _ _ ∙ shifted (e .outward) g _ _
+edge e at l g = simp (shifted, length-set)
 
 span : (e : Edge) (at : ℕ) (l : List Interval) (s : WithGradient) → length (addSpanWithGradient e at s l .grad) ≡ length (s .grad)
 unfolding addSpanWithGradient
@@ -104,7 +105,15 @@ span e at (i ∷ rest) s =
 
 edges : (box : Bounds) (cs : List Circle) (at : ℕ) (s : WithGradient) → length (addEdgesWithGradient box cs at s .grad) ≡ length (s .grad)
 unfolding addEdgesWithGradient
-edges box cs at s = span (leftEdge box) at _ _ ∙ span (topEdge box) at _ _ ∙ span (rightEdge box) at _ _ ∙ span (bottomEdge box) at _ s
+edges box cs at s =
+    let bottom = horizontalSpan (box .«y_min») (box .«x_min») (box .«x_max») cs in
+    let right = verticalSpan (box .«x_max») (box .«y_min») (box .«y_max») cs in
+    let top = horizontalSpan (box .«y_max») (box .«x_min») (box .«x_max») cs in
+    let left = verticalSpan (box .«x_min») (box .«y_min») (box .«y_max») cs in
+    let s1 = addSpanWithGradient (bottomEdge box) at s bottom in
+    let s2 = addSpanWithGradient (rightEdge box) at s1 right in
+    let s3 = addSpanWithGradient (topEdge box) at s2 top in
+    span (leftEdge box) at left s3 ∙ span (topEdge box) at top s2 ∙ span (rightEdge box) at right s1 ∙ span (bottomEdge box) at bottom s
 
 clipped-width : (box : Bounds) (all own : List Circle) (arcs : List BoundaryArc) (g : List Float) → length (clippedWithGradient box all own arcs g .grad) ≡ length g
 unfolding clippedWithGradient
@@ -118,4 +127,4 @@ clipped-width box all own arcs g =
 pub row-width : (clipped : Bool) (box : Bounds) (circles : List Circle) (points : List IntersectionPoint) (width S : ℕ)
     → length (rowWith clipped box circles points width S .grad) ≡ width
 row-width true box circles points width S = clipped-width box circles _ _ (replicate width zero64) ∙ length-replicate width zero64
-row-width false box circles points width S = arcs-open circles (replicate width zero64) _ ∙ length-replicate width zero64
+row-width false box circles points width S = arcs-open circles (replicate width zero64) (regionArcs circles points S) ∙ length-replicate width zero64

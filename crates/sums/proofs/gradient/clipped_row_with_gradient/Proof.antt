@@ -41,7 +41,7 @@ add-parts-requires c κs =
     (
       (s .pre .0 .0, (omega (arith, f .first-arcs .ensures, w .walk .ensures .0), listing .long)),
       every-first _ (w .walk .result) (f .first-arcs .result) _ (f .first-arcs .ensures)
-          (parts-known (a .n-sets) (a .mask) (s .pre .0 .0) roomy (s .pre .1 .1 .0) _ (listing .placed)),
+          (parts-known (a .n-sets) (a .mask) (s .pre .0 .0) roomy (s .pre .1 .1 .0) listing),
     )
 
 add-edges-with-gradient-requires : tie.Need-add-edges-with-gradient-requires

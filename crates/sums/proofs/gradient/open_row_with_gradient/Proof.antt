@@ -25,7 +25,7 @@ add-slopes-requires c κs =
       (s .pre .0 .0, (omega (arith, f .first-arcs .ensures, w .walk .ensures .0), listing .long)),
       every-first _ (w .walk .result) (f .first-arcs .result) _ (f .first-arcs .ensures)
           (slopes-known (a .n-sets) (a .mask) (circlesIn (a .c .now) (a .n-sets)) (a .counts .now) (a .phi .now) (a .us .now) (a .vs .now) (a .ws .now) (s .pre .0 .0) roomy
-          (s .pre .1 .1 .1) _ (listing .placed)),
+          (s .pre .1 .1 .1) listing),
     )
 
 add-terms-requires : tie.Need-add-terms-requires
