@@ -20,8 +20,7 @@ add-slopes-requires c κs =
     let s = w .before .before .before in
     let a = s .args in
     let listing = w .walk .ensures .1 in
-    let roomy = ready-roomy (a .c .now) (a .n-sets) (a .mask) (a .counts .now) (a .owners .now) (a .phi .now) (a .lets .now) (s .pre .1 .0) in
-    (
+    let roomy = ready-roomy (a .c .now) (a .n-sets) (a .mask) (a .counts .now) (a .owners .now) (a .phi .now) (a .lets .now) (s .pre .1 .0) in (
       (s .pre .0 .0, (omega (arith, f .first-arcs .ensures, w .walk .ensures .0), listing .long)),
       every-first _ (w .walk .result) (f .first-arcs .result) _ (f .first-arcs .ensures)
           (slopes-known (a .n-sets) (a .mask) (circlesIn (a .c .now) (a .n-sets)) (a .counts .now) (a .phi .now) (a .us .now) (a .vs .now) (a .ws .now) (s .pre .0 .0) roomy
@@ -35,8 +34,7 @@ add-terms-requires c κs =
     let s = w .before .before .before in
     let a = s .args in
     let listing = w .walk .ensures .1 in
-    let roomy = ready-roomy (a .c .now) (a .n-sets) (a .mask) (a .counts .now) (a .owners .now) (a .phi .now) (a .lets .now) (s .pre .1 .0) in
-    (
+    let roomy = ready-roomy (a .c .now) (a .n-sets) (a .mask) (a .counts .now) (a .owners .now) (a .phi .now) (a .lets .now) (s .pre .1 .0) in (
       (s .pre .0 .0, (omega (arith, f .first-arcs .ensures, w .walk .ensures .0), listing .long)),
       every-first _ (w .walk .result) (f .first-arcs .result) _ (f .first-arcs .ensures)
           (terms-known (a .n-sets) (a .mask) (circlesIn (a .c .now) (a .n-sets)) (a .counts .now) (a .phi .now) (a .xs .now) (a .ys .now) (a .rs .now) (s .pre .0 .0) roomy
@@ -50,8 +48,7 @@ returns c =
     let w = f .before in
     let s = w .before .before .before in
     let a = s .args in
-    let listing = w .walk .ensures .1 in
-    (
+    let listing = w .walk .ensures .1 in (
       listing .long,
       λ points few marks.
           row-open-with (a .c .now) (a .n-sets) points (a .mask) (a .counts .now) (a .phi .now) (a .adopters .now) (s .pre .0 .0) (s .pre .0 .1 .0) few marks

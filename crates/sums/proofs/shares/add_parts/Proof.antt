@@ -40,8 +40,7 @@ loop-again c =
     let t = c .before .before in
     let d = t .before .before .before .before in
     let a = d .before .before .args in
-    let l = d .loop in
-    (
+    let l = d .loop in (
       l .inv .0,
       omega arith,
       t .add-parts-at .kept .1 .0 ∙ l .inv .2,

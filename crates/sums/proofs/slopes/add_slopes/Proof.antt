@@ -37,8 +37,7 @@ loop-again c =
     let t = c .before .before in
     let d = t .before .before .before .before in
     let a = d .before .before .args in
-    let l = d .loop in
-    (
+    let l = d .loop in (
       l .inv .0,
       omega arith,
       t .add-slopes-at .kept .0 ∙ l .inv .2,

@@ -66,8 +66,7 @@ loop-again c =
     let l = d .before .loop in
     let is = sym (i .is-standing .ensures) ∙ h .before .if1 .taken in
     let head = standing-below (a .n-sets) (a .needed) (a .counts .now) (s .pre .0 .1 .0) (s .pre .0 .1 .1) (l .p) (d .loop-test .taken) is in
-    let circle = k .before .circle-at .ensures ∙ ap (circleIn (a .c .now)) (h .head-of .ensures) in
-    (
+    let circle = k .before .circle-at .ensures ∙ ap (circleIn (a .c .now)) (h .head-of .ensures) in (
       simp length-set (l .inv .0),
       simp length-set (l .inv .1),
       simp length-set (l .inv .2),
@@ -89,8 +88,7 @@ loop-again-2 c =
     let l = i .before .before .loop in
     let a = i .before .before .before .args in
     let none : (q : ℕ) → l .p ≤ q → q < _ → standing (a .needed) (a .counts .now) q ≡ true → ⊥ =
-        λ q h k is. true≢false (sym is ∙ c .past .ensures .1 (a .needed) (a .counts .now) (sym (i .is-standing .ensures) ∙ c .before .if1 .left) q h k) in
-    (
+    λ q h k is. true≢false (sym is ∙ c .past .ensures .1 (a .needed) (a .counts .now) (sym (i .is-standing .ensures) ∙ c .before .if1 .left) q h k) in (
       l .inv .0,
       l .inv .1,
       l .inv .2,
