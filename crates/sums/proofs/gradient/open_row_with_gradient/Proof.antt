@@ -5,8 +5,8 @@ use Prim.Native.Nat.{ℕ, _≤_, _<_}
 use native.Mathlib.Omega.{arith}
 use lib.ListN.{length, take}
 use Rattle.sums.specs.Walk.{circlesIn}
-use Rattle.sums.proofs.Valuing.{terms-known, ready-roomy}
-use Rattle.sums.proofs.Sloping.{slopes-known, every-first, row-open-with}
+use Rattle.sums.proofs.Valuing.{three-known, ready-roomy}
+use Rattle.sums.proofs.Sloping.{every-first, row-open-with}
 use Rattle.sums.proofs.gradient.open_row_with_gradient.Statement.{statement}
 use Rattle.sums.proofs.gradient.open_row_with_gradient.Tie as tie
 
@@ -23,8 +23,7 @@ add-slopes-requires c κs =
     let roomy = ready-roomy (a .c .now) (a .n-sets) (a .mask) (a .counts .now) (a .owners .now) (a .phi .now) (a .lets .now) (s .pre .1 .0) in (
       (s .pre .0 .0, (omega (arith, f .first-arcs .ensures, w .walk .ensures .0), listing .long)),
       every-first _ (w .walk .result) (f .first-arcs .result) _ (f .first-arcs .ensures)
-          (slopes-known (a .n-sets) (a .mask) (circlesIn (a .c .now) (a .n-sets)) (a .counts .now) (a .phi .now) (a .us .now) (a .vs .now) (a .ws .now) (s .pre .0 .0) roomy
-          (s .pre .1 .1 .1) listing),
+          (three-known (a .n-sets) (a .mask) (s .pre .0 .0) roomy (s .pre .1 .1 .1) listing),
     )
 
 add-terms-requires : tie.Need-add-terms-requires
@@ -37,8 +36,7 @@ add-terms-requires c κs =
     let roomy = ready-roomy (a .c .now) (a .n-sets) (a .mask) (a .counts .now) (a .owners .now) (a .phi .now) (a .lets .now) (s .pre .1 .0) in (
       (s .pre .0 .0, (omega (arith, f .first-arcs .ensures, w .walk .ensures .0), listing .long)),
       every-first _ (w .walk .result) (f .first-arcs .result) _ (f .first-arcs .ensures)
-          (terms-known (a .n-sets) (a .mask) (circlesIn (a .c .now) (a .n-sets)) (a .counts .now) (a .phi .now) (a .xs .now) (a .ys .now) (a .rs .now) (s .pre .0 .0) roomy
-          (s .pre .1 .1 .0) listing),
+          (three-known (a .n-sets) (a .mask) (s .pre .0 .0) roomy (s .pre .1 .1 .0) listing),
     )
 
 returns : tie.Need-returns
