@@ -6,11 +6,12 @@ use Prim.Native.Nat.{ℕ, _+_, _-_, _*_, _/_, _%_, _≤_, _<_, _^_}
 use native.Mathlib.Omega.{arith}
 use borrow.Author.Tests.{lt-ltb, le-ltb, ltb-true, ltb-false}
 use lib.Dec.{ltb}
-use lib.ListN.{length, getD, take}
+use lib.ListN.{length, getD, set, take, length-set, length-take}
+use lib.Seq.{getD-take}
 use lib.Ieee.{Float, nan}
 use Rattle.masks.specs.Mask.{inSet, Subset}
 use Rattle.masks.specs.Subset.{and-both, subset-head}
-use Rattle.lists.specs.Every.{Every, every-map}
+use Rattle.lists.specs.Every.{Every, every-map, every-at}
 use Rattle.lists.proofs.Folds.{fold-related}
 use Rattle.binary64.specs.Constants.{zero64, half64}
 use Rattle.binary64.specs.Floats.{_+ᶠ_, _*ᶠ_}
@@ -32,6 +33,7 @@ use Rattle.clip.proofs.Summing.{arcs-sum, clipped-sum}
 use Rattle.sums.specs.Walk.{circleIn, circlesIn, marksIn, Few, arcsBy, nextPlace, gapArc, arcAt, Angled, Placed, Listing, Ready}
 use Rattle.sums.proofs.Members.{marksOf, arcs-are, arcs-same}
 use Rattle.sums.specs.Values.{headOf, Readable, termX, termY, termR, termOf, addOne, Roomy, standing, Valued, Known, addTerms, ThreeValued, ThreeKnown, MarksOf}
+use Rattle.sums.proofs.Filling.{HeldTo, held-none, held-put, held-jump}
 use Rattle.sums.proofs.Walking.{circles-many, circle-of}
 
 -- ---- the arc of a number
@@ -140,7 +142,72 @@ standing-past needed counts p h none q l u =
     by true true e f = absurd (true≢false f)
     by true false e f = le-ltb (q % 32) (getD counts (p / 32) 0) (omega (arith, ltb-false (p % 32) (getD counts (p / 32) 0) e, l, u))
 
+-- ---- three terms of all arcs, put one after another
+
+-- the places below p that are asked for hold them, in arrays of so many places
+pub record ThreeTo (termA termB termC : Circle → BoundaryArc → Float) (places needed : ℕ) (circles : List Circle) (counts : List ℕ)
+    (phi xs ys rs : List Float) (p : ℕ) : Type 0 where
+  pub x-long : length xs ≡ places
+  pub y-long : length ys ≡ places
+  pub r-long : length rs ≡ places
+  pub within : p ≤ 330
+  pub x : HeldTo (λ q. standing needed counts q ≡ true) (termOf termA circles counts phi) nan xs p
+  pub y : HeldTo (λ q. standing needed counts q ≡ true) (termOf termB circles counts phi) nan ys p
+  pub r : HeldTo (λ q. standing needed counts q ≡ true) (termOf termC circles counts phi) nan rs p
+
+module _ {termA termB termC : Circle → BoundaryArc → Float} {places needed : ℕ} {counts : List ℕ} {phi xs ys rs : List Float} where
+  pub three-starts : {circles : List Circle} → length xs ≡ places → length ys ≡ places → length rs ≡ places
+      → ThreeTo termA termB termC places needed circles counts phi xs ys rs 0
+  three-starts hx hy hr =
+      record { x-long = hx; y-long = hy; r-long = hr; within = omega arith; x = held-none xs; y = held-none ys; r = held-none rs }
+
+  -- no place up to q is asked for
+  pub three-past : {circles : List Circle} {p q : ℕ} → ThreeTo termA termB termC places needed circles counts phi xs ys rs p → q ≤ 330
+      → ((i : ℕ) → p ≤ i → i < q → standing needed counts i ≡ false) → ThreeTo termA termB termC places needed circles counts phi xs ys rs q
+  three-past {p = p} {q = q} so-far within none =
+      let not-asked : (i : ℕ) → p ≤ i → i < q → standing needed counts i ≡ true → ⊥ = λ i h k is. true≢false (sym is ∙ none i h k) in
+      record {
+        x-long = so-far .x-long;
+        y-long = so-far .y-long;
+        r-long = so-far .r-long;
+        within = within;
+        x = held-jump not-asked (so-far .x);
+        y = held-jump not-asked (so-far .y);
+        r = held-jump not-asked (so-far .r);
+      }
+
+  -- those of one more arc, as code finds its circle and the arc
+  pub three-put : (c : List Float) (n : ℕ) {p : ℕ} → ThreeTo termA termB termC places needed (circlesIn c n) counts phi xs ys rs p
+      → 330 ≤ places → p < 330 → headOf p < n → {circle : Circle} {arc : BoundaryArc} → circle ≡ circleIn c (headOf p)
+      → ((circles : List Circle) → arc ≡ arcAt circles counts phi p) → {x y r : Float} → x ≡ termA circle arc → y ≡ termB circle arc
+      → r ≡ termC circle arc
+      → ThreeTo termA termB termC places needed (circlesIn c n) counts phi (set xs p x) (set ys p y) (set rs p r) (p + 1)
+  three-put c n {p} so-far room low head ec ea ex ey er =
+      record {
+        x-long = length-set xs p _ ∙ so-far .x-long;
+        y-long = length-set ys p _ ∙ so-far .y-long;
+        r-long = length-set rs p _ ∙ so-far .r-long;
+        within = omega arith;
+        x = held-put _ (omega arith) (ex ∙ term-is termA c n counts phi p head ec ea) (so-far .x);
+        y = held-put _ (omega arith) (ey ∙ term-is termB c n counts phi p head ec ea) (so-far .y);
+        r = held-put _ (omega arith) (er ∙ term-is termC c n counts phi p head ec ea) (so-far .r);
+      }
+
+  pub three-all : {circles : List Circle} {p : ℕ} → 330 ≤ p → ThreeTo termA termB termC places needed circles counts phi xs ys rs p
+      → ThreeValued termA termB termC needed circles counts phi xs ys rs
+  three-all all done =
+      record {
+        x = record { here = λ q h is. done .x .at q (omega arith) is };
+        y = record { here = λ q h is. done .y .at q (omega arith) is };
+        r = record { here = λ q h is. done .r .at q (omega arith) is };
+      }
+
 -- ---- the arcs of a set are known
+
+-- what is known of the first k of a list is known of each
+pub every-listed : (P : ℕ → Type 0) (k : ℕ) (list : List ℕ) (i : ℕ) → i < k → k ≤ length list → Every P (take k list) → P (getD list i 0)
+every-listed P k list i h long every =
+    rw (getD-take k list i 0 h) at (every-at P (take k list) i 0 (omega (arith, length-take k list)) every)
 
 -- every arc of a set is one of a head of the set
 pub head-placed : (n S : ℕ) (counts : List ℕ) (p : ℕ) → Placed n S counts p → headOf p < n
