@@ -24,7 +24,7 @@ use Rattle.sums.specs.Rows.{numberAt}
 use Rattle.sums.specs.Fast.{numberOf, OfWanted, Worth}
 use Rattle.sums.proofs.Filling.{HeldTo}
 use Rattle.sums.proofs.Spans.{chorded-less}
-use Rattle.sums.proofs.Valuing.{valued-less, terms-less}
+use Rattle.sums.proofs.Valuing.{valued-less, three-less}
 
 -- ---- three numbers a circle
 
@@ -83,7 +83,7 @@ worth-less S within held =
     record {
       integrals = λ e. valued-less S within (held .integrals e);
       chords = λ e. chorded-less S within (held .chords e);
-      terms = λ e. terms-less S within (held .terms e);
+      terms = λ e. three-less S within (held .terms e);
     }
 
 -- ---- what is left, by equal circles and an equal count

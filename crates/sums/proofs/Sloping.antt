@@ -15,7 +15,7 @@ use lib.Ieee.{Float, nan}
 use Rattle.masks.specs.Mask.{Subset}
 use Rattle.lists.specs.Every.{Every, every-map, every-take}
 use Rattle.lists.specs.Lists.{overPairs}
-use Rattle.lists.proofs.Folds.{fold-related, pairs-on, pairs-end}
+use Rattle.lists.proofs.Folds.{pairs-on, pairs-end}
 use Rattle.elementary.specs.Sine.{sine as sin, cosine as cos}
 use Rattle.binary64.specs.Constants.{zero64, half64}
 use Rattle.binary64.specs.Floats.{_+ᶠ_, _-ᶠ_, _*ᶠ_}
@@ -36,11 +36,11 @@ use Rattle.clip.specs.Gradient.{WithGradient, with-gradient, onto, subArcByDiff
 use Rattle.clip.proofs.Rows.{gradient-by-sum}
 use Rattle.sums.specs.Walk.{circleIn, circlesIn, marksIn, arcAt, Few, arcsBy, Placed, Listing}
 use Rattle.sums.specs.Values.{headOf, termOf, addTerms, Roomy, standing, MarksOf}
-use Rattle.sums.specs.Slopes.{addThreeAt, slopeX, slopeY, slopeR, addSlopesAt, SlopesValued, SlopesKnown, addPartsAt, sharesFrom, PartsHeld, PartsValued, PartsKnown}
+use Rattle.sums.specs.Slopes.{addThreeAt, slopeX, slopeY, slopeR, addSlopesAt, addPartsAt, sharesFrom, PartsHeld, PartsValued, PartsKnown}
 use Rattle.sums.specs.Gradients.{WorthWith}
 use Rattle.sums.proofs.Walking.{circles-many, circle-of}
 use Rattle.sums.proofs.Spans.{chorded-less}
-use Rattle.sums.proofs.Valuing.{arc-head, head-placed, placed-readable, placed-standing, placed-known, standing-more, valued-less, terms-less, sum-open, said, heads-in}
+use Rattle.sums.proofs.Valuing.{arc-head, head-placed, placed-readable, placed-standing, standing-more, three-less, sum-by-arcs, sum-open, said, heads-in}
 
 -- ---- sums over numbers are sums over their arcs
 
@@ -51,9 +51,7 @@ module _ (circles : List Circle) (counts : List ℕ) (phi : List Float) where
 
   pub slopes-sum : (l : List ℕ) → Every (λ p. headOf p < length circles) l → (g : List Float)
       → foldl (addSlopesAt circles counts phi) g l ≡ addGradient circles g (map (arcAt circles counts phi) l)
-  slopes-sum l h g =
-      fold-related _≡_ (λ p. headOf p < length circles) (arcAt circles counts phi) (addSlopesAt circles counts phi) (addSlopes circles)
-      (λ a b p k e. rw e (slopes-at b p k)) l h g g refl
+  slopes-sum = sum-by-arcs circles counts phi (addSlopesAt circles counts phi) (addSlopes circles) slopes-at
 
   module _ (box : Bounds) where
     parts-at : (s : WithGradient) (p : ℕ) → headOf p < length circles
@@ -63,35 +61,21 @@ module _ (circles : List Circle) (counts : List ℕ) (phi : List Float) where
 
     pub parts-sum : (l : List ℕ) → Every (λ p. headOf p < length circles) l → (s : WithGradient)
         → foldl (addPartsAt box circles counts phi) s l ≡ addClippedArcsWithGradient box circles s (map (arcAt circles counts phi) l)
-    parts-sum l h s =
-        fold-related _≡_ (λ p. headOf p < length circles) (arcAt circles counts phi) (addPartsAt box circles counts phi) (addClippedArcWithGradient box circles)
-        (λ a b p k e. rw e (parts-at b p k)) l h s s refl
+    parts-sum = sum-by-arcs circles counts phi (addPartsAt box circles counts phi) (addClippedArcWithGradient box circles) parts-at
 
 -- ---- the arcs of a set are known
 
-pub slopes-known : (n S : ℕ) (circles : List Circle) (counts : List ℕ) (phi xs ys rs : List Float) → n ≤ 10 → Roomy n S counts → SlopesValued S circles counts phi xs ys rs
-    → (list : List ℕ) → Every (Placed n S counts) list → Every (SlopesKnown n circles counts phi xs ys rs) list
-slopes-known n S circles counts phi xs ys rs most roomy held list placed =
-    every-map list (λ p h. record {
-      x = placed-known n S counts most roomy (termOf slopeX circles counts phi) xs (held .x) p h;
-      y = placed-known n S counts most roomy (termOf slopeY circles counts phi) ys (held .y) p h;
-      r = placed-known n S counts most roomy (termOf slopeR circles counts phi) rs (held .r) p h;
-    }) placed
-
-pub slopes-less : {needed : ℕ} {circles : List Circle} {counts : List ℕ} {phi xs ys rs : List Float} (S : ℕ) → Subset S needed
-    → SlopesValued needed circles counts phi xs ys rs → SlopesValued S circles counts phi xs ys rs
-slopes-less S within held = record { x = valued-less S within (held .x); y = valued-less S within (held .y); r = valued-less S within (held .r) }
-
 module _ {box : Bounds} {circles : List Circle} {counts : List ℕ} {phi : List Float} {first many : List ℕ} {sums xs ys rs : List Float} {stop : ℕ} where
   pub parts-known : (n S : ℕ) → n ≤ 10 → Roomy n S counts → PartsValued box circles S counts phi first many sums xs ys rs stop
-      → (list : List ℕ) → Every (Placed n S counts) list → Every (PartsKnown n box circles counts phi first many sums xs ys rs stop) list
-  parts-known n S most roomy held list placed =
-      every-map list (λ p h. record {
+      → {arcs : List BoundaryArc} {k : ℕ} {list : List ℕ} → Listing circles counts phi n S arcs k list
+      → Every (PartsKnown n box circles counts phi first many sums xs ys rs stop) (take k list)
+  parts-known n S most roomy held {k = k} {list = list} listing =
+      every-map (take k list) (λ p h. record {
         below = head-placed n S counts p h;
         readable = placed-readable n S counts most roomy p h;
         within = held .within;
-        held = λ k. held .held p k (placed-standing n S counts most roomy p h (omega (arith, k, held .within)));
-      }) placed
+        held = λ b. held .held p b (placed-standing n S counts most roomy p h (omega (arith, b, held .within)));
+      }) (listing .placed)
 
   pub parts-less : {needed : ℕ} (S : ℕ) → Subset S needed → PartsValued box circles needed counts phi first many sums xs ys rs stop
       → PartsValued box circles S counts phi first many sums xs ys rs stop
@@ -442,7 +426,7 @@ module _ (c : List Float) (n : ℕ) (points : List IntersectionPoint) (S : ℕ) 
       → with-gradient (half64 *ᶠ sum) grad ≡ with-gradient (areaOf cs (regionArcs cs points S)) (addGradient cs g (regionArcs cs points S))
   unfolding areaOf
   row-open-with es eg =
-      rw (es, eg, sum-open cs counts phi (take m list) heads, slopes-sum cs counts phi (take m list) heads g, arcs-are)
+      rw (es, eg, sum-open cs counts phi (take m list) heads zero64, slopes-sum cs counts phi (take m list) heads g, arcs-are)
 
   pub row-in-box-with : (box : Bounds) (own : List Circle) {total sum : Float} {grad grad' : List Float} → emptyBox box ≡ false
       → with-gradient total grad ≡ foldl (addPartsAt box cs counts phi) (with-gradient zero64 g) (take m list)
@@ -464,6 +448,6 @@ worth-with-less S within held =
     record {
       parts = λ e. parts-less S within (held .parts e);
       chords = λ e. chorded-less S within (held .chords e);
-      terms = λ e. terms-less S within (held .terms e);
-      slopes = λ e. slopes-less S within (held .slopes e);
+      terms = λ e. three-less S within (held .terms e);
+      slopes = λ e. three-less S within (held .slopes e);
     }

@@ -16,7 +16,7 @@ use Rattle.boundary.specs.declared.arcs.BoundaryArc.{BoundaryArc}
 use Rattle.outline.specs.Area.{addAt, subAt}
 use Rattle.clip.specs.Gradient.{WithGradient, with-gradient, onto, clippedArcIntegralWithGradient}
 use Rattle.sums.specs.Walk.{arcAt}
-use Rattle.sums.specs.Values.{headOf, Readable, termOf, standing, Valued, Known}
+use Rattle.sums.specs.Values.{headOf, Readable, termOf, standing, ThreeValued, ThreeKnown}
 
 -- three numbers, in the entries of a head by x, y and radius
 unfoldable pub addThreeAt : ℕ → Float → Float → Float → List Float → List Float
@@ -39,15 +39,11 @@ addSlopesAt circles counts phi g p =
     addThreeAt (headOf p * 3) (termOf slopeX circles counts phi p) (termOf slopeY circles counts phi p) (termOf slopeR circles counts phi p) g
 
 -- what the arrays hold, and what is known of the arc of a number
-pub record SlopesValued (needed : ℕ) (circles : List Circle) (counts : List ℕ) (phi xs ys rs : List Float) : Type 0 where
-  pub x : Valued needed counts (termOf slopeX circles counts phi) xs
-  pub y : Valued needed counts (termOf slopeY circles counts phi) ys
-  pub r : Valued needed counts (termOf slopeR circles counts phi) rs
+abbrev pub SlopesValued : ℕ → List Circle → List ℕ → List Float → List Float → List Float → List Float → Type 0
+SlopesValued = ThreeValued slopeX slopeY slopeR
 
-pub record SlopesKnown (n : ℕ) (circles : List Circle) (counts : List ℕ) (phi xs ys rs : List Float) (p : ℕ) : Type 0 where
-  pub x : Known n counts (termOf slopeX circles counts phi) xs p
-  pub y : Known n counts (termOf slopeY circles counts phi) ys p
-  pub r : Known n counts (termOf slopeR circles counts phi) rs p
+abbrev pub SlopesKnown : ℕ → List Circle → List ℕ → List Float → List Float → List Float → List Float → ℕ → Type 0
+SlopesKnown = ThreeKnown slopeX slopeY slopeR
 
 -- ---- in the box
 

@@ -61,17 +61,7 @@ pub(crate) fn clipped_row_with_gradient(
     if empty_box(bounds) {
         return 0.0;
     }
-    let k = first_arcs(walk(
-        mask,
-        c,
-        n_sets,
-        counts,
-        owners,
-        phi,
-        adopters,
-        lets,
-        list,
-    ));
+    let k = first_arcs(walk(mask, c, n_sets, counts, owners, phi, adopters, lets, list));
     let total = add_parts(
         grad,
         list,
@@ -118,17 +108,7 @@ pub(crate) fn open_row_with_gradient(
     ensures { λ r. ⌜ length (now (list .exit)) ≡ 320 ⌝ }
     ensures { λ r. ⌜ ((points : List IntersectionPoint) → Few (circlesIn (now (c .entry)) «n_sets») points → MarksOf (circlesIn (now (c .entry)) «n_sets») points mask (now (counts .entry)) (now (phi .entry)) (now (adopters .entry)) → with-gradient r (now (grad .exit)) ≡ openOnto (circlesIn (now (c .entry)) «n_sets») points mask (now (grad .entry))) ⌝ }
 {
-    let k = first_arcs(walk(
-        mask,
-        c,
-        n_sets,
-        counts,
-        owners,
-        phi,
-        adopters,
-        lets,
-        list,
-    ));
+    let k = first_arcs(walk(mask, c, n_sets, counts, owners, phi, adopters, lets, list));
     add_slopes(grad, list, k, c, n_sets, counts, phi, us, vs, ws);
     0.5 * add_terms(list, k, c, n_sets, counts, phi, xs, ys, rs)
 }

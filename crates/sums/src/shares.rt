@@ -88,7 +88,19 @@ fn put_parts(
         let a = breaks.phi[i];
         let b = breaks.phi[i + 1];
         if summed(bounds, c, a, b) {
-            sum = sum + put_part(c, sin(a), cos(a), sin(b), cos(b), b - a, used + many, xs, ys, rs);
+            sum = sum
+                + put_part(
+                    c,
+                    sin(a),
+                    cos(a),
+                    sin(b),
+                    cos(b),
+                    b - a,
+                    used + many,
+                    xs,
+                    ys,
+                    rs,
+                );
             many += 1;
         }
         i += 1;

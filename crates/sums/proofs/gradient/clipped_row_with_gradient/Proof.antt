@@ -19,8 +19,7 @@ returns : tie.Need-returns
 returns c =
     let s = c .before .before .before in
     let a = s .args in
-    let cs = circlesIn (a .c .now) (a .n-sets) in
-    (
+    let cs = circlesIn (a .c .now) (a .n-sets) in (
       s .pre .0 .1 .1,
       λ points few marks.
           gradient-of-nothing (a .bounds) cs (map (circleAt cs) (headsOf (length cs) (a .mask))) (regionArcs cs points (a .mask)) (a .grad .now)
@@ -37,11 +36,10 @@ add-parts-requires c κs =
     let s = w .before .before .before .before .before in
     let a = s .args in
     let listing = w .walk .ensures .1 in
-    let roomy = ready-roomy (a .c .now) (a .n-sets) (a .mask) (a .counts .now) (a .owners .now) (a .phi .now) (a .lets .now) (s .pre .1 .0) in
-    (
+    let roomy = ready-roomy (a .c .now) (a .n-sets) (a .mask) (a .counts .now) (a .owners .now) (a .phi .now) (a .lets .now) (s .pre .1 .0) in (
       (s .pre .0 .0, (omega (arith, f .first-arcs .ensures, w .walk .ensures .0), listing .long)),
       every-first _ (w .walk .result) (f .first-arcs .result) _ (f .first-arcs .ensures)
-          (parts-known (a .n-sets) (a .mask) (s .pre .0 .0) roomy (s .pre .1 .1 .0) _ (listing .placed)),
+          (parts-known (a .n-sets) (a .mask) (s .pre .0 .0) roomy (s .pre .1 .1 .0) listing),
     )
 
 add-edges-with-gradient-requires : tie.Need-add-edges-with-gradient-requires
@@ -66,8 +64,7 @@ returns-2 c =
     let s = el .before .before .before in
     let a = s .args in
     let listing = w .walk .ensures .1 in
-    let cs = circlesIn (a .c .now) (a .n-sets) in
-    (
+    let cs = circlesIn (a .c .now) (a .n-sets) in (
       listing .long,
       λ points few marks.
           row-in-box-with (a .c .now) (a .n-sets) points (a .mask) (a .counts .now) (a .phi .now) (a .adopters .now) (s .pre .0 .0) (s .pre .0 .1 .0) few marks

@@ -5,8 +5,8 @@ use Prim.Native.Nat.{ℕ, _≤_, _<_}
 use native.Mathlib.Omega.{arith}
 use lib.ListN.{length, take}
 use Rattle.sums.specs.Walk.{circlesIn}
-use Rattle.sums.proofs.Valuing.{terms-known, ready-roomy}
-use Rattle.sums.proofs.Sloping.{slopes-known, every-first, row-open-with}
+use Rattle.sums.proofs.Valuing.{three-known, ready-roomy}
+use Rattle.sums.proofs.Sloping.{every-first, row-open-with}
 use Rattle.sums.proofs.gradient.open_row_with_gradient.Statement.{statement}
 use Rattle.sums.proofs.gradient.open_row_with_gradient.Tie as tie
 
@@ -20,12 +20,10 @@ add-slopes-requires c κs =
     let s = w .before .before .before in
     let a = s .args in
     let listing = w .walk .ensures .1 in
-    let roomy = ready-roomy (a .c .now) (a .n-sets) (a .mask) (a .counts .now) (a .owners .now) (a .phi .now) (a .lets .now) (s .pre .1 .0) in
-    (
+    let roomy = ready-roomy (a .c .now) (a .n-sets) (a .mask) (a .counts .now) (a .owners .now) (a .phi .now) (a .lets .now) (s .pre .1 .0) in (
       (s .pre .0 .0, (omega (arith, f .first-arcs .ensures, w .walk .ensures .0), listing .long)),
       every-first _ (w .walk .result) (f .first-arcs .result) _ (f .first-arcs .ensures)
-          (slopes-known (a .n-sets) (a .mask) (circlesIn (a .c .now) (a .n-sets)) (a .counts .now) (a .phi .now) (a .us .now) (a .vs .now) (a .ws .now) (s .pre .0 .0) roomy
-          (s .pre .1 .1 .1) _ (listing .placed)),
+          (three-known (a .n-sets) (a .mask) (s .pre .0 .0) roomy (s .pre .1 .1 .1) listing),
     )
 
 add-terms-requires : tie.Need-add-terms-requires
@@ -35,12 +33,10 @@ add-terms-requires c κs =
     let s = w .before .before .before in
     let a = s .args in
     let listing = w .walk .ensures .1 in
-    let roomy = ready-roomy (a .c .now) (a .n-sets) (a .mask) (a .counts .now) (a .owners .now) (a .phi .now) (a .lets .now) (s .pre .1 .0) in
-    (
+    let roomy = ready-roomy (a .c .now) (a .n-sets) (a .mask) (a .counts .now) (a .owners .now) (a .phi .now) (a .lets .now) (s .pre .1 .0) in (
       (s .pre .0 .0, (omega (arith, f .first-arcs .ensures, w .walk .ensures .0), listing .long)),
       every-first _ (w .walk .result) (f .first-arcs .result) _ (f .first-arcs .ensures)
-          (terms-known (a .n-sets) (a .mask) (circlesIn (a .c .now) (a .n-sets)) (a .counts .now) (a .phi .now) (a .xs .now) (a .ys .now) (a .rs .now) (s .pre .0 .0) roomy
-          (s .pre .1 .1 .0) listing),
+          (three-known (a .n-sets) (a .mask) (s .pre .0 .0) roomy (s .pre .1 .1 .0) listing),
     )
 
 returns : tie.Need-returns
@@ -50,8 +46,7 @@ returns c =
     let w = f .before in
     let s = w .before .before .before in
     let a = s .args in
-    let listing = w .walk .ensures .1 in
-    (
+    let listing = w .walk .ensures .1 in (
       listing .long,
       λ points few marks.
           row-open-with (a .c .now) (a .n-sets) points (a .mask) (a .counts .now) (a .phi .now) (a .adopters .now) (s .pre .0 .0) (s .pre .0 .1 .0) few marks

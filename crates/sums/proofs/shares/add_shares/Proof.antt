@@ -53,8 +53,7 @@ loop-again c =
     let t = c .before .before in
     let d = t .before .before .before .before .before in
     let l = d .before .loop in
-    let a = d .before .before .before .args in
-    (
+    let a = d .before .before .before .args in (
       omega (arith, d .loop-test .taken),
       t .add-three-at .kept .0 ∙ l .inv .1,
       t .add-three-at .ensures ∙ rw (l .inv .2) (sym (shares-next (a .off) (a .xs .now) (a .ys .now) (a .rs .now) (a .from) (l .m) (a .grad .now))),

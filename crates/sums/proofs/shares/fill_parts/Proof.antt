@@ -82,8 +82,7 @@ loop-again c =
     let head = standing-below (a .n-sets) (a .needed) (a .counts .now) (s .pre .0 .1 .0) (s .pre .0 .1 .1) (l .p) (d .loop-test .taken) is in
     let circle = q .circle-at .ensures ∙ ap (circleIn (a .c .now)) (h .head-of .ensures) in
     let put = pp .put-parts .ensures in
-    let kept = put .1 .1 .0 in
-    (
+    let kept = put .1 .1 .0 in (
       length-set (l .first) (l .p) _ ∙ i .0,
       length-set (l .many) (l .p) _ ∙ i .1,
       length-set (l .sums) (l .p) _ ∙ i .2,
@@ -108,7 +107,7 @@ loop-again-2 c =
     let i = l .inv in
     let a = d .before .before .args in
     let none : (q : ℕ) → l .p ≤ q → q < _ → standing (a .needed) (a .counts .now) q ≡ true → ⊥ =
-        λ q h k is. true≢false (sym is ∙ c .past .ensures .1 (a .needed) (a .counts .now) (sym (w .is-standing .ensures) ∙ c .before .if2 .left) q h k) in
+    λ q h k is. true≢false (sym is ∙ c .past .ensures .1 (a .needed) (a .counts .now) (sym (w .is-standing .ensures) ∙ c .before .if2 .left) q h k) in
     (i .0, i .1, i .2, i .3, i .4, i .5, omega (arith, c .past .ensures .0 .1), i .7, parts-jump (i .8) none)
 
 returns-2 : tie.Need-returns-2 Inv-loop μ-loop

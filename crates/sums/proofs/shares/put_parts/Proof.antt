@@ -81,12 +81,12 @@ loop-again c =
     let more = d .loop-test .taken in
     ⊎-elim
     (λ w.
-        rw (w .12, w .13)
-        (putting-puts (l .inv) more refl refl (s .pre .0) (sym (u .summed .ensures) ∙ w .0 .taken)
-        (w .8 .ensures .0 ∙ rw (w .1 .ensures, w .2 .ensures, w .3 .ensures, w .4 .ensures))
-        (w .9 ∙ w .8 .ensures .1 .0 ∙ rw (w .1 .ensures, w .3 .ensures))
-        (w .10 ∙ w .8 .ensures .1 .1 .0 ∙ rw (w .2 .ensures, w .4 .ensures))
-        (w .11 ∙ w .8 .ensures .1 .1 .1)))
+    rw (w .12, w .13)
+    (putting-puts (l .inv) more refl refl (s .pre .0) (sym (u .summed .ensures) ∙ w .0 .taken)
+    (w .8 .ensures .0 ∙ rw (w .1 .ensures, w .2 .ensures, w .3 .ensures, w .4 .ensures))
+    (w .9 ∙ w .8 .ensures .1 .0 ∙ rw (w .1 .ensures, w .3 .ensures))
+    (w .10 ∙ w .8 .ensures .1 .1 .0 ∙ rw (w .2 .ensures, w .4 .ensures))
+    (w .11 ∙ w .8 .ensures .1 .1 .1)))
     (λ w. rw (w .1, w .2, w .3, w .4, w .5) (putting-skips (l .inv) more refl refl (sym (u .summed .ensures) ∙ w .0 .left)))
     (c .if1 .came)
 
@@ -96,8 +96,7 @@ returns c =
     let l = c .before .loop in
     let i = l .inv in
     let b = c .before .before .before in
-    let a = b .before .before .args in
-    (
+    let a = b .before .before .args in (
       omega (arith, i .most, i .within, i .few),
       (
         (i .x-long, (i .y-long, i .r-long)),

@@ -6,10 +6,10 @@ use Prim.Native.Nat.{ℕ, _+_, _-_, _≤_, _<_}
 use native.Mathlib.Omega.{arith}
 use lib.ListN.{length, take, length-take}
 use lib.Seq.{getD-take}
-use Rattle.lists.specs.Every.{every-at}
 use Rattle.lists.proofs.Folds.{fold-suc}
 use Rattle.sums.specs.Walk.{circlesIn}
 use Rattle.sums.specs.Slopes.{addSlopesAt}
+use Rattle.sums.proofs.Valuing.{every-listed}
 use Rattle.sums.proofs.slopes.add_slopes.Statement.{statement}
 use Rattle.sums.proofs.slopes.add_slopes.Tie as tie
 
@@ -29,16 +29,14 @@ add-slopes-at-requires c κs =
     let s = d .before .before .before in
     let a = s .args in
     let i = d .before .loop .i in
-    let inside : i < length (take (a .k) (a .list .now)) = omega (arith, length-take (a .k) (a .list .now)) in
-    (s .pre .0 .0, rw (getD-take (a .k) (a .list .now) i 0 (omega arith)) at (every-at _ (take (a .k) (a .list .now)) i 0 inside (s .pre .1)))
+    (s .pre .0 .0, every-listed _ (a .k) (a .list .now) i (omega arith) (omega arith) (s .pre .1))
 
 loop-again : tie.Need-loop-again Inv-loop μ-loop
 loop-again c =
     let t = c .before .before in
     let d = t .before .before .before .before in
     let a = d .before .before .args in
-    let l = d .loop in
-    (
+    let l = d .loop in (
       l .inv .0,
       omega arith,
       t .add-slopes-at .kept .0 ∙ l .inv .2,

@@ -12,11 +12,11 @@ use lib.Seq.{getD-take, take-all}
 use lib.Ieee.{Float, nan}
 use Rattle.lists.proofs.Arrays.{length-of-values}
 use mathlib.Core.List.{foldl}
-use Rattle.lists.specs.Every.{every-at}
 use Rattle.lists.proofs.Folds.{fold-suc}
 use Rattle.binary64.specs.Constants.{zero64}
 use Rattle.sums.specs.Walk.{circlesIn}
 use Rattle.sums.specs.Values.{addTerms}
+use Rattle.sums.proofs.Valuing.{every-listed}
 use Rattle.sums.proofs.terms.add_terms.Statement.{statement}
 use Rattle.sums.proofs.terms.add_terms.Tie as tie
 
@@ -36,8 +36,7 @@ add-arc-requires c κs =
     let s = d .before .before in
     let a = s .args in
     let i = d .before .loop .i in
-    let inside : i < length (take (a .k) (a .list .now)) = omega (arith, length-take (a .k) (a .list .now)) in
-    (s .pre .0 .0, rw (getD-take (a .k) (a .list .now) i 0 (omega arith)) at (every-at _ (take (a .k) (a .list .now)) i 0 inside (s .pre .1)))
+    (s .pre .0 .0, every-listed _ (a .k) (a .list .now) i (omega arith) (omega arith) (s .pre .1))
 
 loop-again : tie.Need-loop-again Inv-loop μ-loop
 loop-again c =

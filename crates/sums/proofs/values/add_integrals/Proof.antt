@@ -16,12 +16,12 @@ use Rattle.lists.proofs.Arrays.{length-of-values}
 use Rattle.masks.specs.Mask.{inSet}
 use Rattle.masks.specs.Operations.{in-by-shift}
 use mathlib.Core.List.{foldl}
-use Rattle.lists.specs.Every.{every-at}
 use Rattle.lists.proofs.Folds.{fold-suc}
 use Rattle.binary64.specs.Constants.{zero64}
 use Rattle.inside.specs.Parts.{clippedArcIntegral}
 use Rattle.sums.specs.Walk.{circlesIn}
 use Rattle.sums.specs.Values.{termOf, addOne}
+use Rattle.sums.proofs.Valuing.{every-listed}
 use Rattle.sums.proofs.values.add_integrals.Statement.{statement}
 use Rattle.sums.proofs.values.add_integrals.Tie as tie
 
@@ -42,8 +42,7 @@ integral-at-requires c κs =
     let s = d .before .before in
     let a = s .args in
     let i = d .before .loop .i in
-    let inside : i < length (take (a .k) (a .list .now)) = omega (arith, length-take (a .k) (a .list .now)) in
-    (s .pre .0 .0, rw (getD-take (a .k) (a .list .now) i 0 (omega arith)) at (every-at _ (take (a .k) (a .list .now)) i 0 inside (s .pre .1)))
+    (s .pre .0 .0, every-listed _ (a .k) (a .list .now) i (omega arith) (omega arith) (s .pre .1))
 
 loop-again : tie.Need-loop-again Inv-loop μ-loop
 loop-again c =
