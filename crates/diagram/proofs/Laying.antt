@@ -6,7 +6,7 @@ use Prim.Native.Nat.{ℕ, zero, suc, _+_, _*_, _/_, _%_, _≤_, _<_}
 use native.Mathlib.Nat.{le-refl, le-div-iff-mul-le, mod-lt, mul-le-mul-right, div-add-mod'}
 use native.Mathlib.Omega.{arith}
 use lib.Ieee.{Float, nan}
-use lib.ListN.{getD, length, replicate, set, take, drop, getD-replicate}
+use lib.ListN.{getD, length, replicate, set, take, drop, length-take, getD-replicate}
 use lib.Seq.{getD-set-same, getD-set-other, getD-take, getD-drop}
 use Rattle.binary64.specs.Constants.{zero64}
 use Rattle.lists.specs.Written.{tab, written}
@@ -16,6 +16,7 @@ use Rattle.clip.specs.Gradient.{WithGradient}
 use Rattle.sums.specs.Rows.{numberAt}
 use Rattle.sums.specs.Presence.{among}
 use Rattle.sums.specs.Gradients.{rowAt, rowAfter, rowsTo}
+use Rattle.sums.proofs.Laid.{tab-alike}
 use Rattle.diagram.specs.Rows.{inRow}
 
 -- ---- areas
@@ -45,6 +46,15 @@ areas-read hasBox sets box area m k l e =
         by false is = refl
 
 -- ---- gradients: all +0, then those of the sets written, then that of row 0
+
+pub box-twice : {A : Type 0} (hasBox : Bool) (box absent : A) → cond hasBox box absent ≡ cond hasBox (cond hasBox box absent) absent
+box-twice true box absent = refl
+box-twice false box absent = refl
+
+pub first-cleared : (m : ℕ) (l : List Float) → m ≤ length l → replicate (length (take m l)) zero64 ++ drop m l ≡ written (λ i. zero64) m l
+first-cleared m l room =
+    let many : length (take m l) ≡ m = omega (arith, length-take m l) in
+    ap (λ (t : List Float). t ++ drop m l) (ap (λ (j : ℕ). replicate j zero64) many ∙ sym (tab-alike zero64 m))
 
 module _ (hasBox : Bool) (sets : ℕ → Bool) (box : List Float) (row : ℕ → WithGradient) (width m : ℕ) (l k : List Float)
     (room : m * width ≤ length l) (written-sets : k ≡ rowsTo sets row width m (written (λ i. zero64) (m * width) l)) where
