@@ -30,7 +30,8 @@ row-cleared hasBox sets x box l room same (suc S) =
     ap (λ (y : Float). cond (sets (suc S)) y zero64) (getD-set-other l 0 (suc S) x nan (λ e. absurd (omega arith)))
 
 -- the areas of the sets, read where a pass has written them
-pub areas-read : (hasBox : Bool) (sets : ℕ → Bool) (box : Float) (area : ℕ → Float) (m : ℕ) (k l : List Float) → k ≡ written (numberAt sets area l) m l
+pub areas-read : (hasBox : Bool) (sets : ℕ → Bool) (box : Float) (area : ℕ → Float) (m : ℕ) (k l : List Float)
+    → k ≡ written (numberAt sets area l) m l
     → written (inRow hasBox sets box (λ S. getD k S nan) zero64) m k ≡ written (inRow hasBox sets box area zero64) m l
 areas-read hasBox sets box area m k l e =
     written-cong _ (inRow hasBox sets box area zero64) m k l row (ap (drop m) e ∙ drop-written _ m m l (le-refl m))
@@ -70,7 +71,8 @@ module _ (hasBox : Bool) (sets : ℕ → Bool) (box : List Float) (row : ℕ →
   number zero r some h below = absurd (omega arith)
   number (suc q) r some h below = by (sets (suc q))
     where
-      by : (b : Bool) → getD (cond b (row (suc q) .grad) (replicate width zero64)) r nan ≡ getD (cond b (row (suc q) .grad) (rowAt width none (suc q))) r nan
+      by : (b : Bool)
+          → getD (cond b (row (suc q) .grad) (replicate width zero64)) r nan ≡ getD (cond b (row (suc q) .grad) (rowAt width none (suc q))) r nan
       by true = refl
       by false =
           getD-replicate width r zero64 nan h
@@ -81,8 +83,10 @@ module _ (hasBox : Bool) (sets : ℕ → Bool) (box : List Float) (row : ℕ →
   past-first : (i : ℕ) → (0 + 1) * width ≤ i → i < m * width → byRow width nan rowOf i ≡ getD k i nan
   past-first i h below =
       let p = place i m width below in
-      number (i / width) (i % width) (le-div-iff-mul-le {k = width} {x = 1} {y = i} (p .0) .1 h) (mod-lt i (p .0)) (omega (arith, div-add-mod' i width))
-      ∙ sym (ap (λ (t : List Float). getD t i nan) written-sets ∙ written-before (byRow width nan (rowAfter sets row width none)) (m * width) i none nan below)
+      let some = le-div-iff-mul-le {k = width} {x = 1} {y = i} (p .0) .1 h in
+      number (i / width) (i % width) some (mod-lt i (p .0)) (omega (arith, div-add-mod' i width))
+      ∙ sym (ap (λ (t : List Float). getD t i nan) written-sets
+      ∙ written-before (byRow width nan (rowAfter sets row width none)) (m * width) i none nan below)
 
   same-length : length k ≡ length l
   same-length =
@@ -95,7 +99,8 @@ module _ (hasBox : Bool) (sets : ℕ → Bool) (box : List Float) (row : ℕ →
       ∙ drop-written (byRow width nan (rowAfter sets row width none)) (m * width) (m * width) none (le-refl (m * width))
       ∙ drop-written (λ i. zero64) (m * width) (m * width) l (le-refl (m * width))
 
-  pub rows-laid : (x : List Float) → 0 < m → x ≡ rowOf 0 → length x ≡ width → x ++ drop width k ≡ written (byRow width nan rowOf) (m * width) l
+  pub rows-laid : (x : List Float) → 0 < m → x ≡ rowOf 0 → length x ≡ width
+      → x ++ drop width k ≡ written (byRow width nan rowOf) (m * width) l
   rows-laid x some first wide =
       let F = byRow width nan rowOf in
       let z : 0 ≡ 0 * width = omega arith in

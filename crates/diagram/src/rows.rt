@@ -96,7 +96,17 @@ pub(crate) fn write_rows_with_gradients(
     let bounds = container.bounds();
     let end = (1usize << n) * width;
     clear(&mut gradients[..end]);
-    write_gradients(boxed, circles, points, n, bounds, sets, width, areas, gradients);
+    write_gradients(
+        boxed,
+        circles,
+        points,
+        n,
+        bounds,
+        sets,
+        width,
+        areas,
+        gradients,
+    );
     write_box_row(drawing, &mut gradients[..width]);
     finish_rows(drawing, sets, presence, areas);
 }

@@ -23,7 +23,8 @@ returns c =
     let G = slopesBy (a .width) d (stands (a .sets .now)) in
     let p = s .pre in
     let f = w .write-rows-with-gradients .ensures in
-    let z = left-with (d .n) G (a .presence .now) (a .exclusives .now) (a .gradients .now) (p .0) (p .1) (p .2) (p .3) _ _ _ (f .0) (f .1 .0) (f .1 .1) in
+    let z = left-with (d .n) G (a .presence .now) (a .exclusives .now) (a .gradients .now) (p .0) (p .1) (p .2) (p .3) _ _ _
+    (f .0) (f .1 .0) (f .1 .1) in
     let y = x .to-exclusive-areas-and-gradients .ensures in
     (f .0, (y .1 .0 ∙ z .0, y .1 .1 ∙ z .1))
 

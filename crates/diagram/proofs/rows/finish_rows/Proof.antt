@@ -43,12 +43,13 @@ returns c =
     let n = d .n in
     let few = s .pre .0 in
     let sets = stands (a .sets .now) in
+    let l = a .areas .now in
     let x = r .area .result in (
       c .before .before .write-presence .ensures ∙ bytes-all n few (among (d .boxed) sets) (a .presence .now) (s .pre .1),
       k .clear-absent .ensures
-          ∙ cleared-all n few (among (d .boxed) sets) (set (a .areas .now) 0 x) (a .areas .now) _ (omega (arith, length-set (a .areas .now) 0 x, s .pre .2))
-          (drop-set-lt (2 ^ n) (a .areas .now) 0 x (pow-pos n))
-          (λ S h. row-cleared (d .boxed) sets x (area (d .container)) (a .areas .now) (some-row r) (r .area .ensures) S),
+          ∙ cleared-all n few (among (d .boxed) sets) (set l 0 x) l _ (omega (arith, length-set l 0 x, s .pre .2))
+          (drop-set-lt (2 ^ n) l 0 x (pow-pos n))
+          (λ S h. row-cleared (d .boxed) sets x (area (d .container)) l (some-row r) (r .area .ensures) S),
     )
 
 pub finish-rows-spec : {M : Type 1} → statement M

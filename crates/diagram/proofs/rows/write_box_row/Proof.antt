@@ -22,7 +22,9 @@ entry c = c .before .before .before
 
 -- the row with the box's area at its place
 abbrev boxed : tie.Start → List Float
-boxed s = let d = s .args .drawing in set (replicate (length (s .args .grad .now)) zero64) (length (circlesOf d) * 3 + 2) (area (d .container))
+boxed s =
+    let d = s .args .drawing in
+    set (replicate (length (s .args .grad .now)) zero64) (length (circlesOf d) * 3 + 2) (area (d .container))
 
 returns : tie.Need-returns
 returns c =
@@ -34,10 +36,10 @@ returns c =
     let s = entry k in
     let d = s .args .drawing in
     let none : List Float = replicate (length (s .args .grad .now)) zero64 in
-    let at : m .at-most-ten .result ≡ length (circlesOf d) = m .at-most-ten .ensures ∙ sym (length-take (d .n) (d .circles) ∙ ap (min (d .n)) (ten s)) in
+    let heads = length-take (d .n) (d .circles) ∙ ap (min (d .n)) (ten s) in
     p .put-at .ensures
     ∙ ap (λ (l : List Float). set l (m .at-most-ten .result * 3 + 2) (r .area .result)) (k .clear .ensures)
-    ∙ ap₂ (λ (i : ℕ) (x : Float). set none (i * 3 + 2) x) at (r .area .ensures)
+    ∙ ap₂ (λ (i : ℕ) (x : Float). set none (i * 3 + 2) x) (m .at-most-ten .ensures ∙ sym heads) (r .area .ensures)
     ∙ sym (ap (λ (b : Bool). cond b (boxed s) none) (t .if1 .taken))
 
 returns-2 : tie.Need-returns-2

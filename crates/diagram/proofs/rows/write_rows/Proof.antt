@@ -28,7 +28,8 @@ returns c =
     let n = d .n in
     let sets = stands (a .sets .now) in
     let areas = w .write-areas .ensures
-    ∙ ap (λ box. areasWritten n sets (λ S. areaOf (d .boxed) box (membersOf (circlesOf d) (pointsOf d) S)) (a .areas .now)) (b .bounds .ensures)
+    ∙ ap (λ box. areasWritten n sets (λ S. areaOf (d .boxed) box (membersOf (circlesOf d) (pointsOf d) S)) (a .areas .now))
+    (b .bounds .ensures)
     ∙ areas-all n (s .pre .0) sets (setArea d) (a .areas .now) (s .pre .2) in (
       f .finish-rows .ensures .0,
       f .finish-rows .ensures .1 ∙ areas-read (d .boxed) sets (boxAreaOf d) (setArea d) (2 ^ n) _ (a .areas .now) areas,
@@ -36,4 +37,5 @@ returns c =
 
 pub write-rows-spec : {M : Type 1} → statement M
 write-rows-spec =
-    tie.close (tie.spec (λ c κs. search needs) (λ c κs. search needs) (λ c κs. search needs) (λ c. search needs) (λ c. search needs) returns)
+    tie.close (tie.spec (λ c κs. search needs) (λ c κs. search needs) (λ c κs. search needs) (λ c. search needs) (λ c. search needs)
+    returns)

@@ -96,11 +96,13 @@ slice-aggregate-write-box-row : tie.Need-slice-aggregate-write-box-row
 slice-aggregate-write-box-row c = sym (length-take-le _ _ (first-room (worked (c .before))))
 
 -- every row has its place in both slices
-rows-all : (c : tie.After-write-gradients) → let a = given c .args in rowsIn (a .drawing .n) (a .width) (a .areas .now) (zeros (emptied c)) ≡ 2 ^ a .drawing .n
+rows-all : (c : tie.After-write-gradients) → let a = given c .args in
+    rowsIn (a .drawing .n) (a .width) (a .areas .now) (zeros (emptied c)) ≡ 2 ^ a .drawing .n
 rows-all c =
     let s = given c in
     let a = s .args in
-    rows-in-all (a .drawing .n) (a .width) (a .areas .now) (zeros (emptied c)) (s .pre .0) (s .pre .2) (omega (arith, zeros-length (emptied c), s .pre .3))
+    rows-in-all (a .drawing .n) (a .width) (a .areas .now) (zeros (emptied c)) (s .pre .0) (s .pre .2)
+    (omega (arith, zeros-length (emptied c), s .pre .3))
 
 areas-worked : (c : tie.After-write-gradients) → let s = given c in let a = s .args in
     areasLeft c ≡ areasTo (stands (a .sets .now)) (rowOf s) (2 ^ a .drawing .n) (a .areas .now)
@@ -108,11 +110,13 @@ areas-worked c =
     let s = given c in
     let a = s .args in
     let d = a .drawing in
+    let w = a .width in
+    let l = a .areas .now in
     let sets = stands (a .sets .now) in
     c .write-gradients .ensures .0
-    ∙ ap (λ (box : Bounds). areasTo sets (rowWith (d .boxed) box (circlesOf d) (pointsOf d) (a .width)) (rowsIn (d .n) (a .width) (a .areas .now) (zeros (emptied c))) (a .areas .now))
+    ∙ ap (λ (box : Bounds). areasTo sets (rowWith (d .boxed) box (circlesOf d) (pointsOf d) w) (rowsIn (d .n) w l (zeros (emptied c))) l)
     (bounded (emptied c) .bounds .ensures)
-    ∙ ap (λ (m : ℕ). areasTo sets (rowOf s) m (a .areas .now)) (rows-all c)
+    ∙ ap (λ (m : ℕ). areasTo sets (rowOf s) m l) (rows-all c)
 
 gradients-worked : (c : tie.After-write-gradients) → let s = given c in let a = s .args in
     gradientsLeft c ≡ rowsTo (stands (a .sets .now)) (rowOf s) (a .width) (2 ^ a .drawing .n) (none s)
@@ -139,13 +143,14 @@ returns c =
     let d = a .drawing in
     let w = a .width in
     let sets = stands (a .sets .now) in
+    let m = 2 ^ d .n in
     let wide = length-take-le w (gradientsLeft g) (first-room g) in
-    (
+    let first = x .write-box-row .ensures ∙ ap (λ (k : ℕ). boxRowOf k d) wide ∙ box-twice (d .boxed) _ _ in (
       f .finish-rows .ensures .0,
       (
-        f .finish-rows .ensures .1 ∙ areas-read (d .boxed) sets (boxAreaOf d) (λ S. rowOf s S .sum) (2 ^ d .n) _ (a .areas .now) (areas-worked g),
-        rows-laid (d .boxed) sets (boxRowOf w d) (rowOf s) w (2 ^ d .n) (a .gradients .now) (gradientsLeft g) (s .pre .3) (gradients-worked g) _ (pow-pos (d .n))
-            (x .write-box-row .ensures ∙ ap (λ (m : ℕ). boxRowOf m d) wide ∙ box-twice (d .boxed) _ _) (x .write-box-row .kept .1 .0 ∙ wide),
+        f .finish-rows .ensures .1 ∙ areas-read (d .boxed) sets (boxAreaOf d) (λ S. rowOf s S .sum) m _ (a .areas .now) (areas-worked g),
+        rows-laid (d .boxed) sets (boxRowOf w d) (rowOf s) w m (a .gradients .now) (gradientsLeft g) (s .pre .3) (gradients-worked g) _
+            (pow-pos (d .n)) first (x .write-box-row .kept .1 .0 ∙ wide),
       ),
     )
 
