@@ -71,7 +71,7 @@ circlesOf d = take (d .n) (d .circles)
 abbrev pub pointsOf : Drawing → List IntersectionPoint
 pointsOf d = pointList (d .points)
 
--- the area of a set, and the same with its gradient, added to one
+-- the area of a set, and the same with its gradient, added to one; what row 0 has, and its gradient
 abbrev pub setArea : Drawing → ℕ → Float
 setArea d S =
     cond (d .boxed) (clippedArea (bounds (d .container)) (membersOf (circlesOf d) (pointsOf d) S)) (openArea (membersOf (circlesOf d) (pointsOf d) S))
@@ -81,6 +81,10 @@ setOnto d S g = cond (d .boxed) (clippedOnto (circlesOf d) (pointsOf d) (d .cont
 
 abbrev pub boxAreaOf : Drawing → Float
 boxAreaOf d = cond (d .boxed) (area (d .container)) zero64
+
+abbrev pub boxRowOf : ℕ → Drawing → List Float
+boxRowOf width d =
+    cond (d .boxed) (set (replicate width zero64) (length (circlesOf d) * 3 + 2) (area (d .container))) (replicate width zero64)
 
 abbrev pub widthOf : Drawing → ℕ
 widthOf d = cond (d .boxed) (clippedWidth (circlesOf d) (pointsOf d)) (openWidth (circlesOf d) (pointsOf d))
@@ -93,7 +97,7 @@ abbrev pub slopesBy : ℕ → Drawing → (ℕ → Bool) → Slopes
 slopesBy width d sets = record {
   rows = record { hasBox = d .boxed; boxArea = boxAreaOf d; sets = sets; area = λ S. setOnto d S (replicate width zero64) .sum };
   width = width;
-  boxRow = cond (d .boxed) (set (replicate width zero64) (length (circlesOf d) * 3 + 2) (area (d .container))) (replicate width zero64);
+  boxRow = boxRowOf width d;
   row = λ S. setOnto d S (replicate width zero64) .grad;
 }
 

@@ -1,16 +1,14 @@
 -- The rows of a diagram, and their exclusives with and without gradients. Whether there is a box, which masks are sets, and what the row of a
 -- set is are handed in: any list of sets, any areas.
-use Prim.Native.Nat.{ℕ, zero, suc, _+_, _*_, _/_, _%_, _^_}
+use Prim.Native.Nat.{ℕ, zero, suc, _*_, _/_, _%_, _^_}
 use mathlib.Core.Bool.{Bool, cond}
 use mathlib.Core.List.{List}
 use lib.Ieee.{Float, nan}
-use lib.ListN.{getD, replicate, set}
+use lib.ListN.{getD, replicate}
 use Rattle.lists.specs.Written.{written}
 use Rattle.masks.specs.Presence.{byte}
 use Rattle.binary64.specs.Constants.{zero64}
-use Rattle.clip.specs.Gradient.{WithGradient, with-gradient}
 use Rattle.sums.specs.Presence.{among}
-use Rattle.sums.specs.Gradients.{rowAt}
 use Rattle.exclusive.specs.Exclusive.{exclusiveRow}
 use Rattle.exclusive.specs.Gradient.{unlessReplaced, exclusiveWithGradient}
 
@@ -59,18 +57,6 @@ exclusiveWith n g S = exclusiveWithGradient n (isThere (g .rows)) (areaAt (g .ro
 abbrev pub exclusiveSlope : ℕ → Slopes → ℕ → Float
 exclusiveSlope n g x =
     unlessReplaced n (isThere (g .rows)) (areaAt (g .rows)) (λ S. getD (slopesAt g S) (x % g .width) nan) (x / g .width)
-
--- ---- rows of a pass that has written those of the sets: row 0 and absent rows are written anew
-
-abbrev pub nothingWith : ℕ → WithGradient
-nothingWith width = with-gradient zero64 (replicate width zero64)
-
-abbrev pub boxWith : ℕ → ℕ → Float → WithGradient
-boxWith width n boxArea = with-gradient boxArea (set (replicate width zero64) (n * 3 + 2) boxArea)
-
-abbrev pub finishedRow : Bool → ℕ → Float → (ℕ → Bool) → ℕ → List Float → List Float → ℕ → WithGradient
-finishedRow hasBox n boxArea sets width areas gradients =
-    inRow hasBox sets (boxWith width n boxArea) (λ S. with-gradient (getD areas S nan) (rowAt width gradients S)) (nothingWith width)
 
 -- ---- in lent slices: rows 0 to 2^n - 1 written, and "bytes beyond row 2^n - 1 stay"
 

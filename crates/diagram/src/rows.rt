@@ -2,23 +2,38 @@
 // presence bytes. Rests on specs/Rows.antt.
 ghost use mathlib.Core.Path.{_≡_};
 ghost use Prim.Native.Nat.{_*_, _≤_, _^_};
-ghost use lib.Dec.{eqb};
 ghost use lib.Ieee.{nan};
-ghost use lib.ListN.{length, set};
+ghost use lib.ListN.{length, getD, set};
 ghost use Rattle.lists.specs.Written.{written};
-ghost use Rattle.masks.specs.Presence.{byte, stands};
-ghost use Rattle.clip.specs.Gradient.{with-gradient};
+ghost use Rattle.masks.specs.Presence.{stands};
+ghost use Rattle.binary64.specs.Constants.{zero64};
 ghost use Rattle.exclusive.proofs.TableRows.{byRow};
-ghost use Rattle.diagram.specs.Rows.{inRow, isThere, areaAt, slopesAt, boxWith, nothingWith, finishedRow, presenceWritten};
-ghost use Rattle.diagram.specs.Drawing.{rowsOf, slopesBy};
+ghost use Rattle.diagram.specs.Rows.{inRow, areaAt, slopesAt, presenceWritten};
+ghost use Rattle.diagram.specs.Drawing.{rowsOf, slopesBy, boxAreaOf, boxRowOf};
 use crate::drawing::Drawing;
+use intersections::members::at_most_ten;
 use sums::gradients::clear;
 use sums::gradients::write_gradients;
 use sums::presence::clear_absent;
 use sums::presence::write_presence;
 use sums::rows::write_areas;
 
-// Rows 0 to 2^n - 1: presence bytes and areas. Row 0 has the box's area, which is cleared again where there is no box.
+// Once the areas of the sets are written: row 0 gets the box's, which is cleared again where there is no box, absent rows are cleared, and
+// the presence bytes follow.
+fn finish_rows(drawing: Drawing, sets: &[u8; 1024], presence: &mut [u8], areas: &mut [f64])
+    requires { ⌜ (drawing .n ≤ 10) × (2 ^ drawing .n ≤ length (now presence)) × (2 ^ drawing .n ≤ length (now areas)) ⌝ }
+    ensures { λ r. ⌜ now (presence .exit) ≡ presenceWritten (drawing .n) (rowsOf drawing (stands (now (sets .entry)))) (now (presence .entry)) ⌝ }
+    ensures { λ r. ⌜ now (areas .exit) ≡ written (inRow (drawing .boxed) (stands (now (sets .entry))) (boxAreaOf drawing) (λ S. getD (now (areas .entry)) S nan) zero64) (2 ^ drawing .n) (now (areas .entry)) ⌝ }
+{
+    let n = drawing.n;
+    let boxed = drawing.boxed;
+    let container = drawing.container;
+    areas[0] = container.area();
+    clear_absent(boxed, n, sets, areas);
+    write_presence(boxed, n, sets, presence);
+}
+
+// Rows 0 to 2^n - 1: presence bytes and areas.
 pub(crate) fn write_rows(
     drawing: Drawing,
     sets: &[u8; 1024],
@@ -35,9 +50,7 @@ pub(crate) fn write_rows(
     let points = drawing.points;
     let container = drawing.container;
     write_areas(boxed, circles, points, n, container.bounds(), sets, areas);
-    areas[0] = container.area();
-    clear_absent(boxed, n, sets, areas);
-    write_presence(boxed, n, sets, presence);
+    finish_rows(drawing, sets, presence, areas);
 }
 
 // x put at place i, where there is one.
@@ -49,69 +62,19 @@ fn put_at(numbers: &mut [f64], i: usize, x: f64)
     }
 }
 
-// Row `mask` once the rows of the sets are written, of which it has this area: row 0 and an absent row are written anew, any other stays.
-fn finish_row(
-    boxed: bool,
-    n: usize,
-    box_area: f64,
-    is: u8,
-    mask: usize,
-    area: f64,
-    grad: &mut [f64],
-) -> f64
-    requires { ⌜ n ≤ 10 ⌝ }
-    ensures { λ r. ⌜ with-gradient r (now (grad .exit)) ≡ inRow boxed (λ T. eqb is 1) (boxWith (length (now (grad .entry))) n «box_area») (λ T. with-gradient area (now (grad .entry))) (nothingWith (length (now (grad .entry)))) mask ⌝ }
-    ensures { λ r. ⌜ length (now (grad .exit)) ≡ length (now (grad .entry)) ⌝ }
+// The gradient of row 0, written anew.
+fn write_box_row(drawing: Drawing, grad: &mut [f64])
+    ensures { λ r. ⌜ now (grad .exit) ≡ boxRowOf (length (now (grad .entry))) drawing ⌝ }
 {
-    if mask == 0 {
-        clear(grad);
-        if boxed {
-            put_at(grad, n * 3 + 2, box_area);
-            return box_area;
-        }
-        return 0.0;
-    }
-    if is == 1 {
-        return area;
-    }
     clear(grad);
-    0.0
-}
-
-// The first `count` rows once those of the sets are written.
-fn finish_rows(
-    boxed: bool,
-    n: usize,
-    box_area: f64,
-    sets: &[u8; 1024],
-    count: usize,
-    width: usize,
-    areas: &mut [f64],
-    gradients: &mut [f64],
-)
-    requires { ⌜ (n ≤ 10) × ((count ≤ 1024) × ((count ≤ length (now areas)) × (count * width ≤ length (now gradients)))) ⌝ }
-    ensures { λ r. ⌜ now (areas .exit) ≡ written (λ S. finishedRow boxed n «box_area» (stands (now (sets .entry))) width (now (areas .entry)) (now (gradients .entry)) S .sum) count (now (areas .entry)) ⌝ }
-    ensures { λ r. ⌜ now (gradients .exit) ≡ written (byRow width nan (λ S. finishedRow boxed n «box_area» (stands (now (sets .entry))) width (now (areas .entry)) (now (gradients .entry)) S .grad)) (count * width) (now (gradients .entry)) ⌝ }
-{
-    let mut mask: usize = 0;
-    while mask < count {
-        let start = mask * width;
-        let end = start + width;
-        let area = finish_row(
-            boxed,
-            n,
-            box_area,
-            sets[mask],
-            mask,
-            areas[mask],
-            &mut gradients[start..end],
-        );
-        areas[mask] = area;
-        mask += 1;
+    if drawing.boxed {
+        let container = drawing.container;
+        put_at(grad, at_most_ten(drawing.n) * 3 + 2, container.area());
     }
 }
 
-// Rows 0 to 2^n - 1: presence bytes, areas and gradients of `width` numbers.
+// Rows 0 to 2^n - 1: presence bytes, areas and gradients of `width` numbers. All gradients are +0 before those of the sets are written, so
+// that absent rows are left so.
 pub(crate) fn write_rows_with_gradients(
     drawing: Drawing,
     sets: &[u8; 1024],
@@ -121,7 +84,7 @@ pub(crate) fn write_rows_with_gradients(
     gradients: &mut [f64],
 )
     requires { ⌜ (drawing .n ≤ 10) × (2 ^ drawing .n ≤ length (now presence)) × (2 ^ drawing .n ≤ length (now areas)) × (2 ^ drawing .n * width ≤ length (now gradients)) ⌝ }
-    ensures { λ r. ⌜ now (presence .exit) ≡ written (λ S. byte (isThere (rowsOf drawing (stands (now (sets .entry)))) S)) (2 ^ drawing .n) (now (presence .entry)) ⌝ }
+    ensures { λ r. ⌜ now (presence .exit) ≡ presenceWritten (drawing .n) (rowsOf drawing (stands (now (sets .entry)))) (now (presence .entry)) ⌝ }
     ensures { λ r. ⌜ now (areas .exit) ≡ written (areaAt (slopesBy width drawing (stands (now (sets .entry))) .rows)) (2 ^ drawing .n) (now (areas .entry)) ⌝ }
     ensures { λ r. ⌜ now (gradients .exit) ≡ written (byRow width nan (slopesAt (slopesBy width drawing (stands (now (sets .entry)))))) (2 ^ drawing .n * width) (now (gradients .entry)) ⌝ }
 {
@@ -130,17 +93,20 @@ pub(crate) fn write_rows_with_gradients(
     let circles = drawing.circles;
     let points = drawing.points;
     let container = drawing.container;
-    write_presence(boxed, n, sets, presence);
+    let bounds = container.bounds();
+    let end = (1usize << n) * width;
+    clear(&mut gradients[..end]);
     write_gradients(
         boxed,
         circles,
         points,
         n,
-        container.bounds(),
+        bounds,
         sets,
         width,
         areas,
         gradients,
     );
-    finish_rows(boxed, n, container.area(), sets, 1usize << n, width, areas, gradients);
+    write_box_row(drawing, &mut gradients[..width]);
+    finish_rows(drawing, sets, presence, areas);
 }

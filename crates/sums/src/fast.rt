@@ -141,7 +141,20 @@ fn fast_row(
             list,
         );
     }
-    open_row(mask, c, n_sets, counts, owners, phi, adopters, lets, xs, ys, rs, list)
+    open_row(
+        mask,
+        c,
+        n_sets,
+        counts,
+        owners,
+        phi,
+        adopters,
+        lets,
+        xs,
+        ys,
+        rs,
+        list,
+    )
 }
 
 // The area of each set below count that is wanted, at the place of its mask.
@@ -226,10 +239,40 @@ fn write_marked(
     let mut low = [0.0f64; 40];
     let mut high = [0.0f64; 40];
     fill_worth(
-        clipped, circles, c, n_sets, bounds, needed, counts, phi, &mut xs, &mut ys, &mut rs, &mut reach, &mut low, &mut high,
+        clipped,
+        circles,
+        c,
+        n_sets,
+        bounds,
+        needed,
+        counts,
+        phi,
+        &mut xs,
+        &mut ys,
+        &mut rs,
+        &mut reach,
+        &mut low,
+        &mut high,
     );
     write_rows(
-        clipped, wanted, count, areas, c, n_sets, bounds, counts, owners, phi, adopters, lets, &xs, &ys, &rs, &reach, &low, &high,
+        clipped,
+        wanted,
+        count,
+        areas,
+        c,
+        n_sets,
+        bounds,
+        counts,
+        owners,
+        phi,
+        adopters,
+        lets,
+        &xs,
+        &ys,
+        &rs,
+        &reach,
+        &low,
+        &high,
     );
 }
 
@@ -259,9 +302,30 @@ pub(crate) fn write_fast(
     let mut adopters = [0usize; 320];
     let mut lets = [0usize; 320];
     fill_heads(
-        &c, n_sets, points, needed, &mut counts, &mut owners, &mut phi, &mut adopters, &mut lets,
+        &c,
+        n_sets,
+        points,
+        needed,
+        &mut counts,
+        &mut owners,
+        &mut phi,
+        &mut adopters,
+        &mut lets,
     );
     write_marked(
-        clipped, wanted, count, areas, circles, &c, n_sets, bounds, needed, &counts, &owners, &phi, &adopters, &lets,
+        clipped,
+        wanted,
+        count,
+        areas,
+        circles,
+        &c,
+        n_sets,
+        bounds,
+        needed,
+        &counts,
+        &owners,
+        &phi,
+        &adopters,
+        &lets,
     );
 }

@@ -170,7 +170,18 @@ fn fill_worth(
     if clipped {
         fill_chords(circles, n_sets, bounds, needed, reach, low, high);
         return fill_parts(
-            c, n_sets, bounds, needed, counts, phi, first, many, xs, us, vs, ws,
+            c,
+            n_sets,
+            bounds,
+            needed,
+            counts,
+            phi,
+            first,
+            many,
+            xs,
+            us,
+            vs,
+            ws,
         );
     }
     fill_terms(c, n_sets, needed, counts, phi, xs, ys, rs);
@@ -213,11 +224,46 @@ fn fast_row(
     clear(grad);
     if clipped {
         return clipped_row_with_gradient(
-            mask, grad, c, n_sets, bounds, counts, owners, phi, adopters, lets, stop, first, many, xs, us, vs, ws, reach, low, high, list,
+            mask,
+            grad,
+            c,
+            n_sets,
+            bounds,
+            counts,
+            owners,
+            phi,
+            adopters,
+            lets,
+            stop,
+            first,
+            many,
+            xs,
+            us,
+            vs,
+            ws,
+            reach,
+            low,
+            high,
+            list,
         );
     }
     open_row_with_gradient(
-        mask, grad, c, n_sets, counts, owners, phi, adopters, lets, xs, ys, rs, us, vs, ws, list,
+        mask,
+        grad,
+        c,
+        n_sets,
+        counts,
+        owners,
+        phi,
+        adopters,
+        lets,
+        xs,
+        ys,
+        rs,
+        us,
+        vs,
+        ws,
+        list,
     )
 }
 
@@ -328,12 +374,53 @@ fn write_marked(
     let mut low = [0.0f64; 40];
     let mut high = [0.0f64; 40];
     let stop = fill_worth(
-        clipped, circles, c, n_sets, bounds, needed, counts, phi, &mut xs, &mut ys, &mut rs, &mut us, &mut vs, &mut ws, &mut first, &mut many, &mut reach, &mut low,
+        clipped,
+        circles,
+        c,
+        n_sets,
+        bounds,
+        needed,
+        counts,
+        phi,
+        &mut xs,
+        &mut ys,
+        &mut rs,
+        &mut us,
+        &mut vs,
+        &mut ws,
+        &mut first,
+        &mut many,
+        &mut reach,
+        &mut low,
         &mut high,
     );
     write_rows(
-        clipped, wanted, width, count, areas, gradients, c, n_sets, bounds, counts, owners, phi, adopters, lets, &xs, &ys, &rs, &us, &vs, &ws, &first, &many, stop,
-        &reach, &low, &high,
+        clipped,
+        wanted,
+        width,
+        count,
+        areas,
+        gradients,
+        c,
+        n_sets,
+        bounds,
+        counts,
+        owners,
+        phi,
+        adopters,
+        lets,
+        &xs,
+        &ys,
+        &rs,
+        &us,
+        &vs,
+        &ws,
+        &first,
+        &many,
+        stop,
+        &reach,
+        &low,
+        &high,
     );
 }
 
@@ -363,10 +450,33 @@ fn write_fast(
     let mut adopters = [0usize; 320];
     let mut lets = [0usize; 320];
     fill_heads(
-        &c, n_sets, points, needed, &mut counts, &mut owners, &mut phi, &mut adopters, &mut lets,
+        &c,
+        n_sets,
+        points,
+        needed,
+        &mut counts,
+        &mut owners,
+        &mut phi,
+        &mut adopters,
+        &mut lets,
     );
     write_marked(
-        clipped, wanted, width, count, areas, gradients, circles, &c, n_sets, bounds, needed, &counts, &owners, &phi, &adopters, &lets,
+        clipped,
+        wanted,
+        width,
+        count,
+        areas,
+        gradients,
+        circles,
+        &c,
+        n_sets,
+        bounds,
+        needed,
+        &counts,
+        &owners,
+        &phi,
+        &adopters,
+        &lets,
     );
 }
 
@@ -390,11 +500,29 @@ pub fn write_gradients(
     let count = rows_in(n_sets, width, areas, gradients);
     if few(points, n) {
         write_fast(
-            clipped, circles, points, n, bounds, wanted, width, count, areas, gradients,
+            clipped,
+            circles,
+            points,
+            n,
+            bounds,
+            wanted,
+            width,
+            count,
+            areas,
+            gradients,
         );
         return;
     }
     write_plain(
-        clipped, circles, points, n_sets, bounds, wanted, width, count, areas, gradients,
+        clipped,
+        circles,
+        points,
+        n_sets,
+        bounds,
+        wanted,
+        width,
+        count,
+        areas,
+        gradients,
     );
 }

@@ -43,8 +43,11 @@ loop-again c =
     let low : ℕ → Float = λ i. getD (a .low .now) (a .at + i) nan in
     let high : ℕ → Float = λ i. getD (a .high .now) (a .at + i) nan in
     ⊎-elim
-    (λ w. (omega arith, rw (w .5, w .6) (ends-in low high (a .mask) (a .from) (a .to) (l .inv .1) _ _
-        (sym (in-by-shift (a .mask) (l .l)) ∙ eq-eqb _ _ (w .0 .taken)) (w .2 .ensures) (w .4 .ensures))))
+    (λ w. (
+      omega arith,
+      rw (w .5, w .6) (ends-in low high (a .mask) (a .from) (a .to) (l .inv .1) _ _
+          (sym (in-by-shift (a .mask) (l .l)) ∙ eq-eqb _ _ (w .0 .taken)) (w .2 .ensures) (w .4 .ensures)),
+    ))
     (λ w. (omega arith, rw (w .1, w .2) (ends-out low high (a .mask) (a .from) (a .to) (l .inv .1) (sym (in-by-shift (a .mask) (l .l)) ∙ ne-eqb _ _ (w .0 .left)))))
     (c .if2 .came)
 

@@ -31,8 +31,7 @@ wanted-heads-requires c κs =
 fill-heads-requires : tie.Need-fill-heads-requires
 fill-heads-requires c κs =
     let n = c .before .before .before .before .before .before .before .before in
-    let s = n .before .before in
-    (
+    let s = n .before .before in (
       (s .pre .0, subst (λ cs. Few cs (pointList (s .args .points))) (sym (n .numbers-of .ensures)) (s .pre .1)),
       record { counts-long = search needs; owners-long = search needs; phi-long = search needs; adopters-long = search needs; lets-long = search needs },
     )
@@ -45,12 +44,11 @@ write-marked-requires c κs =
     let n = r .before in
     let s = n .before .before in
     let a = s .args in
-    let counted = count-few (a .n-sets) _ (length (a .areas .now)) (s .pre .0) (r .row-count .ensures) in
-    (
+    let counted = count-few (a .n-sets) _ (length (a .areas .now)) (s .pre .0) (r .row-count .ensures) in (
       (s .pre .0, counted .1),
       (
-      (w .wanted-heads .ensures .1 (a .n-sets) (counted .1 .0), (w .wanted-heads .ensures .0, n .numbers-of .ensures)),
-      λ j h i. f .fill-heads .ensures .1 .ready j (rw (circles-many _ (a .n-sets)) at h) i,
+        (w .wanted-heads .ensures .1 (a .n-sets) (counted .1 .0), (w .wanted-heads .ensures .0, n .numbers-of .ensures)),
+        λ j h i. f .fill-heads .ensures .1 .ready j (rw (circles-many _ (a .n-sets)) at h) i,
       ),
     )
 
