@@ -6,16 +6,23 @@ use mathlib.Core.List.{List, [], _∷_, _++_, map, append-assoc, append-nil}
 use mathlib.Core.Logic.{⊎-elim}
 use Prim.Native.Nat.{ℕ, _+_, _-_, _≤_, _<_}
 use native.Mathlib.Omega.{arith}
-use lib.ListN.{length, take, length-take}
+use lib.Ieee.{nan}
+use lib.ListN.{length, take, getD, length-take}
+use Rattle.geometry.specs.Circle.{intersectionPoints}
 use Rattle.geometry.specs.declared.circle.Circle.{Circle}
 use Rattle.geometry.specs.declared.point.Point.{Point}
 use Rattle.lists.specs.Lists.{upTo}
 use Rattle.lists.proofs.Arrays.{length-of-values, capped-take}
 use Rattle.intersections.specs.declared.points.IntersectionPoint.{IntersectionPoint}
+use Rattle.intersections.specs.Members.{noCircle}
 use Rattle.intersections.specs.Points.{withAdopters, pairPoints, laterPoints}
 use Rattle.intersections.proofs.Collecting.{Held, held-as, held-none, held-one, held-full, pair-on, pair-all, rowTo, row-none, row-on, row-all, rows-on, rows-end}
 use Rattle.intersections.proofs.collect.collect_intersections.Statement.{statement}
 use Rattle.intersections.proofs.collect.collect_intersections.Tie as tie
+
+-- what stands for a point that an array does not have
+abbrev nowhere : Point
+nowhere = record { x = nan; y = nan }
 
 record Rows (circles : List Circle) (n i : ℕ) (all : List IntersectionPoint) (count : ℕ) : Type 0 where
   ten : length circles ≡ 10
@@ -142,7 +149,37 @@ loop3-less : tie.Need-loop3-less Inv-loop3 μ-loop3 Inv-loop2 μ-loop2 Inv-loop 
 loop3-less c = omega (arith, c .before .before .before .loop3-test .taken)
 
 loop3-again : tie.Need-loop3-again Inv-loop3 μ-loop3 Inv-loop2 μ-loop2 Inv-loop μ-loop
-loop3-again c = ?
+loop3-again c =
+    let l = c .before .before .before .before .loop3 in
+    let m = c .before .before .before .before .before in
+    let outer = m .before .before .before .before in
+    let s = outer .before .before .before .before .before in
+    let cs = take (s .at-most-ten .result) (s .before .args .t1) in
+    let i = outer .before .before .before .loop .i in
+    let j = outer .loop2 .j in
+    let made = m .before .new2 .ensures in
+    let q = c .before .with-adopters .result in
+    let before = upTo (laterPoints cs) i ++ rowTo cs i j in
+    let points = m .meeting-points .result .all in
+    let below = c .before .before .before .loop3-test .taken in
+    let this : q ≡ withAdopters cs i j (getD points (l .k) nowhere) = c .before .with-adopters .ensures ∙ rw (made .0, made .1) in
+    let more = ap (λ x. (before ++ map (withAdopters cs i j) (take (l .k) points)) ++ (x ∷ [])) this
+    ∙ pair-on (withAdopters cs i j) before points (l .k) nowhere (omega (arith, l .inv .two, l .inv .few, below)) in
+    record {
+      ten = l .inv .ten;
+      most = l .inv .most;
+      after = l .inv .after;
+      below = l .inv .below;
+      two = l .inv .two;
+      few = l .inv .few;
+      within = omega (arith, below);
+      held =
+          held-as more
+          (⊎-elim
+          (λ w. rw (w .1, w .2) (held-one (l .inv .held) q (w .0 .taken)))
+          (λ w. rw (w .1, w .2) (held-full (l .inv .held) q (w .0 .left)))
+          (c .if1 .came));
+    }
 
 add-j-2 : tie.Need-add-j-2 Inv-loop3 μ-loop3 Inv-loop2 μ-loop2 Inv-loop μ-loop
 add-j-2 c = let l = c .before .loop3 .inv in omega (arith, l .most, l .below)
@@ -151,7 +188,33 @@ loop2-less : tie.Need-loop2-less Inv-loop3 μ-loop3 Inv-loop2 μ-loop2 Inv-loop 
 loop2-less c = omega (arith, c .before .loop3 .inv .below)
 
 loop2-again : tie.Need-loop2-again Inv-loop3 μ-loop3 Inv-loop2 μ-loop2 Inv-loop μ-loop
-loop2-again c = ?
+loop2-again c =
+    let l = c .before .loop3 in
+    let m = c .before .before in
+    let outer = m .before .before .before .before in
+    let s = outer .before .before .before .before .before in
+    let n = s .at-most-ten .result in
+    let circles = s .before .args .t1 in
+    let cs = take n circles in
+    let i = outer .before .before .before .loop .i in
+    let j = outer .loop2 .j in
+    let met = m .meeting-points in
+    let rows = upTo (laterPoints cs) i in
+    let end : l .k ≡ met .result .n = omega (arith, l .inv .within, c .loop3-test .left) in
+    let whole : take (l .k) (met .result .all) ≡ intersectionPoints (getD circles i noCircle) (getD circles j noCircle) =
+    ap (λ (k : ℕ). take k (met .result .all)) end ∙ met .ensures .0 ∙ m .before .new2 .ensures .2 in
+    let pair = ap (map (withAdopters cs i j)) whole ∙ pair-all circles n i j (omega (arith, l .inv .after, l .inv .below)) (l .inv .below) in
+    record {
+      ten = l .inv .ten;
+      most = l .inv .most;
+      after = omega (arith, l .inv .after);
+      within = omega (arith, l .inv .below);
+      held =
+          held-as
+          (ap (λ x. (rows ++ rowTo cs i j) ++ x) pair ∙ append-assoc rows (rowTo cs i j) (pairPoints cs i j)
+          ∙ ap (λ x. rows ++ x) (row-on cs i j (l .inv .after)))
+          (l .inv .held);
+    }
 
 add-i : tie.Need-add-i Inv-loop3 μ-loop3 Inv-loop2 μ-loop2 Inv-loop μ-loop
 add-i c = omega arith
@@ -176,7 +239,16 @@ loop-again c =
     }
 
 returns : tie.Need-returns Inv-loop3 μ-loop3 Inv-loop2 μ-loop2 Inv-loop μ-loop
-returns c = ?
+returns c =
+    let l = c .before .loop in
+    let s = c .before .before .before in
+    let a = s .before .args in
+    let n = s .at-most-ten .result in
+    let many = length-take n (a .t1) in
+    let same : take n (a .t1) ≡ take (a .n-sets) (a .t1) =
+    ap (λ (k : ℕ). take k (a .t1)) (s .at-most-ten .ensures) ∙ capped-take (a .t1) (a .n-sets) 10 (l .inv .ten) in
+    rw same at (rows-end (take n (a .t1)) (l .i) (l .count) (l .all) (omega (arith, many, l .inv .most))
+    (omega (arith, many, l .inv .ten, l .inv .most, l .inv .within, c .loop-test .left)) (l .inv .held))
 
 pub collect-intersections-spec : {M : Type 1} → statement M
 collect-intersections-spec =
