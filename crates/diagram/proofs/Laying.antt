@@ -1,5 +1,5 @@
 -- Rows laid in lent slices: a pass writes those of the sets, row 0 is put, absent rows are +0.
-use mathlib.Core.Path.{_≡_, refl, sym, ap, ap₂, _∙_}
+use mathlib.Core.Path.{_≡_, refl, sym, ap, _∙_}
 use mathlib.Core.Bool.{Bool, true, false, cond}
 use mathlib.Core.List.{List, _++_}
 use Prim.Native.Nat.{ℕ, zero, suc, _+_, _*_, _/_, _%_, _≤_, _<_}
@@ -69,12 +69,11 @@ module _ (hasBox : Bool) (sets : ℕ → Bool) (box : List Float) (row : ℕ →
   number : (q r : ℕ) → 0 < q → r < width → q * width + r < m * width
       → getD (rowOf q) r nan ≡ getD (rowAfter sets row width none q) r nan
   number zero r some h below = absurd (omega arith)
-  number (suc q) r some h below = by (sets (suc q))
+  number (suc q) r some h below = by (row (suc q) .grad) (sets (suc q))
     where
-      by : (b : Bool)
-          → getD (cond b (row (suc q) .grad) (replicate width zero64)) r nan ≡ getD (cond b (row (suc q) .grad) (rowAt width none (suc q))) r nan
-      by true = refl
-      by false =
+      by : (g : List Float) (b : Bool) → getD (cond b g (replicate width zero64)) r nan ≡ getD (cond b g (rowAt width none (suc q))) r nan
+      by g true = refl
+      by g false =
           getD-replicate width r zero64 nan h
           ∙ sym (getD-take width (drop (suc q * width) none) r nan h ∙ getD-drop (suc q * width) none r nan
           ∙ written-before (λ i. zero64) (m * width) (suc q * width + r) l nan below)

@@ -1,7 +1,7 @@
 -- `rows::write_rows_with_gradients` meets its contract: gradients all +0, the rows of the sets, then row 0 and the other areas.
 use mathlib.Core.Path.{_≡_, sym, ap, _∙_}
 use mathlib.Core.List.{List, _++_}
-use Prim.Native.Nat.{ℕ, _*_, _^_, _≤_, _<_}
+use Prim.Native.Nat.{ℕ, _*_, _^_, _≤_}
 use native.Mathlib.Nat.{mul-le-mul-right}
 use native.Mathlib.Omega.{arith}
 use lib.Ieee.{Float}
