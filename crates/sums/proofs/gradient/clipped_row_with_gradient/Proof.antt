@@ -1,8 +1,7 @@
 -- `gradient::clipped_row_with_gradient`: the first arcs that the walk lists, then the edges.
 use borrow.Author.Needs.{needs}
-use mathlib.Core.Path.{_≡_, sym, _∙_}
+use mathlib.Core.Path.{sym, _∙_}
 use mathlib.Core.List.{map}
-use Prim.Native.Nat.{ℕ, _≤_, _<_}
 use native.Mathlib.Omega.{arith}
 use lib.ListN.{length}
 use Rattle.intersections.specs.Members.{headsOf, circleAt}

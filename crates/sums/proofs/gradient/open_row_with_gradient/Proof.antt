@@ -1,7 +1,6 @@
 -- `gradient::open_row_with_gradient`: the first arcs that the walk lists.
 use borrow.Author.Needs.{needs}
-use mathlib.Core.Path.{_≡_}
-use Prim.Native.Nat.{ℕ, _≤_, _<_}
+use Prim.Native.Nat.{_≤_}
 use native.Mathlib.Omega.{arith}
 use Rattle.sums.specs.Values.{Roomy}
 use Rattle.sums.proofs.Valuing.{three-known, ready-roomy}
