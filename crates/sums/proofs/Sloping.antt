@@ -22,19 +22,18 @@ use Rattle.binary64.specs.Floats.{_+ᶠ_, _-ᶠ_, _*ᶠ_}
 use Rattle.geometry.specs.declared.bounds.Bounds.{Bounds}
 use Rattle.geometry.specs.declared.circle.Circle.{Circle}
 use Rattle.intersections.specs.declared.points.IntersectionPoint.{IntersectionPoint}
-use Rattle.intersections.specs.Members.{headsOf, circleAt, membersOf}
+use Rattle.intersections.specs.Members.{circleAt}
 use Rattle.boundary.specs.declared.arcs.BoundaryArc.{BoundaryArc}
 use Rattle.boundary.specs.declared.sort.Angles.{Angles}
 use Rattle.boundary.specs.Counted.{angleList}
-use Rattle.boundary.specs.Outline.{outline}
-use Rattle.boundary.specs.Set.{numbered, arcsHeld, regionArcs}
+use Rattle.boundary.specs.Set.{arcsHeld, regionArcs}
 use Rattle.inside.specs.Parts.{summed}
-use Rattle.outline.specs.Area.{arcSlopes, addSlopes, addGradient, addArcs, areaOf}
+use Rattle.outline.specs.Area.{arcSlopes, addSlopes, addGradient, areaOf}
 use Rattle.clip.specs.Area.{emptyBox}
 use Rattle.clip.specs.Arc.{headArcIntegralWithGradient}
 use Rattle.clip.specs.Gradient.{WithGradient, with-gradient, onto, subArcByDifferences, partSlopes, subArcWithGradient, addPartWithGradient, clippedArcIntegralWithGradient, addClippedArcWithGradient, addClippedArcsWithGradient, addEdgesWithGradient, clippedWithGradient}
 use Rattle.clip.proofs.Rows.{gradient-by-sum}
-use Rattle.sums.specs.Walk.{circleIn, circlesIn, marksIn, arcAt, Few, arcsBy, Placed, Listing}
+use Rattle.sums.specs.Walk.{circleIn, circlesIn, marksIn, arcAt, Few, arcsBy, Listing}
 use Rattle.sums.specs.Values.{headOf, termOf, addTerms, Roomy, standing, MarksOf}
 use Rattle.sums.specs.Slopes.{addThreeAt, slopeX, slopeY, slopeR, addSlopesAt, addPartsAt, sharesFrom, PartsHeld, PartsValued, PartsKnown}
 use Rattle.sums.specs.Gradients.{WorthWith}

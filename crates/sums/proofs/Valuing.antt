@@ -1,5 +1,5 @@
 -- What an arc adds to a sum, by its number.
-use mathlib.Core.Path.{_≡_, refl, sym, ap, _∙_}
+use mathlib.Core.Path.{_≡_, refl, sym, _∙_}
 use mathlib.Core.Bool.{Bool, true, false, _&&_, cond, true≢false}
 use mathlib.Core.List.{List, map, foldl}
 use Prim.Native.Nat.{ℕ, _+_, _-_, _*_, _/_, _%_, _≤_, _<_, _^_}
@@ -30,7 +30,7 @@ use Rattle.outline.proofs.Walking.{circles-of-members, members-many}
 use Rattle.clip.specs.Area.{emptyBox, addClippedArc, addClippedArcs, addEdges, clippedAreaOf, clippedArea}
 use Rattle.clip.proofs.Naming.{Below, outline-named}
 use Rattle.clip.proofs.Summing.{arcs-sum, clipped-sum}
-use Rattle.sums.specs.Walk.{circleIn, circlesIn, marksIn, Few, arcsBy, nextPlace, gapArc, arcAt, Angled, Placed, Listing, Ready}
+use Rattle.sums.specs.Walk.{circleIn, circlesIn, marksIn, Few, arcsBy, nextPlace, gapArc, arcAt, Placed, Listing, Ready}
 use Rattle.sums.proofs.Members.{marksOf, arcs-are, arcs-same}
 use Rattle.sums.specs.Values.{headOf, Readable, termX, termY, termR, termOf, addOne, Roomy, standing, Valued, Known, addTerms, ThreeValued, ThreeKnown, MarksOf}
 use Rattle.sums.proofs.Filling.{HeldTo, held-none, held-put, held-jump}

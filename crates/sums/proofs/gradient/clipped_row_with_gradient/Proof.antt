@@ -1,10 +1,9 @@
 -- `gradient::clipped_row_with_gradient`: the first arcs that the walk lists, then the edges.
 use borrow.Author.Needs.{needs}
-use mathlib.Core.Path.{_≡_, sym, _∙_}
+use mathlib.Core.Path.{sym, _∙_}
 use mathlib.Core.List.{map}
-use Prim.Native.Nat.{ℕ, _≤_, _<_}
 use native.Mathlib.Omega.{arith}
-use lib.ListN.{length, take}
+use lib.ListN.{length}
 use Rattle.intersections.specs.Members.{headsOf, circleAt}
 use Rattle.boundary.specs.Set.{regionArcs}
 use Rattle.clip.proofs.Rows.{gradient-of-nothing}
@@ -15,37 +14,45 @@ use Rattle.sums.proofs.Sloping.{parts-known, every-first, row-in-box-wi
 use Rattle.sums.proofs.gradient.clipped_row_with_gradient.Statement.{statement}
 use Rattle.sums.proofs.gradient.clipped_row_with_gradient.Tie as tie
 
+abbrev listed : tie.After-add-parts-arg2 → tie.After-first-arcs
+listed c = c .before .before
+
+abbrev left : tie.After-first-arcs → tie.Else1
+left f = f .before .before .before
+
+abbrev entry : tie.After-empty-box → tie.Start
+entry e = e .before .before
+
 returns : tie.Need-returns
 returns c =
-    let s = c .before .before .before in
+    let s = entry (c .before) in
     let a = s .args in
-    let cs = circlesIn (a .c .now) (a .n-sets) in (
+    let cs = circlesIn (a .c .now) (a .n-sets) in
+    let own = map (circleAt cs) (headsOf (length cs) (a .mask)) in (
       s .pre .0 .1 .1,
       λ points few marks.
-          gradient-of-nothing (a .bounds) cs (map (circleAt cs) (headsOf (length cs) (a .mask))) (regionArcs cs points (a .mask)) (a .grad .now)
-          (sym (c .before .empty-box .ensures) ∙ c .if1 .taken),
+          gradient-of-nothing (a .bounds) cs own (regionArcs cs points (a .mask)) (a .grad .now) (sym (c .before .empty-box .ensures) ∙ c .if1 .taken),
     )
 
 walk-requires : tie.Need-walk-requires
-walk-requires c κs = let s = c .before .before .before .before in (s .pre .0, s .pre .1 .0)
+walk-requires c κs = let s = entry (c .before .before) in (s .pre .0, s .pre .1 .0)
 
 add-parts-requires : tie.Need-add-parts-requires
 add-parts-requires c κs =
-    let f = c .before .before in
-    let w = f .before in
-    let s = w .before .before .before .before .before in
+    let f = listed c in
+    let w = f .before .walk in
+    let s = entry (left f .before) in
     let a = s .args in
-    let listing = w .walk .ensures .1 in
     let roomy = ready-roomy (a .c .now) (a .n-sets) (a .mask) (a .counts .now) (a .owners .now) (a .phi .now) (a .lets .now) (s .pre .1 .0) in (
-      (s .pre .0 .0, (omega (arith, f .first-arcs .ensures, w .walk .ensures .0), listing .long)),
-      every-first _ (w .walk .result) (f .first-arcs .result) _ (f .first-arcs .ensures)
-          (parts-known (a .n-sets) (a .mask) (s .pre .0 .0) roomy (s .pre .1 .1 .0) listing),
+      (s .pre .0 .0, (omega (arith, f .first-arcs .ensures, w .ensures .0), w .ensures .1 .long)),
+      every-first _ (w .result) (f .first-arcs .result) _ (f .first-arcs .ensures)
+          (parts-known (a .n-sets) (a .mask) (s .pre .0 .0) roomy (s .pre .1 .1 .0) (w .ensures .1)),
     )
 
 add-edges-with-gradient-requires : tie.Need-add-edges-with-gradient-requires
 add-edges-with-gradient-requires c κs =
-    let w = c .before .before .before .before .before .before .before in
-    let s = w .before .before .before .before .before in
+    let p = c .before .before .before in
+    let s = entry (left (listed (p .before)) .before) in
     (s .pre .0 .0, s .pre .0 .1 .0)
 
 same-length : tie.Need-same-length
@@ -58,18 +65,18 @@ returns-2 : tie.Need-returns-2
 returns-2 c =
     let e = c .before .before in
     let p = e .before .before .before .before in
-    let f = p .before .before .before in
-    let w = f .before in
-    let el = w .before .before in
-    let s = el .before .before .before in
+    let f = listed (p .before) in
+    let l = left f in
+    let s = entry (l .before) in
     let a = s .args in
-    let listing = w .walk .ensures .1 in
+    let listing = f .before .walk .ensures .1 in
     let cs = circlesIn (a .c .now) (a .n-sets) in (
       listing .long,
       λ points few marks.
-          row-in-box-with (a .c .now) (a .n-sets) points (a .mask) (a .counts .now) (a .phi .now) (a .adopters .now) (s .pre .0 .0) (s .pre .0 .1 .0) few marks
-          listing (a .grad .now) (f .first-arcs .ensures) (a .bounds) (map (circleAt cs) (headsOf (length cs) (a .mask)))
-          (sym (el .before .empty-box .ensures) ∙ el .if1 .left) (p .add-parts .ensures)
+          row-in-box-with (a .c .now) (a .n-sets) points (a .mask) (a .counts .now) (a .phi .now) (a .adopters .now)
+          (s .pre .0 .0) (s .pre .0 .1 .0) few marks listing (a .grad .now) (f .first-arcs .ensures)
+          (a .bounds) (map (circleAt cs) (headsOf (length cs) (a .mask)))
+          (sym (l .before .empty-box .ensures) ∙ l .if1 .left) (p .add-parts .ensures)
           (e .add-edges-with-gradient .ensures cs (circles-many (a .c .now) (a .n-sets)) (s .pre .1 .1 .1)),
     )
 

@@ -1,6 +1,4 @@
 -- `row::open_row`: the arcs that the walk lists.
-use mathlib.Core.Path.{_≡_}
-use Rattle.sums.specs.Walk.{circlesIn}
 use Rattle.sums.proofs.Valuing.{three-known, ready-roomy, row-open}
 use Rattle.sums.proofs.row.open_row.Statement.{statement}
 use Rattle.sums.proofs.row.open_row.Tie as tie

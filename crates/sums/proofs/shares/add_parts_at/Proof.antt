@@ -1,11 +1,9 @@
 -- `shares::add_parts_at`: the arc's parts as they are held, or of the arc that is read.
 use borrow.Author.Needs.{needs}
-use mathlib.Core.Path.{_≡_, sym, ap, _∙_}
-use Prim.Native.Nat.{ℕ, _+_, _*_, _≤_, _<_}
+use mathlib.Core.Path.{ap, _∙_}
+use Prim.Native.Nat.{_≤_, _<_}
 use native.Mathlib.Omega.{arith}
-use lib.ListN.{getD}
 use Rattle.sums.specs.Walk.{circleIn}
-use Rattle.sums.specs.Slopes.{sharesFrom}
 use Rattle.sums.proofs.Sloping.{full-is, held-is}
 use Rattle.sums.proofs.shares.add_parts_at.Statement.{statement}
 use Rattle.sums.proofs.shares.add_parts_at.Tie as tie

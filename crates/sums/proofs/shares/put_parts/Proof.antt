@@ -1,12 +1,10 @@
 -- `shares::put_parts`: the parts before break i are put (`Putting`).
 use borrow.Author.Needs.{needs}
 use mathlib.Core.Path.{_≡_, refl, sym, _∙_}
-use mathlib.Core.List.{List}
 use mathlib.Core.Logic.{⊎-elim}
-use Prim.Native.Nat.{ℕ, _+_, _*_, _-_, _≤_, _<_}
+use Prim.Native.Nat.{_+_, _*_, _-_, _≤_}
 use native.Mathlib.Omega.{arith}
-use lib.ListN.{length, getD, length-take}
-use lib.Ieee.{Float, nan}
+use lib.ListN.{length, length-take}
 use Rattle.inside.specs.Breaks.{breaks}
 use Rattle.clip.specs.Gradient.{clippedArcIntegralWithGradient}
 use Rattle.sums.proofs.Sloping.{Putting, putting-starts, putting-skips, putting-puts, putting-ends}

@@ -1,7 +1,7 @@
 -- `slopes::add_slopes_at`: the three slopes as they are held, or of the arc that is read.
 use borrow.Author.Needs.{needs}
-use mathlib.Core.Path.{_≡_, sym, ap, _∙_}
-use Prim.Native.Nat.{ℕ, _*_, _≤_, _<_}
+use mathlib.Core.Path.{ap, _∙_}
+use Prim.Native.Nat.{_≤_}
 use native.Mathlib.Omega.{arith}
 use Rattle.sums.specs.Walk.{circleIn}
 use Rattle.sums.specs.Slopes.{slopeX, slopeY, slopeR}

@@ -1,7 +1,7 @@
 -- `slopes::fill_slopes`: the places below p that are asked for hold the slopes of their arcs.
 use borrow.Author.Needs.{needs}
-use mathlib.Core.Path.{_≡_, sym, ap, _∙_}
-use Prim.Native.Nat.{ℕ, _-_, _≤_, _<_}
+use mathlib.Core.Path.{sym, ap, _∙_}
+use Prim.Native.Nat.{_-_}
 use native.Mathlib.Omega.{arith}
 use Rattle.sums.specs.Walk.{circleIn, circlesIn}
 use Rattle.sums.specs.Slopes.{slopeX, slopeY, slopeR}

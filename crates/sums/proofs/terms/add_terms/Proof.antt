@@ -1,16 +1,9 @@
 -- `terms::add_terms`: the first i arcs of the list.
 use borrow.Author.Needs.{needs}
-use mathlib.Core.Path.{_≡_, refl, sym, ap, _∙_}
-use mathlib.Core.Bool.{true, false, true≢false}
-use mathlib.Core.Logic.{⊎-elim}
-use Prim.Native.Nat.{ℕ, _+_, _-_, _*_, _^_, _/_, _%_, _≤_, _<_}
+use mathlib.Core.Path.{_≡_, refl, _∙_}
+use Prim.Native.Nat.{_-_, _≤_}
 use native.Mathlib.Omega.{arith}
-use borrow.Author.Tests.{eq-eqb, ne-eqb, lt-ltb, le-ltb, not-true, not-false}
-use lib.Dec.{eqb, ltb}
-use lib.ListN.{length, take, getD, set, length-take, length-set}
-use lib.Seq.{getD-take, take-all}
-use lib.Ieee.{Float, nan}
-use Rattle.lists.proofs.Arrays.{length-of-values}
+use lib.ListN.{length, take}
 use mathlib.Core.List.{foldl}
 use Rattle.lists.proofs.Folds.{fold-suc}
 use Rattle.binary64.specs.Constants.{zero64}
