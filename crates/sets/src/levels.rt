@@ -6,6 +6,7 @@ ghost use Prim.Native.Nat.{_≤_, _<_, _^_};
 ghost use lib.Count.{ones};
 ghost use lib.Dec.{eqb};
 ghost use lib.ListN.{getD, replicate, take};
+ghost use Rattle.geometry.specs.Circle as spec;
 ghost use Rattle.masks.specs.Mask.{inSet, withoutHead, subset, every};
 ghost use Rattle.masks.specs.Presence.{byte, stands};
 ghost use Rattle.lists.specs.Some.{some};
@@ -46,6 +47,16 @@ pub(crate) fn overlapping_heads(found: &[u8; 1024], n: usize) -> [usize; 10]
     heads
 }
 
+// Whether the circle contains the other. A smaller one does not, and needs no distance.
+fn contains(circle: Circle, other: Circle) -> bool
+    ensures { λ r. ⌜ r ≡ spec.contains circle other ⌝ }
+{
+    if circle.radius < other.radius {
+        return false;
+    }
+    circle.contains(other)
+}
+
 // The heads that contain head k.
 fn containing_head(circles: [Circle; 10], k: usize, n: usize) -> usize
     requires { ⌜ (n ≤ 10) × (k < n) ⌝ }
@@ -54,8 +65,7 @@ fn containing_head(circles: [Circle; 10], k: usize, n: usize) -> usize
     let mut mask: usize = 0;
     let mut j: usize = 0;
     while j < n {
-        let c = circles[j];
-        if c.contains(circles[k]) {
+        if contains(circles[j], circles[k]) {
             mask = mask | 1 << j;
         }
         j += 1;
