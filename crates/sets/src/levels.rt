@@ -113,9 +113,9 @@ fn others_in(s: usize, i: usize, heads: usize, n: usize) -> bool
 }
 
 // Whether each head of s overlaps all others.
-fn all_pairs(overlapping: [usize; 10], s: usize, n: usize) -> bool
+fn all_pairs(overlapping: &[usize; 10], s: usize, n: usize) -> bool
     requires { ⌜ (n ≤ 10) × (s < 2 ^ n) ⌝ }
-    ensures { λ r. ⌜ r ≡ every n (λ i. not (inSet s i) || subset n (withoutHead n s i) (getD overlapping i 0)) ⌝ }
+    ensures { λ r. ⌜ r ≡ every n (λ i. not (inSet s i) || subset n (withoutHead n s i) (getD (now (overlapping .entry)) i 0)) ⌝ }
 {
     let mut i: usize = 0;
     while i < n {
@@ -128,9 +128,9 @@ fn all_pairs(overlapping: [usize; 10], s: usize, n: usize) -> bool
 }
 
 // Whether one head of s is contained in all others.
-fn one_in_all(containing: [usize; 10], s: usize, n: usize) -> bool
+fn one_in_all(containing: &[usize; 10], s: usize, n: usize) -> bool
     requires { ⌜ (n ≤ 10) × (s < 2 ^ n) ⌝ }
-    ensures { λ r. ⌜ r ≡ some n (λ i. inSet s i && subset n (withoutHead n s i) (getD containing i 0)) ⌝ }
+    ensures { λ r. ⌜ r ≡ some n (λ i. inSet s i && subset n (withoutHead n s i) (getD (now (containing .entry)) i 0)) ⌝ }
 {
     let mut i: usize = 0;
     while i < n {
@@ -145,13 +145,13 @@ fn one_in_all(containing: [usize; 10], s: usize, n: usize) -> bool
 // Whether a mask with one head more than one of the level below joins the next level.
 fn joins(
     found: &[u8; 1024],
-    overlapping: [usize; 10],
-    containing: [usize; 10],
+    overlapping: &[usize; 10],
+    containing: &[usize; 10],
     s: usize,
     n: usize,
 ) -> bool
     requires { ⌜ (n ≤ 10) × (s < 2 ^ n) ⌝ }
-    ensures { λ r. ⌜ r ≡ joins n (stands (now (found .entry))) (λ i. getD overlapping i 0) (λ i. getD containing i 0) s ⌝ }
+    ensures { λ r. ⌜ r ≡ joins n (stands (now (found .entry))) (λ i. getD (now (overlapping .entry)) i 0) (λ i. getD (now (containing .entry)) i 0) s ⌝ }
 {
     if found[s] == 1 {
         return false;
@@ -166,13 +166,13 @@ fn joins(
 fn add_joining(
     level: &mut [u8; 1024],
     found: &[u8; 1024],
-    overlapping: [usize; 10],
-    containing: [usize; 10],
+    overlapping: &[usize; 10],
+    containing: &[usize; 10],
     s: usize,
     n: usize,
 )
     requires { ⌜ (n ≤ 10) × (s < 2 ^ n) ⌝ }
-    ensures { λ r. ⌜ now (level .exit) ≡ marked (joiningOf n (stands (now (found .entry))) (λ i. getD overlapping i 0) (λ i. getD containing i 0) s) (now (level .entry)) ⌝ }
+    ensures { λ r. ⌜ now (level .exit) ≡ marked (joiningOf n (stands (now (found .entry))) (λ i. getD (now (overlapping .entry)) i 0) (λ i. getD (now (containing .entry)) i 0) s) (now (level .entry)) ⌝ }
 {
     let mut i: usize = 0;
     while i < n {
@@ -198,12 +198,12 @@ fn in_level(found: u8, level: u8, s: usize) -> bool
 // 5. Level by level, in one pass from the first mask on: a mask with one head more is a larger number, and is looked at later.
 pub(crate) fn levels(
     found: &[u8; 1024],
-    overlapping: [usize; 10],
-    containing: [usize; 10],
+    overlapping: &[usize; 10],
+    containing: &[usize; 10],
     n: usize,
 ) -> [u8; 1024]
     requires { ⌜ n ≤ 10 ⌝ }
-    ensures { λ r. ⌜ r ≡ written (λ S. byte (joined n (stands (now (found .entry))) (λ i. getD overlapping i 0) (λ i. getD containing i 0) S)) (2 ^ n) (replicate 1024 0) ⌝ }
+    ensures { λ r. ⌜ r ≡ written (λ S. byte (joined n (stands (now (found .entry))) (λ i. getD (now (overlapping .entry)) i 0) (λ i. getD (now (containing .entry)) i 0) S)) (2 ^ n) (replicate 1024 0) ⌝ }
 {
     let mut level = [0u8; 1024];
     let masks = 1usize << n;
