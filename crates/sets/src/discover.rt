@@ -63,6 +63,6 @@ pub fn discover_regions(circles: [Circle; 10], points: Intersections, n_sets: us
     let witnessed = add_pairs(adopted, &meeting, &containing, n);
     let found = add_parts(witnessed, n);
     let overlapping = overlapping_heads(&found, n);
-    let level = levels(&found, overlapping, containing, n);
+    let level = levels(&found, &overlapping, &containing, n);
     joined_bytes(found, &level, n)
 }

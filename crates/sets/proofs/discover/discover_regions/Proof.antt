@@ -48,10 +48,10 @@ overlapping-heads-requires : tie.Need-overlapping-heads-requires
 overlapping-heads-requires c κs = few (counted (c .before .before))
 
 levels-requires : tie.Need-levels-requires
-levels-requires c κs = few (counted (c .before .before .before .before))
+levels-requires c κs = few (counted (c .before .before .before .before .before .before))
 
 joined-bytes-requires : tie.Need-joined-bytes-requires
-joined-bytes-requires c κs = few (counted (c .before .before .before .before .before .before))
+joined-bytes-requires c κs = few (counted (c .before .before .before .before .before .before .before .before))
 
 -- there are ten circles
 ten-circles : (c : tie.Start) → length (c .args .circles) ≡ 10
@@ -77,7 +77,7 @@ pairs-are c =
 returns : tie.Need-returns
 returns c =
     let lev = c .before .before in
-    let ove = lev .before .before in
+    let ove = lev .before .before .before .before in
     let par = ove .before .before in
     let pai = par .before in
     let con = pai .before .before .before in

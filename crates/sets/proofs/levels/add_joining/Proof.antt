@@ -54,8 +54,8 @@ loop-again c =
     let a = c .before .before .before .args in
     let h : l .i < a .n = omega arith in
     let v : ℕ → ℕ = withHead (a .n) (a .s) in
-    let t : ℕ → Bool = test (a .found .now) (a .overlapping) (a .containing) (a .s) (a .n) in
-    let free : ℕ → Bool = joins (a .n) (stands (a .found .now)) (λ i. getD (a .overlapping) i 0) (λ i. getD (a .containing) i 0) in
+    let t : ℕ → Bool = test (a .found .now) (a .overlapping .now) (a .containing .now) (a .s) (a .n) in
+    let free : ℕ → Bool = joins (a .n) (stands (a .found .now)) (λ i. getD (a .overlapping .now) i 0) (λ i. getD (a .containing .now) i 0) in
     let at = with-at (a .n) (a .s) (l .i) (l .inv .0) (l .inv .1) h in (
       l .inv .0,
       l .inv .1,
@@ -79,7 +79,7 @@ returns c =
     let a = c .before .before .args in
     let e : l .i ≡ a .n = omega arith in
     l .inv .3 ∙ ap (λ (m : ℕ). marked (λ T. some m (λ k. eqb T (withHead (a .n) (a .s) k)
-    && test (a .found .now) (a .overlapping) (a .containing) (a .s) (a .n) k)) (a .level .now)) e
+    && test (a .found .now) (a .overlapping .now) (a .containing .now) (a .s) (a .n) k)) (a .level .now)) e
 
 pub add-joining-spec : {M : Type 1} → statement M
 add-joining-spec =
