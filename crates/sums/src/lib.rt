@@ -4,13 +4,11 @@
 mod chords;
 mod fast;
 mod fill;
-mod gradient;
 pub mod gradients;
 pub mod presence;
 mod row;
 pub mod rows;
 mod shares;
-mod slopes;
 mod terms;
 mod values;
 mod walk;

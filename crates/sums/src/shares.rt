@@ -1,5 +1,5 @@
 // The parts in the box of each arc, as the shares that they add to a gradient, by the arc's number. Rests on specs/Slopes.antt.
-use crate::slopes::add_three_at;
+use crate::terms::add_three_at;
 use crate::values::arc_at;
 use crate::values::head_of;
 use crate::values::is_standing;

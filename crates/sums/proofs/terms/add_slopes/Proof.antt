@@ -9,8 +9,8 @@ use Rattle.lists.proofs.Folds.{fold-suc}
 use Rattle.sums.specs.Walk.{circlesIn}
 use Rattle.sums.specs.Slopes.{addSlopesAt}
 use Rattle.sums.proofs.Valuing.{every-listed}
-use Rattle.sums.proofs.slopes.add_slopes.Statement.{statement}
-use Rattle.sums.proofs.slopes.add_slopes.Tie as tie
+use Rattle.sums.proofs.terms.add_slopes.Statement.{statement}
+use Rattle.sums.proofs.terms.add_slopes.Tie as tie
 
 abbrev Inv-loop : tie.InvT-loop
 Inv-loop grad₀ list k c n-sets counts phi us vs ws i₀ grad i =

@@ -1,8 +1,8 @@
 -- `slopes::add_three_at`: what each call gives, the last first.
 use borrow.Author.Needs.{needs}
 use Rattle.sums.specs.Slopes.{addThreeAt}
-use Rattle.sums.proofs.slopes.add_three_at.Statement.{statement}
-use Rattle.sums.proofs.slopes.add_three_at.Tie as tie
+use Rattle.sums.proofs.terms.add_three_at.Statement.{statement}
+use Rattle.sums.proofs.terms.add_three_at.Tie as tie
 
 returns : tie.Need-returns
 unfolding addThreeAt

@@ -6,8 +6,8 @@ use native.Mathlib.Omega.{arith}
 use Rattle.sums.specs.Walk.{circleIn, circlesIn}
 use Rattle.sums.specs.Slopes.{slopeX, slopeY, slopeR}
 use Rattle.sums.proofs.Valuing.{standing-below, standing-readable, ThreeTo, three-starts, three-past, three-put, three-all}
-use Rattle.sums.proofs.slopes.fill_slopes.Statement.{statement}
-use Rattle.sums.proofs.slopes.fill_slopes.Tie as tie
+use Rattle.sums.proofs.terms.fill_slopes.Statement.{statement}
+use Rattle.sums.proofs.terms.fill_slopes.Tie as tie
 
 abbrev Inv-loop : tie.InvT-loop
 Inv-loop c n-sets needed counts phi us₀ vs₀ ws₀ p₀ us vs ws p =

@@ -1,8 +1,8 @@
 -- `slopes::slope_x`: what each call gives.
 use borrow.Author.Needs.{needs}
 use Rattle.sums.specs.Slopes.{slopeX}
-use Rattle.sums.proofs.slopes.slope_x.Statement.{statement}
-use Rattle.sums.proofs.slopes.slope_x.Tie as tie
+use Rattle.sums.proofs.terms.slope_x.Statement.{statement}
+use Rattle.sums.proofs.terms.slope_x.Tie as tie
 
 pub slope-x-spec : {M : Type 1} → statement M
 unfolding slopeX

@@ -6,8 +6,8 @@ use native.Mathlib.Omega.{arith}
 use Rattle.sums.specs.Walk.{circleIn}
 use Rattle.sums.specs.Slopes.{slopeX, slopeY, slopeR}
 use Rattle.sums.proofs.Valuing.{term-is}
-use Rattle.sums.proofs.slopes.add_slopes_at.Statement.{statement}
-use Rattle.sums.proofs.slopes.add_slopes_at.Tie as tie
+use Rattle.sums.proofs.terms.add_slopes_at.Statement.{statement}
+use Rattle.sums.proofs.terms.add_slopes_at.Tie as tie
 
 -- the place of the head's entries
 low : (c : tie.After-head-of) → c .head-of .result ≤ 9

@@ -1,8 +1,8 @@
 -- `slopes::slope_y`: what each call gives.
 use borrow.Author.Needs.{needs}
 use Rattle.sums.specs.Slopes.{slopeY}
-use Rattle.sums.proofs.slopes.slope_y.Statement.{statement}
-use Rattle.sums.proofs.slopes.slope_y.Tie as tie
+use Rattle.sums.proofs.terms.slope_y.Statement.{statement}
+use Rattle.sums.proofs.terms.slope_y.Tie as tie
 
 pub slope-y-spec : {M : Type 1} → statement M
 unfolding slopeY

@@ -11,8 +11,8 @@ use Rattle.sums.specs.Walk.{circlesIn}
 use Rattle.sums.proofs.Walking.{circles-many}
 use Rattle.sums.proofs.Valuing.{ready-roomy}
 use Rattle.sums.proofs.Sloping.{parts-known, every-first, row-in-box-with}
-use Rattle.sums.proofs.gradient.clipped_row_with_gradient.Statement.{statement}
-use Rattle.sums.proofs.gradient.clipped_row_with_gradient.Tie as tie
+use Rattle.sums.proofs.row.clipped_row_with_gradient.Statement.{statement}
+use Rattle.sums.proofs.row.clipped_row_with_gradient.Tie as tie
 
 abbrev listed : tie.After-add-parts-arg2 → tie.After-first-arcs
 listed c = c .before .before

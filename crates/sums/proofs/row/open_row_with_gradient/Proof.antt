@@ -5,8 +5,8 @@ use native.Mathlib.Omega.{arith}
 use Rattle.sums.specs.Values.{Roomy}
 use Rattle.sums.proofs.Valuing.{three-known, ready-roomy}
 use Rattle.sums.proofs.Sloping.{every-first, row-open-with}
-use Rattle.sums.proofs.gradient.open_row_with_gradient.Statement.{statement}
-use Rattle.sums.proofs.gradient.open_row_with_gradient.Tie as tie
+use Rattle.sums.proofs.row.open_row_with_gradient.Statement.{statement}
+use Rattle.sums.proofs.row.open_row_with_gradient.Tie as tie
 
 abbrev entry : tie.After-first-arcs → tie.Start
 entry f = f .before .before .before .before
