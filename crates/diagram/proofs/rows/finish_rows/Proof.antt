@@ -24,9 +24,6 @@ cleared c = c .before .before .before .before .before .before
 some-row : (c : tie.After-area) → 0 < length (entry c .args .areas .now)
 some-row c = let s = entry c in omega (arith, s .pre .2, pow-pos (s .args .drawing .n))
 
-slice-write-areas : tie.Need-slice-write-areas
-slice-write-areas c = some-row c
-
 same-length-2 : tie.Need-same-length-2
 same-length-2 c =
     let k = cleared c in
@@ -54,5 +51,5 @@ returns c =
 
 pub finish-rows-spec : {M : Type 1} → statement M
 finish-rows-spec =
-    tie.close (tie.spec (λ c κs. search needs) slice-write-areas (λ c κs. search needs) (λ c κs. search needs) (λ c. search needs)
+    tie.close (tie.spec (λ c κs. search needs) (λ c. some-row c) (λ c κs. search needs) (λ c κs. search needs) (λ c. search needs)
     same-length-2 returns)

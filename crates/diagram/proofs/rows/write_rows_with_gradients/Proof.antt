@@ -65,12 +65,6 @@ numbers c = let s = entry c in ap (λ (m : ℕ). m * s .args .width) (shifted-is
 room : (c : tie.After-bounds) → let a = entry c .args in shifted 64 (a .drawing .n) * a .width ≤ length (a .gradients .now)
 room c = omega (arith, numbers c, entry c .pre .3)
 
-mul-end : tie.Need-mul-end
-mul-end c = omega (arith, room c)
-
-slice-aggregate-clear : tie.Need-slice-aggregate-clear
-slice-aggregate-clear c = sym (length-take-le _ _ (room (c .before)))
-
 zeros-none : (c : tie.After-clear) → zeros c ≡ none (entry (bounded c))
 zeros-none c =
     let a = entry (bounded c) .args in
@@ -156,6 +150,7 @@ returns c =
 
 pub write-rows-with-gradients-spec : {M : Type 1} → statement M
 write-rows-with-gradients-spec =
-    tie.close (tie.spec (λ c κs. search needs) (λ c. search needs) mul-end (λ c. room c) slice-aggregate-clear
-    (λ c κs. search needs) (λ c κs. search needs) (λ c. first-room (worked c)) slice-aggregate-write-box-row (λ c κs. search needs)
-    (λ c κs. search needs) (λ c. search needs) (λ c. search needs) (λ c. search needs) returns)
+    tie.close (tie.spec (λ c κs. search needs) (λ c. search needs) (λ c. omega (arith, room c)) (λ c. room c)
+    (λ c. sym (length-take-le _ _ (room (c .before)))) (λ c κs. search needs) (λ c κs. search needs) (λ c. first-room (worked c))
+    slice-aggregate-write-box-row (λ c κs. search needs) (λ c κs. search needs) (λ c. search needs) (λ c. search needs) (λ c. search needs)
+    returns)

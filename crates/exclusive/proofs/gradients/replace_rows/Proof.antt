@@ -85,12 +85,6 @@ loop-again c =
       same .1,
     )
 
-same-length : tie.Need-same-length Inv-loop μ-loop
-same-length c = c .before .loop .inv .6
-
-same-length-2 : tie.Need-same-length-2 Inv-loop μ-loop
-same-length-2 c = c .before .loop .inv .7
-
 returns : tie.Need-returns Inv-loop μ-loop
 returns c =
     let l = c .before .loop in let i = l .inv in let a = c .before .before .before .before .before .args in
@@ -103,4 +97,4 @@ pub replace-rows-spec : {M : Type 1} → statement M
 replace-rows-spec =
     tie.close (tie.spec Inv-loop μ-loop (λ c. search needs) loop-holds (λ c. search needs) (λ c. search needs) (λ c. search needs)
     (λ c κs. search needs) (λ c. search needs) (λ c. search needs) zero-row-requires (λ c. search needs) (λ c. search needs) loop-again
-    same-length same-length-2 returns)
+    (λ c. c .before .loop .inv .6) (λ c. c .before .loop .inv .7) returns)

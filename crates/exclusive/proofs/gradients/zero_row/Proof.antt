@@ -31,9 +31,6 @@ loop-again c =
       zero-next (a .numbers .now) (a .s) (a .width) (l .k) (l .numbers) (omega arith) (i .0) (i .3),
     )
 
-same-length : tie.Need-same-length Inv-loop μ-loop
-same-length c = c .before .loop .inv .2
-
 returns : tie.Need-returns Inv-loop μ-loop
 returns c =
     let l = c .before .loop in let i = l .inv in let a = c .before .before .args in
@@ -43,4 +40,4 @@ returns c =
 pub zero-row-spec : {M : Type 1} → statement M
 zero-row-spec =
     tie.close (tie.spec Inv-loop μ-loop loop-holds (λ c. search needs) (λ c. search needs) (λ c. search needs) (λ c. search needs)
-    (λ c. search needs) (λ c. search needs) loop-again same-length returns)
+    (λ c. search needs) (λ c. search needs) loop-again (λ c. c .before .loop .inv .2) returns)

@@ -34,12 +34,6 @@ free : (c : tie.In-loop Inv-loop μ-loop) → c .before .loop .found < 1024
 free c =
     let i = c .before .loop .inv in omega (arith, c .loop-test .taken, i .1, i .4, masks-le (c .before .before .args .n) (i .0))
 
-mul-all : tie.Need-mul-all Inv-loop μ-loop
-mul-all c = omega (arith, free c)
-
-array-write-all : tie.Need-array-write-all Inv-loop μ-loop
-array-write-all c = free c
-
 -- one row at most is found
 one-more : (c : tie.Joined1 Inv-loop μ-loop) → c .if1 .one ≤ 1
 one-more c = ⊎-elim (λ w. omega (arith, w .1)) (λ w. omega (arith, w .1)) (c .if1 .came)
@@ -78,5 +72,5 @@ returns c =
 
 pub present-rows-spec : {M : Type 1} → statement M
 present-rows-spec =
-    tie.close (tie.spec Inv-loop μ-loop (λ c. search needs) loop-holds mul-all array-write-all (λ c. search needs) add-found
-    (λ c. search needs) (λ c. search needs) loop-again returns)
+    tie.close (tie.spec Inv-loop μ-loop (λ c. search needs) loop-holds (λ c. omega (arith, free c)) (λ c. free c) (λ c. search needs)
+    add-found (λ c. search needs) (λ c. search needs) loop-again returns)

@@ -139,15 +139,6 @@ module _ (c : tie.Then1 Inv-loop2 μ-loop2 Inv-loop μ-loop) where
         masks-le (a .n) (i .0),
       )
 
-mul-all-2 : tie.Need-mul-all-2 Inv-loop2 μ-loop2 Inv-loop μ-loop
-mul-all-2 c = omega (arith, free c)
-
-array-write-all : tie.Need-array-write-all Inv-loop2 μ-loop2 Inv-loop μ-loop
-array-write-all c = free c
-
-add-k : tie.Need-add-k Inv-loop2 μ-loop2 Inv-loop μ-loop
-add-k c = omega (arith, free c)
-
 loop2-again : tie.Need-loop2-again Inv-loop2 μ-loop2 Inv-loop μ-loop
 loop2-again c =
     let m = c .before in let l = m .before .loop2 in let i = l .inv in let d = m .before .before .before .loop .c in
@@ -205,5 +196,6 @@ returns c =
 pub row-order-spec : {M : Type 1} → statement M
 row-order-spec =
     tie.close (tie.spec Inv-loop2 μ-loop2 Inv-loop μ-loop present-rows-requires row-heads-requires loop-holds loop2-holds
-    (λ c. search needs) (λ c. search needs) cast-if1 (λ c. search needs) (λ c. search needs) mul-all-2 array-write-all add-k
-    (λ c. search needs) (λ c. search needs) loop2-again (λ c. search needs) (λ c. search needs) loop-again returns)
+    (λ c. search needs) (λ c. search needs) cast-if1 (λ c. search needs) (λ c. search needs) (λ c. omega (arith, free c)) (λ c. free c)
+    (λ c. omega (arith, free c)) (λ c. search needs) (λ c. search needs) loop2-again (λ c. search needs) (λ c. search needs) loop-again
+    returns)

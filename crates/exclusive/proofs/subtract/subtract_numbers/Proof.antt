@@ -27,9 +27,6 @@ sum-rows-requires c κs =
     let l = c .before .before .loop in let i = l .inv in let a = c .before .before .before .before .args in
     (i .0, i .1, c .before .loop-test .taken, subst (λ (m : ℕ). Every (λ T. suc T * a .width ≤ m) (take (a .count) (a .rows .now))) (sym (i .6 .many)) (i .3))
 
-mul-at : tie.Need-mul-at Inv-loop μ-loop
-mul-at c = omega (arith, c)
-
 loop-again : tie.Need-loop-again Inv-loop μ-loop
 loop-again c =
     let m = c .before .before .before in let l = m .before .loop in let i = l .inv in let a = m .before .before .before .args in (
@@ -45,9 +42,6 @@ loop-again c =
           (i .6),
     )
 
-same-length : tie.Need-same-length Inv-loop μ-loop
-same-length c = c .before .loop .inv .6 .many
-
 returns : tie.Need-returns Inv-loop μ-loop
 returns c =
     let l = c .before .loop in let i = l .inv in let a = c .before .before .before .args in
@@ -56,5 +50,6 @@ returns c =
 
 pub subtract-numbers-spec : {M : Type 1} → statement M
 subtract-numbers-spec =
-    tie.close (tie.spec Inv-loop μ-loop loop-holds sum-rows-requires mul-at (λ c. search needs) (λ c. search needs) (λ c. search needs)
-    (λ c. search needs) (λ c. search needs) (λ c. search needs) (λ c. search needs) loop-again same-length returns)
+    tie.close (tie.spec Inv-loop μ-loop loop-holds sum-rows-requires (λ c. omega (arith, c)) (λ c. search needs) (λ c. search needs)
+    (λ c. search needs) (λ c. search needs) (λ c. search needs) (λ c. search needs) (λ c. search needs) loop-again
+    (λ c. c .before .loop .inv .6 .many) returns)

@@ -84,15 +84,6 @@ module _ (c : tie.In-loop Inv-loop μ-loop) where
       e ∙ ap (λ (r : List ℕ). keep (subset 64 (rows at)) (drop (at + 1) r)) (i .4)
       ∙ supersets-after (rowOrder (stands bytes) n) at (rows at) inside here (at + 1) n own (omega (arith, row-lt n (rows at) (i .0) own)) (omega arith) (rows-ordered (stands bytes) n)
 
-sub-i : tie.Need-sub-i Inv-loop μ-loop
-sub-i c = omega arith
-
-mul-s : tie.Need-mul-s Inv-loop μ-loop
-mul-s c = omega arith
-
-array-read-s : tie.Need-array-read-s Inv-loop μ-loop
-array-read-s c = omega (arith, c .before .loop .inv .3)
-
 add-collect-supersets : tie.Need-add-collect-supersets Inv-loop μ-loop
 add-collect-supersets c = omega (arith, c .before .before .loop .inv .3)
 
@@ -111,9 +102,6 @@ subtract-row-requires c κs =
       subst (Every (λ T. suc T * a .width ≤ length (m .before .loop .numbers))) (sym up) (above-every (n m) (stands (bytes m)) (rows m (at m)) (own m) (λ T. suc T * a .width ≤ length (m .before .loop .numbers)) (λ T h o. fits T h)),
       subst (Every (λ T. T ≡ rows m (at m) → ⊥)) (sym up) (above-every (n m) (stands (bytes m)) (rows m (at m)) (own m) (λ T. T ≡ rows m (at m) → ⊥) (λ T h o same. omega (arith, ap ones same))),
     )
-
-loop-less : tie.Need-loop-less Inv-loop μ-loop
-loop-less c = omega arith
 
 loop-again : tie.Need-loop-again Inv-loop μ-loop
 loop-again c =
@@ -134,9 +122,6 @@ loop-again c =
           p (t .subtract-row .ensures),
     )
 
-same-length : tie.Need-same-length Inv-loop μ-loop
-same-length c = c .before .loop .inv .7 .many
-
 returns : tie.Need-returns Inv-loop μ-loop
 returns c =
     let l = c .before .loop in let i = l .inv in let a = c .before .before .before .before .before .before .args in
@@ -146,5 +131,6 @@ returns c =
 
 pub subtract-supersets-spec : {M : Type 1} → statement M
 subtract-supersets-spec =
-    tie.close (tie.spec Inv-loop μ-loop row-order-requires loop-holds sub-i mul-s array-read-s add-collect-supersets
-    collect-supersets-requires subtract-row-requires loop-less loop-again same-length returns)
+    tie.close (tie.spec Inv-loop μ-loop row-order-requires loop-holds (λ c. omega arith) (λ c. omega arith)
+    (λ c. omega (arith, c .before .loop .inv .3)) add-collect-supersets collect-supersets-requires subtract-row-requires (λ c. omega arith)
+    loop-again (λ c. c .before .loop .inv .7 .many) returns)

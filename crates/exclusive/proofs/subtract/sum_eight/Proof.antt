@@ -48,9 +48,6 @@ inside c =
     subst (λ (m : ℕ). suc m * a .width ≤ length (a .numbers .now)) (getD-take (a .count) (a .rows .now) (l .j) 0 (c .loop-test .taken))
     (every-at (λ T. suc T * a .width ≤ length (a .numbers .now)) (take (a .count) (a .rows .now)) (l .j) 0 (omega (arith, i .0)) (i .4))
 
-mul-add-eight : tie.Need-mul-add-eight Inv-loop μ-loop
-mul-add-eight c = omega (arith, inside (c .before))
-
 add-add-eight : tie.Need-add-add-eight Inv-loop μ-loop
 add-add-eight c = omega (arith, inside (c .before), c .before .before .loop .inv .3)
 
@@ -93,5 +90,5 @@ returns c =
 
 pub sum-eight-spec : {M : Type 1} → statement M
 sum-eight-spec =
-    tie.close (tie.spec Inv-loop μ-loop loop-holds (λ c. search needs) (λ c. search needs) mul-add-eight add-add-eight add-eight-requires
-    (λ c. search needs) (λ c. search needs) loop-again returns)
+    tie.close (tie.spec Inv-loop μ-loop loop-holds (λ c. search needs) (λ c. search needs) (λ c. omega (arith, inside (c .before)))
+    add-add-eight add-eight-requires (λ c. search needs) (λ c. search needs) loop-again returns)

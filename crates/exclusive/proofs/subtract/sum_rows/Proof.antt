@@ -36,18 +36,6 @@ inside c =
     subst (λ (m : ℕ). suc m * a .width ≤ length (a .numbers .now)) (getD-take (a .count) (a .rows .now) (l .j) 0 (c .loop-test .taken))
     (every-at (λ T. suc T * a .width ≤ length (a .numbers .now)) (take (a .count) (a .rows .now)) (l .j) 0 (omega (arith, i .0)) (i .4))
 
-mul-sum : tie.Need-mul-sum Inv-loop μ-loop
-mul-sum c = omega (arith, inside (c .before))
-
-add-sum : tie.Need-add-sum Inv-loop μ-loop
-add-sum c = omega (arith, inside (c .before))
-
-mul-sum-2 : tie.Need-mul-sum-2 Inv-loop μ-loop
-mul-sum-2 c = omega (arith, inside (c .before))
-
-shared-slice-read-sum : tie.Need-shared-slice-read-sum Inv-loop μ-loop
-shared-slice-read-sum c = omega (arith, inside (c .before .before))
-
 loop-again : tie.Need-loop-again Inv-loop μ-loop
 loop-again c =
     let m = c .before .before in
@@ -69,5 +57,6 @@ returns c =
 
 pub sum-rows-spec : {M : Type 1} → statement M
 sum-rows-spec =
-    tie.close (tie.spec Inv-loop μ-loop loop-holds (λ c. search needs) (λ c. search needs) mul-sum add-sum mul-sum-2 shared-slice-read-sum
+    tie.close (tie.spec Inv-loop μ-loop loop-holds (λ c. search needs) (λ c. search needs) (λ c. omega (arith, inside (c .before)))
+    (λ c. omega (arith, inside (c .before))) (λ c. omega (arith, inside (c .before))) (λ c. omega (arith, inside (c .before .before)))
     (λ c. search needs) (λ c. search needs) loop-again returns)

@@ -74,15 +74,6 @@ unfolding upTo
 loop-holds c =
     record { ten = ten (c .before .before); most = omega (arith, c .before .at-most-ten .ensures); within = omega arith; held = held-none _ }
 
-mul-first : tie.Need-mul-first Inv-loop3 μ-loop3 Inv-loop2 μ-loop2 Inv-loop μ-loop
-mul-first c = omega arith
-
-array-copy-out-first : tie.Need-array-copy-out-first Inv-loop3 μ-loop3 Inv-loop2 μ-loop2 Inv-loop μ-loop
-array-copy-out-first c = omega arith
-
-add-j : tie.Need-add-j Inv-loop3 μ-loop3 Inv-loop2 μ-loop2 Inv-loop μ-loop
-add-j c = omega arith
-
 loop2-holds : tie.Need-loop2-holds Inv-loop3 μ-loop3 Inv-loop2 μ-loop2 Inv-loop μ-loop
 loop2-holds c =
     let l = c .before .before .loop in
@@ -96,12 +87,6 @@ loop2-holds c =
       within = omega arith;
       held = held-as (sym (ap (λ x. before ++ x) (row-none cs (l .i)) ∙ append-nil before)) (l .inv .held);
     }
-
-mul-new : tie.Need-mul-new Inv-loop3 μ-loop3 Inv-loop2 μ-loop2 Inv-loop μ-loop
-mul-new c = omega arith
-
-array-copy-out-new : tie.Need-array-copy-out-new Inv-loop3 μ-loop3 Inv-loop2 μ-loop2 Inv-loop μ-loop
-array-copy-out-new c = omega arith
 
 -- the array of a pair's points has two places
 two : (c : tie.After-meeting-points Inv-loop3 μ-loop3 Inv-loop2 μ-loop2 Inv-loop μ-loop) → length (c .meeting-points .result .all) ≡ 2
@@ -132,15 +117,6 @@ with-adopters-requires c κs =
     let met = c .before .before .loop3 .inv in
     let made = c .before .before .before .before .new2 .ensures in
     rw (made .0, made .1) (met .most, (omega (arith, met .after, met .below), met .below))
-
-mul-all : tie.Need-mul-all Inv-loop3 μ-loop3 Inv-loop2 μ-loop2 Inv-loop μ-loop
-mul-all c = omega (arith, c .if1 .taken)
-
-array-set-from-all : tie.Need-array-set-from-all Inv-loop3 μ-loop3 Inv-loop2 μ-loop2 Inv-loop μ-loop
-array-set-from-all c = omega (arith, c .if1 .taken)
-
-add-count : tie.Need-add-count Inv-loop3 μ-loop3 Inv-loop2 μ-loop2 Inv-loop μ-loop
-add-count c = omega (arith, c .if1 .taken)
 
 add-k : tie.Need-add-k Inv-loop3 μ-loop3 Inv-loop2 μ-loop2 Inv-loop μ-loop
 add-k c = let l = c .before .before .before .before .loop3 .inv in omega (arith, l .few, c .before .before .before .loop3-test .taken)
@@ -184,9 +160,6 @@ loop3-again c =
 add-j-2 : tie.Need-add-j-2 Inv-loop3 μ-loop3 Inv-loop2 μ-loop2 Inv-loop μ-loop
 add-j-2 c = let l = c .before .loop3 .inv in omega (arith, l .most, l .below)
 
-loop2-less : tie.Need-loop2-less Inv-loop3 μ-loop3 Inv-loop2 μ-loop2 Inv-loop μ-loop
-loop2-less c = omega (arith, c .before .loop3 .inv .below)
-
 loop2-again : tie.Need-loop2-again Inv-loop3 μ-loop3 Inv-loop2 μ-loop2 Inv-loop μ-loop
 loop2-again c =
     let l = c .before .loop3 in
@@ -215,12 +188,6 @@ loop2-again c =
           ∙ ap (λ x. rows ++ x) (row-on cs i j (l .inv .after)))
           (l .inv .held);
     }
-
-add-i : tie.Need-add-i Inv-loop3 μ-loop3 Inv-loop2 μ-loop2 Inv-loop μ-loop
-add-i c = omega arith
-
-loop-less : tie.Need-loop-less Inv-loop3 μ-loop3 Inv-loop2 μ-loop2 Inv-loop μ-loop
-loop-less c = omega arith
 
 loop-again : tie.Need-loop-again Inv-loop3 μ-loop3 Inv-loop2 μ-loop2 Inv-loop μ-loop
 loop-again c =
@@ -252,7 +219,8 @@ returns c =
 
 pub collect-intersections-spec : {M : Type 1} → statement M
 collect-intersections-spec =
-    tie.close (tie.spec Inv-loop3 μ-loop3 Inv-loop2 μ-loop2 Inv-loop μ-loop (λ c κs. search needs) (λ c κs. search needs) loop-holds mul-first
-    array-copy-out-first add-j loop2-holds mul-new array-copy-out-new (λ c κs. search needs) (λ c κs. search needs) loop3-holds mul-with-adopters
-    element-copy-out-with-adopters with-adopters-requires mul-all array-set-from-all add-count add-k loop3-less loop3-again add-j-2 loop2-less
-    loop2-again add-i loop-less loop-again returns)
+    tie.close (tie.spec Inv-loop3 μ-loop3 Inv-loop2 μ-loop2 Inv-loop μ-loop (λ c κs. search needs) (λ c κs. search needs) loop-holds
+    (λ c. omega arith) (λ c. omega arith) (λ c. omega arith) loop2-holds (λ c. omega arith) (λ c. omega arith) (λ c κs. search needs)
+    (λ c κs. search needs) loop3-holds mul-with-adopters element-copy-out-with-adopters with-adopters-requires
+    (λ c. omega (arith, c .if1 .taken)) (λ c. omega (arith, c .if1 .taken)) (λ c. omega (arith, c .if1 .taken)) add-k loop3-less loop3-again
+    add-j-2 (λ c. omega (arith, c .before .loop3 .inv .below)) loop2-again (λ c. omega arith) (λ c. omega arith) loop-again returns)

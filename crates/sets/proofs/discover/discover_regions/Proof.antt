@@ -29,23 +29,8 @@ few c = omega (arith, c .at-most-ten .ensures)
 abbrev counted : tie.After-add-pairs → tie.After-at-most-ten
 counted c = c .before .before .before .before .before .before .before
 
-add-singles-requires : tie.Need-add-singles-requires
-add-singles-requires c κs = few c
-
-add-adopters-requires : tie.Need-add-adopters-requires
-add-adopters-requires c κs = few (c .before)
-
-containing-heads-requires : tie.Need-containing-heads-requires
-containing-heads-requires c κs = few (c .before .before .before)
-
 add-pairs-requires : tie.Need-add-pairs-requires
 add-pairs-requires c κs = few (c .before .before .before .before .before .before)
-
-add-parts-requires : tie.Need-add-parts-requires
-add-parts-requires c κs = few (counted c)
-
-overlapping-heads-requires : tie.Need-overlapping-heads-requires
-overlapping-heads-requires c κs = few (counted (c .before .before))
 
 levels-requires : tie.Need-levels-requires
 levels-requires c κs = few (counted (c .before .before .before .before .before .before))
@@ -100,5 +85,6 @@ returns c =
 
 pub discover-regions-spec : {M : Type 1} → statement M
 discover-regions-spec =
-    tie.close (tie.spec (λ c κs. search needs) add-singles-requires add-adopters-requires (λ c κs. search needs) containing-heads-requires
-    add-pairs-requires add-parts-requires overlapping-heads-requires levels-requires joined-bytes-requires returns)
+    tie.close (tie.spec (λ c κs. search needs) (λ c κs. few c) (λ c κs. few (c .before)) (λ c κs. search needs)
+    (λ c κs. few (c .before .before .before)) add-pairs-requires (λ c κs. few (counted c)) (λ c κs. few (counted (c .before .before)))
+    levels-requires joined-bytes-requires returns)

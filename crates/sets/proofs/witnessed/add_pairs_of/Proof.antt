@@ -39,9 +39,6 @@ loop-holds c =
       marked-none _ (a .found .now) (λ S k. some-zero (λ k. eqb S (pair (a .n) (a .i) k) && test (a .meeting .now) (a .containing .now) (a .i) k)),
     )
 
-is-pair-requires : tie.Need-is-pair-requires Inv-loop μ-loop
-is-pair-requires c κs = (omega arith, omega arith)
-
 element-write-found : tie.Need-element-write-found Inv-loop μ-loop
 element-write-found c =
     let l = c .before .before .before .loop in let a = c .before .before .before .before .args in
@@ -72,5 +69,5 @@ returns c =
 
 pub add-pairs-of-spec : {M : Type 1} → statement M
 add-pairs-of-spec =
-    tie.close (tie.spec Inv-loop μ-loop loop-holds is-pair-requires (λ c. search needs) (λ c. search needs) element-write-found
-    (λ c. search needs) (λ c. search needs) loop-again returns)
+    tie.close (tie.spec Inv-loop μ-loop loop-holds (λ c κs. (omega arith, omega arith)) (λ c. search needs) (λ c. search needs)
+    element-write-found (λ c. search needs) (λ c. search needs) loop-again returns)

@@ -32,9 +32,6 @@ returns c =
     span-missed (λ i. getD (a .low .now) (a .at + i) nan) (λ i. getD (a .high .now) (a .at + i) nan) (a .mask) (a .from) (a .to)
     (a .n-sets) (a .reach) (s .pre .1 .0) (c .if1 .taken)
 
-loop-holds : tie.Need-loop-holds Inv-loop μ-loop
-loop-holds c = (omega arith, ends-start _ _ _ _ _)
-
 loop-again : tie.Need-loop-again Inv-loop μ-loop
 loop-again c =
     let d = c .before .before in
@@ -63,6 +60,6 @@ returns-2 c =
 
 pub chord-span-spec : {M : Type 1} → statement M
 chord-span-spec =
-    tie.close (tie.spec Inv-loop μ-loop returns loop-holds (λ c. search needs) (λ c. search needs) (λ c. search needs) (λ c. search needs)
-    (λ c κs. search needs) (λ c. search needs) (λ c. search needs) (λ c. search needs) (λ c κs. search needs) (λ c. search needs)
-    (λ c. search needs) loop-again (λ c κs. search needs) returns-2)
+    tie.close (tie.spec Inv-loop μ-loop returns (λ c. (omega arith, ends-start _ _ _ _ _)) (λ c. search needs) (λ c. search needs)
+    (λ c. search needs) (λ c. search needs) (λ c κs. search needs) (λ c. search needs) (λ c. search needs) (λ c. search needs)
+    (λ c κs. search needs) (λ c. search needs) (λ c. search needs) loop-again (λ c κs. search needs) returns-2)

@@ -22,15 +22,6 @@ abbrev μ-loop : tie.MeasureT-loop
 loop-holds : tie.Need-loop-holds Inv-loop μ-loop
 loop-holds c = let a = c .args in (omega arith, refl, written-none (λ k. zero64) (a .numbers .now))
 
-mul-numbers : tie.Need-mul-numbers Inv-loop μ-loop
-mul-numbers c = omega (arith, c .before .loop .inv .1)
-
-add-i : tie.Need-add-i Inv-loop μ-loop
-add-i c = omega (arith, c .before .loop .inv .1)
-
-loop-less : tie.Need-loop-less Inv-loop μ-loop
-loop-less c = omega (arith, c .before .loop .inv .1)
-
 loop-again : tie.Need-loop-again Inv-loop μ-loop
 loop-again c =
     let l = c .before .loop in let i = l .inv in let a = c .before .before .args in (
@@ -40,9 +31,6 @@ loop-again c =
           ∙ write-next (λ k. zero64) (l .i) (a .numbers .now) zero64 nan (omega (arith, i .1)) refl,
     )
 
-same-length : tie.Need-same-length Inv-loop μ-loop
-same-length c = c .before .loop .inv .1
-
 returns : tie.Need-returns Inv-loop μ-loop
 returns c =
     let l = c .before .loop in let i = l .inv in let a = c .before .before .args in
@@ -50,4 +38,7 @@ returns c =
     ∙ tab-alike zero64 (length (a .numbers .now))
 
 pub clear-spec : {M : Type 1} → statement M
-clear-spec = tie.close (tie.spec Inv-loop μ-loop loop-holds mul-numbers (λ c. search needs) add-i loop-less loop-again same-length returns)
+clear-spec =
+    tie.close (tie.spec Inv-loop μ-loop loop-holds (λ c. omega (arith, c .before .loop .inv .1)) (λ c. search needs)
+    (λ c. omega (arith, c .before .loop .inv .1)) (λ c. omega (arith, c .before .loop .inv .1)) loop-again (λ c. c .before .loop .inv .1)
+    returns)

@@ -106,12 +106,6 @@ loop-again c =
     ))
     (c .if1 .came)
 
-same-length : tie.Need-same-length Inv-loop μ-loop
-same-length c = c .before .loop .inv .1
-
-same-length-2 : tie.Need-same-length-2 Inv-loop μ-loop
-same-length-2 c = c .before .loop .inv .2
-
 returns : tie.Need-returns Inv-loop μ-loop
 returns c =
     let l = c .before .loop in
@@ -123,4 +117,4 @@ pub write-plain-spec : {M : Type 1} → statement M
 write-plain-spec =
     tie.close (tie.spec Inv-loop μ-loop loop-holds element-copy-out-if1 mul-start add-end mul-plain-row sub-plain-row part-plain-row-start
     part-plain-row-end (λ c κs. search needs) (λ c. search needs) slice-write-areas (λ c. search needs) (λ c. search needs) loop-again
-    same-length same-length-2 returns)
+    (λ c. c .before .loop .inv .1) (λ c. c .before .loop .inv .2) returns)

@@ -70,9 +70,6 @@ below c =
     let most = pow-mono {i = s .args .n-sets} {j = 10} (s .pre .0 .0) in
     omega (arith, most, s .pre .0 .1 .0, c .loop-test .taken)
 
-element-copy-out-if1 : tie.Need-element-copy-out-if1 Inv-loop μ-loop
-element-copy-out-if1 c = omega (arith, below c)
-
 mul-start : tie.Need-mul-start Inv-loop μ-loop
 mul-start c = let m = c .before .before in omega (arith, room m, m .before .loop .inv .3, bytes (m .before))
 
@@ -109,9 +106,6 @@ slice-write-areas : tie.Need-slice-write-areas Inv-loop μ-loop
 slice-write-areas c =
     let m = c .before .before .before .before .before .before .before in
     omega (arith, m .loop-test .taken, entry (m .before) .pre .0 .1 .1 .0, m .before .loop .inv .2)
-
-add-mask : tie.Need-add-mask Inv-loop μ-loop
-add-mask c = omega (arith, below (c .before .before))
 
 loop-less : tie.Need-loop-less Inv-loop μ-loop
 loop-less c = omega (arith, c .before .before .loop-test .taken)
@@ -158,12 +152,6 @@ loop-again c =
     ))
     (c .if1 .came)
 
-same-length : tie.Need-same-length Inv-loop μ-loop
-same-length c = c .before .loop .inv .2
-
-same-length-2 : tie.Need-same-length-2 Inv-loop μ-loop
-same-length-2 c = c .before .loop .inv .3
-
 returns : tie.Need-returns Inv-loop μ-loop
 returns c =
     let l = c .before .loop in
@@ -173,6 +161,6 @@ returns c =
 
 pub write-rows-spec : {M : Type 1} → statement M
 write-rows-spec =
-    tie.close (tie.spec Inv-loop μ-loop loop-holds element-copy-out-if1 mul-start add-end mul-fast-row sub-fast-row part-fast-row-start
-    part-fast-row-end fast-row-requires mul-areas slice-write-areas add-mask loop-less loop-again same-length same-length-2
-    returns)
+    tie.close (tie.spec Inv-loop μ-loop loop-holds (λ c. omega (arith, below c)) mul-start add-end mul-fast-row sub-fast-row
+    part-fast-row-start part-fast-row-end fast-row-requires mul-areas slice-write-areas (λ c. omega (arith, below (c .before .before)))
+    loop-less loop-again (λ c. c .before .loop .inv .2) (λ c. c .before .loop .inv .3) returns)

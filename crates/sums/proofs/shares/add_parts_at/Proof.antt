@@ -16,21 +16,6 @@ low c = let s = c .before .before in omega (arith, c .head-of .ensures, s .pre .
 held : (c : tie.Then1) → c .before .before .before .args .place < 330
 held c = omega (arith, c .if1 .taken, c .before .before .before .pre .1 .within)
 
-mul-add-shares : tie.Need-mul-add-shares
-mul-add-shares c = omega (arith, low (c .before .before))
-
-mul-add-shares-2 : tie.Need-mul-add-shares-2
-mul-add-shares-2 c = omega (arith, held (c .before))
-
-element-copy-out-add-shares : tie.Need-element-copy-out-add-shares
-element-copy-out-add-shares c = omega (arith, held (c .before))
-
-mul-add-shares-3 : tie.Need-mul-add-shares-3
-mul-add-shares-3 c = omega (arith, held (c .before .before))
-
-element-copy-out-add-shares-2 : tie.Need-element-copy-out-add-shares-2
-element-copy-out-add-shares-2 c = omega (arith, held (c .before .before))
-
 add-shares-requires : tie.Need-add-shares-requires
 add-shares-requires c κs =
     let i = c .before .before .before in
@@ -52,9 +37,6 @@ returns c =
     let a = s .args in
     held-is (s .pre .1 .held (i .if1 .taken)) (a .total) (a .grad .now) (t .add-shares .ensures ∙ rw (h .head-of .ensures))
 
-circle-at-requires : tie.Need-circle-at-requires
-circle-at-requires c κs = omega (arith, low (c .before))
-
 arc-at-requires : tie.Need-arc-at-requires
 arc-at-requires c κs = c .before .before .before .before .pre .1 .readable
 
@@ -72,6 +54,7 @@ returns-2 c =
 
 pub add-parts-at-spec : {M : Type 1} → statement M
 add-parts-at-spec =
-    tie.close (tie.spec (λ c κs. search needs) mul-add-shares mul-add-shares-2 element-copy-out-add-shares mul-add-shares-3
-    element-copy-out-add-shares-2 add-shares-requires mul-result element-copy-out-result (λ c. search needs) returns circle-at-requires
+    tie.close (tie.spec (λ c κs. search needs) (λ c. omega (arith, low (c .before .before))) (λ c. omega (arith, held (c .before)))
+    (λ c. omega (arith, held (c .before))) (λ c. omega (arith, held (c .before .before))) (λ c. omega (arith, held (c .before .before)))
+    add-shares-requires mul-result element-copy-out-result (λ c. search needs) returns (λ c κs. omega (arith, low (c .before)))
     arc-at-requires (λ c κs. search needs) (λ c. search needs) returns-2)

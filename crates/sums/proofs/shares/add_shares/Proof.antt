@@ -24,21 +24,6 @@ loop-holds c =
 low : (c : tie.In-loop Inv-loop μ-loop) → c .before .before .before .args .from + c .before .loop .m < 640
 low c = omega (arith, c .loop-test .taken, c .before .before .before .pre .1)
 
-add-at : tie.Need-add-at Inv-loop μ-loop
-add-at c = omega (arith, low c)
-
-mul-add-three-at : tie.Need-mul-add-three-at Inv-loop μ-loop
-mul-add-three-at c = omega (arith, low (c .before))
-
-element-copy-out-add-three-at : tie.Need-element-copy-out-add-three-at Inv-loop μ-loop
-element-copy-out-add-three-at c = omega (arith, low (c .before))
-
-mul-add-three-at-2 : tie.Need-mul-add-three-at-2 Inv-loop μ-loop
-mul-add-three-at-2 c = omega (arith, low (c .before .before))
-
-element-copy-out-add-three-at-2 : tie.Need-element-copy-out-add-three-at-2 Inv-loop μ-loop
-element-copy-out-add-three-at-2 c = omega (arith, low (c .before .before))
-
 mul-add-three-at-3 : tie.Need-mul-add-three-at-3 Inv-loop μ-loop
 mul-add-three-at-3 c = omega (arith, low (c .before .before .before))
 
@@ -59,9 +44,6 @@ loop-again c =
       t .add-three-at .ensures ∙ rw (l .inv .2) (sym (shares-next (a .off) (a .xs .now) (a .ys .now) (a .rs .now) (a .from) (l .m) (a .grad .now))),
     )
 
-same-length : tie.Need-same-length Inv-loop μ-loop
-same-length c = c .before .loop .inv .1
-
 returns : tie.Need-returns Inv-loop μ-loop
 returns c =
     let l = c .before .loop in
@@ -70,6 +52,7 @@ returns c =
 
 pub add-shares-spec : {M : Type 1} → statement M
 add-shares-spec =
-    tie.close (tie.spec Inv-loop μ-loop loop-holds add-at mul-add-three-at element-copy-out-add-three-at mul-add-three-at-2
-    element-copy-out-add-three-at-2 mul-add-three-at-3 element-copy-out-add-three-at-3 add-three-at-requires (λ c. search needs)
-    (λ c. search needs) loop-again same-length returns)
+    tie.close (tie.spec Inv-loop μ-loop loop-holds (λ c. omega (arith, low c)) (λ c. omega (arith, low (c .before)))
+    (λ c. omega (arith, low (c .before))) (λ c. omega (arith, low (c .before .before))) (λ c. omega (arith, low (c .before .before)))
+    mul-add-three-at-3 element-copy-out-add-three-at-3 add-three-at-requires (λ c. search needs) (λ c. search needs) loop-again
+    (λ c. c .before .loop .inv .1) returns)

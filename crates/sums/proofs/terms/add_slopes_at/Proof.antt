@@ -13,14 +13,8 @@ use Rattle.sums.proofs.terms.add_slopes_at.Tie as tie
 low : (c : tie.After-head-of) → c .head-of .result ≤ 9
 low c = let s = c .before .before in omega (arith, c .head-of .ensures, s .pre .1 .x .below, s .pre .0)
 
-mul-add-three-at : tie.Need-mul-add-three-at
-mul-add-three-at c = omega (arith, low (c .before .before))
-
 add-three-at-requires : tie.Need-add-three-at-requires
 add-three-at-requires c κs = omega (arith, low (c .before .before .before .before .before))
-
-circle-at-requires : tie.Need-circle-at-requires
-circle-at-requires c κs = omega (arith, low (c .before))
 
 arc-at-requires : tie.Need-arc-at-requires
 arc-at-requires c κs = c .before .before .before .before .pre .1 .x .readable
@@ -65,7 +59,7 @@ returns-2 c =
 
 pub add-slopes-at-spec : {M : Type 1} → statement M
 add-slopes-at-spec =
-    tie.close (tie.spec (λ c κs. search needs) mul-add-three-at (λ c. search needs) (λ c. search needs) (λ c. search needs)
-    (λ c. search needs) (λ c. search needs) (λ c. search needs) add-three-at-requires circle-at-requires arc-at-requires mul-add-three-at-5
-    (λ c κs. search needs) (λ c κs. search needs) (λ c κs. search needs) add-three-at-requires-2 (λ c. search needs) returns
-    (λ c. search needs) returns-2)
+    tie.close (tie.spec (λ c κs. search needs) (λ c. omega (arith, low (c .before .before))) (λ c. search needs) (λ c. search needs)
+    (λ c. search needs) (λ c. search needs) (λ c. search needs) (λ c. search needs) add-three-at-requires
+    (λ c κs. omega (arith, low (c .before))) arc-at-requires mul-add-three-at-5 (λ c κs. search needs) (λ c κs. search needs)
+    (λ c κs. search needs) add-three-at-requires-2 (λ c. search needs) returns (λ c. search needs) returns-2)

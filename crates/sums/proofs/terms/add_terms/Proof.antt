@@ -20,9 +20,6 @@ Inv-loop list k c n-sets counts phi xs ys rs total₀ i₀ total i =
 abbrev μ-loop : tie.MeasureT-loop
 μ-loop list k c n-sets counts phi xs ys rs total₀ i₀ total i = k - i
 
-loop-holds : tie.Need-loop-holds Inv-loop μ-loop
-loop-holds c = (c .pre .0 .1 .1, omega arith, refl)
-
 add-arc-requires : tie.Need-add-arc-requires Inv-loop μ-loop
 add-arc-requires c κs =
     let d = c .before in
@@ -49,5 +46,5 @@ returns c =
 
 pub add-terms-spec : {M : Type 1} → statement M
 add-terms-spec =
-    tie.close (tie.spec Inv-loop μ-loop loop-holds (λ c. search needs) (λ c. search needs) add-arc-requires (λ c. search needs)
-    (λ c. search needs) loop-again returns)
+    tie.close (tie.spec Inv-loop μ-loop (λ c. (c .pre .0 .1 .1, omega arith, refl)) (λ c. search needs) (λ c. search needs) add-arc-requires
+    (λ c. search needs) (λ c. search needs) loop-again returns)

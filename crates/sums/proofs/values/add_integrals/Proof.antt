@@ -22,9 +22,6 @@ Inv-loop list k c n-sets bounds counts phi value total₀ i₀ total i =
 abbrev μ-loop : tie.MeasureT-loop
 μ-loop list k c n-sets bounds counts phi value total₀ i₀ total i = k - i
 
-loop-holds : tie.Need-loop-holds Inv-loop μ-loop
-loop-holds c = (c .pre .0 .1 .1, omega arith, refl)
-
 integral-at-requires : tie.Need-integral-at-requires Inv-loop μ-loop
 integral-at-requires c κs =
     let d = c .before in
@@ -51,5 +48,5 @@ returns c =
 
 pub add-integrals-spec : {M : Type 1} → statement M
 add-integrals-spec =
-    tie.close (tie.spec Inv-loop μ-loop loop-holds (λ c. search needs) (λ c. search needs) integral-at-requires (λ c. search needs)
-    (λ c. search needs) loop-again returns)
+    tie.close (tie.spec Inv-loop μ-loop (λ c. (c .pre .0 .1 .1, omega arith, refl)) (λ c. search needs) (λ c. search needs)
+    integral-at-requires (λ c. search needs) (λ c. search needs) loop-again returns)
