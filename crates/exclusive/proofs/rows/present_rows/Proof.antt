@@ -27,7 +27,8 @@ abbrev μ-loop : tie.MeasureT-loop
 loop-holds : tie.Need-loop-holds Inv-loop μ-loop
 unfolding keep tab
 loop-holds c =
-    let p = c .pre in (p .0, shifted-is 64 (c .args .n) (omega arith), p .1, omega arith, omega arith, length-replicate {A = ℕ} 1024 0, refl)
+    let p = c .pre in
+    (p .0, shifted-is 64 (c .args .n) (omega arith), p .1, omega arith, omega arith, length-replicate {A = ℕ} 1024 0, refl)
 
 -- there is a place for each mask
 free : (c : tie.In-loop Inv-loop μ-loop) → c .before .loop .found < 1024

@@ -25,12 +25,13 @@ loop-holds c =
 loop-again : tie.Need-loop-again Inv-loop μ-loop
 loop-again c =
     let m = c .before in let l = m .before .loop in let i = l .inv in let M = m .before .before .args .masks .now in
-    let v = ones (getD M (l .i) 0) in (
+    let v = ones (getD M (l .i) 0) in
+    let room : l .i < length (replicate {A = ℕ} 1024 0) = omega (arith, m .loop-test .taken, i .0, length-replicate {A = ℕ} 1024 0) in (
       i .0,
       i .1,
       omega (arith, m .loop-test .taken),
       ap (λ (t : List ℕ). set t (l .i) v) (i .3)
-          ∙ write-next (λ i. ones (getD M i 0)) (l .i) (replicate 1024 0) v 0 (omega (arith, m .loop-test .taken, i .0, length-replicate {A = ℕ} 1024 0)) refl,
+          ∙ write-next (λ i. ones (getD M i 0)) (l .i) (replicate 1024 0) v 0 room refl,
     )
 
 returns : tie.Need-returns Inv-loop μ-loop

@@ -85,64 +85,73 @@ cast-if1 : tie.Need-cast-if1 Inv-loop2 μ-loop2 Inv-loop μ-loop
 cast-if1 c = omega (arith, c .before .loop2 .inv .0, c .before .loop2 .inv .6)
 
 module _ (c : tie.In-loop2 Inv-loop2 μ-loop2 Inv-loop μ-loop) where
-  abbrev rows : tie.After-present-rows Inv-loop2 μ-loop2 Inv-loop μ-loop
-  rows = c .before .before .before .before .before .before .before
+  abbrev found : tie.After-present-rows Inv-loop2 μ-loop2 Inv-loop μ-loop
+  found = c .before .before .before .before .before .before .before
+
+  abbrev count : ℕ
+  count = found .present-rows .result .n
 
   abbrev masks : List ℕ
-  masks = rows .present-rows .result .all
+  masks = found .present-rows .result .all
 
-  abbrev left : List ℕ
-  left = take (rows .present-rows .result .n) masks
-
+  -- row i
   abbrev S : ℕ
-  S = getD left (c .before .loop2 .i) 0
+  S = getD (take count masks) (c .before .loop2 .i) 0
 
   same : S ≡ getD masks (c .before .loop2 .i) 0
-  same = getD-take (rows .present-rows .result .n) masks (c .before .loop2 .i) 0 (c .loop2-test .taken)
+  same = getD-take count masks (c .before .loop2 .i) 0 (c .loop2-test .taken)
 
-  -- the heads that were counted of row i
+  -- its heads, as they were counted
   counted : getD (c .before .before .before .before .row-heads .result) (c .before .loop2 .i) 0 ≡ ones S
   counted =
       ap (λ (t : List ℕ). getD t (c .before .loop2 .i) 0) (c .before .before .before .before .row-heads .ensures)
-      ∙ written-before (λ i. ones (getD masks i 0)) (rows .present-rows .result .n) (c .before .loop2 .i) (replicate 1024 0) 0 (c .loop2-test .taken)
+      ∙ written-before (λ i. ones (getD masks i 0)) count (c .before .loop2 .i) (replicate 1024 0) 0 (c .loop2-test .taken)
       ∙ ap ones (sym same)
 
-  inside : c .before .loop2 .i < length left
+  inside : c .before .loop2 .i < length (take count masks)
   inside = omega (arith, c .loop2-test .taken, c .before .loop2 .inv .1)
 
--- a row of c heads goes to the end of the list
-module _ (c : tie.Then1 Inv-loop2 μ-loop2 Inv-loop μ-loop) where
-  abbrev so-far : List ℕ
-  so-far = take (c .before .before .loop2 .k) (c .before .before .loop2 .all)
+  -- the number of heads of this pass, the rows listed so far, and those still to come in it
+  abbrev heads : ℕ
+  heads = c .before .before .before .loop .c
 
-  put-there : (so-far ++ (S (c .before) ∷ [])) ++ keep (Has (c .before .before .before .before .loop .c)) (drop (c .before .before .loop2 .i + 1) (left (c .before)))
-      ≡ Before (rows (c .before) .before .before .args .present .now) (rows (c .before) .before .before .args .n) (c .before .before .before .before .loop .c + 1)
+  abbrev listed : List ℕ
+  listed = take (c .before .loop2 .k) (c .before .loop2 .all)
+
+  abbrev rest : List ℕ
+  rest = keep (Has heads) (drop (c .before .loop2 .i + 1) (take count masks))
+
+  abbrev upToThese : List ℕ
+  upToThese = Before (found .before .before .args .present .now) (found .before .before .args .n) (heads + 1)
+
+-- a row of so many heads goes to the end of the list
+module _ (c : tie.Then1 Inv-loop2 μ-loop2 Inv-loop μ-loop) where
+  put-there : (listed (c .before) ++ (S (c .before) ∷ [])) ++ rest (c .before) ≡ upToThese (c .before)
   put-there =
-      let m = c .before in let d = m .before .before .before .loop .c in
-      kept-with (Has d) so-far (left m) (m .before .loop2 .i) (inside m) (eq-eqb (ones (S m)) d (sym (counted m) ∙ c .if1 .taken))
+      let m = c .before in
+      kept-with (Has (heads m)) (listed m) (take (count m) (masks m)) (m .before .loop2 .i) (inside m)
+      (eq-eqb (ones (S m)) (heads m) (sym (counted m) ∙ c .if1 .taken))
       ∙ m .before .loop2 .inv .7
 
   -- at such a row the next place is one of the array
   free : c .before .before .loop2 .k < 1024
   free =
-      let m = c .before in let l = m .before .loop2 in let i = l .inv in let d = m .before .before .before .loop .c in
-      let a = rows m .before .before .args in
+      let m = c .before in let l = m .before .loop2 in let a = found m .before .before .args in
       omega (
         arith,
         ap length put-there,
-        length-append (so-far ++ (S m ∷ [])) (keep (Has d) (drop (l .i + 1) (left m))),
-        length-append so-far (S m ∷ []),
+        length-append (listed m ++ (S m ∷ [])) (rest m),
+        length-append (listed m) (S m ∷ []),
         length-take (l .k) (l .all),
-        i .4,
-        i .5,
-        few-rows (stands (a .present .now)) (2 ^ a .n) (d + 1),
-        masks-le (a .n) (i .0),
+        l .inv .4,
+        l .inv .5,
+        few-rows (stands (a .present .now)) (2 ^ a .n) (heads m + 1),
+        masks-le (a .n) (l .inv .0),
       )
 
 loop2-again : tie.Need-loop2-again Inv-loop2 μ-loop2 Inv-loop μ-loop
 loop2-again c =
-    let m = c .before in let l = m .before .loop2 in let i = l .inv in let d = m .before .before .before .loop .c in
-    let rest = keep (Has d) (drop (l .i + 1) (left m)) in let x = getD (masks m) (l .i) 0 in
+    let m = c .before in let l = m .before .loop2 in let i = l .inv in let x = getD (masks m) (l .i) 0 in
     ⊎-elim
     (λ w.
     let t : tie.Then1 Inv-loop2 μ-loop2 Inv-loop μ-loop = record { before = m; if1 = w .0 } in (
@@ -153,9 +162,9 @@ loop2-again c =
       ap length (w .1) ∙ length-set (l .all) (l .k) x ∙ i .4,
       omega (arith, w .2, free t),
       i .6,
-      ap₂ (λ (n : ℕ) (t : List ℕ). take n t ++ rest) (w .2) (w .1)
-          ∙ ap (λ (t : List ℕ). t ++ rest)
-          (put (l .all) (so-far t) (l .k) x (omega (arith, free t, i .4)) refl ∙ ap (λ (x : ℕ). so-far t ++ (x ∷ [])) (sym (same m)))
+      ap₂ (λ (n : ℕ) (t : List ℕ). take n t ++ rest m) (w .2) (w .1)
+          ∙ ap (λ (t : List ℕ). t ++ rest m)
+          (put (l .all) (listed m) (l .k) x (omega (arith, free t, i .4)) refl ∙ ap (λ (x : ℕ). listed m ++ (x ∷ [])) (sym (same m)))
           ∙ put-there t,
     ))
     (λ w. (
@@ -166,8 +175,9 @@ loop2-again c =
       ap length (w .1) ∙ i .4,
       omega (arith, w .2, i .5),
       i .6,
-      ap₂ (λ (n : ℕ) (t : List ℕ). take n t ++ rest) (w .2) (w .1)
-          ∙ kept-without (Has d) (take (l .k) (l .all)) (left m) (l .i) (inside m) (ne-eqb (ones (S m)) d (λ e. w .0 .left (counted m ∙ e)))
+      ap₂ (λ (n : ℕ) (t : List ℕ). take n t ++ rest m) (w .2) (w .1)
+          ∙ kept-without (Has (heads m)) (listed m) (take (count m) (masks m)) (l .i) (inside m)
+          (ne-eqb (ones (S m)) (heads m) (λ e. w .0 .left (counted m ∙ e)))
           ∙ i .7,
     ))
     (c .if1 .came)
