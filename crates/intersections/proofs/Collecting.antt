@@ -53,8 +53,8 @@ pub rowTo : List Circle → ℕ → ℕ → List IntersectionPoint
 rowTo cs i j = upTo (λ d. pairPoints cs i (i + 1 + d)) (j - (i + 1))
 
 -- what stands for a point that an array does not have
-abbrev noPlace : Point
-noPlace = record { x = nan; y = nan }
+abbrev nowhere : Point
+nowhere = record { x = nan; y = nan }
 
 -- held are the points of the heads below i
 pub record Rows (circles : List Circle) (n i : ℕ) (all : List IntersectionPoint) (count : ℕ) : Type 0 where
@@ -72,7 +72,8 @@ pub record Row (circles : List Circle) (n i j : ℕ) (all : List IntersectionPoi
   pub held : Held all count (upTo (laterPoints (take n circles)) i ++ rowTo (take n circles) i j)
 
 -- and of the points in which heads i and j meet, the first `many` of two, the first k
-pub record Met (circles : List Circle) (n i j : ℕ) (points : List Point) (many k : ℕ) (all : List IntersectionPoint) (count : ℕ) : Type 0 where
+pub record Met (circles : List Circle) (n i j : ℕ) (points : List Point) (many k : ℕ) (all : List IntersectionPoint) (count : ℕ)
+    : Type 0 where
   pub ten : length circles ≡ 10
   pub most : n ≤ 10
   pub after : i + 1 ≤ j
@@ -105,8 +106,8 @@ unfolding upTo
 rows-on cs i = rw (add-one i)
 
 met-on : (f : Point → IntersectionPoint) (points : List Point) (k : ℕ) → k < length points
-    → map f (take k points) ++ (f (getD points k noPlace) ∷ []) ≡ map f (take (k + 1) points)
-met-on f points k h = rw (add-one k, take-suc points k noPlace h) (sym (map-append f (take k points) (getD points k noPlace ∷ [])))
+    → map f (take k points) ++ (f (getD points k nowhere) ∷ []) ≡ map f (take (k + 1) points)
+met-on f points k h = rw (add-one k, take-suc points k nowhere h) (sym (map-append f (take k points) (getD points k nowhere ∷ [])))
 
 met-whole : (circles : List Circle) (n i j : ℕ) → i < n → j < n
     → map (withAdopters (take n circles) i j) (intersectionPoints (getD circles i noCircle) (getD circles j noCircle))
@@ -172,10 +173,11 @@ module _ {circles : List Circle} {n i j : ℕ} {all : List IntersectionPoint} {c
 
   module _ {k : ℕ} (m : Met circles n i j points many k all count) where
     -- one point more, q
-    module _ {q : IntersectionPoint} (h : k < many) (e : q ≡ withAdopters (take n circles) i j (getD points k noPlace)) where
+    module _ {q : IntersectionPoint} (h : k < many) (e : q ≡ withAdopters (take n circles) i j (getD points k nowhere)) where
       met-next : {all' : List IntersectionPoint} {count' : ℕ}
           → Held all' count'
-          (((upTo (laterPoints (take n circles)) i ++ rowTo (take n circles) i j) ++ map (withAdopters (take n circles) i j) (take k points))
+          (((upTo (laterPoints (take n circles)) i ++ rowTo (take n circles) i j)
+          ++ map (withAdopters (take n circles) i j) (take k points))
           ++ (q ∷ []))
           → Met circles n i j points many (k + 1) all' count'
       met-next g =

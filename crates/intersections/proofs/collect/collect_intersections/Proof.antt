@@ -1,5 +1,5 @@
--- `collect::collect_intersections`: held are the points of the heads below i (Rows), of head i with the heads below j (Row), and the first k
--- points of heads i and j (Met).
+-- `collect::collect_intersections`: held are the points of the heads below i (Rows), of head i with the heads below j (Row), and the
+-- first k points of heads i and j (Met).
 use borrow.Author.Needs.{needs}
 use mathlib.Core.Path.{_≡_, _∙_}
 use mathlib.Core.Logic.{⊎-elim}
@@ -8,7 +8,8 @@ use native.Mathlib.Omega.{arith}
 use lib.ListN.{length}
 use Rattle.lists.specs.Lists.{upTo}
 use Rattle.lists.proofs.Arrays.{length-of-values}
-use Rattle.intersections.proofs.Collecting.{Rows, Row, Met, held-none, row-start, row-end, rows-end, met-start, met-one, met-full, met-end}
+use Rattle.intersections.proofs.Collecting.{Rows, Row, Met, held-none, row-start, row-end, rows-end}
+use Rattle.intersections.proofs.Collecting.{met-start, met-one, met-full, met-end}
 use Rattle.intersections.proofs.collect.collect_intersections.Statement.{statement}
 use Rattle.intersections.proofs.collect.collect_intersections.Tie as tie
 
@@ -37,7 +38,12 @@ ten c = search needs
 loop-holds : tie.Need-loop-holds Inv-loop3 μ-loop3 Inv-loop2 μ-loop2 Inv-loop μ-loop
 unfolding upTo
 loop-holds c =
-    record { ten = ten (c .before .before); most = omega (arith, c .before .at-most-ten .ensures); within = omega arith; held = held-none _ }
+    record {
+      ten = ten (c .before .before);
+      most = omega (arith, c .before .at-most-ten .ensures);
+      within = omega arith;
+      held = held-none _;
+    }
 
 loop2-holds : tie.Need-loop2-holds Inv-loop3 μ-loop3 Inv-loop2 μ-loop2 Inv-loop μ-loop
 loop2-holds c = row-start (c .before .before .loop .inv) (c .before .loop-test .taken)
@@ -86,6 +92,6 @@ pub collect-intersections-spec : {M : Type 1} → statement M
 collect-intersections-spec =
     tie.close (tie.spec Inv-loop3 μ-loop3 Inv-loop2 μ-loop2 Inv-loop μ-loop (λ c κs. search needs) (λ c κs. search needs) loop-holds
     (λ c. search needs) (λ c. search needs) (λ c. search needs) loop2-holds (λ c. search needs) (λ c. search needs) (λ c κs. search needs)
-    (λ c κs. search needs) loop3-holds (λ c. search needs) (λ c. search needs) with-adopters-requires (λ c. search needs) (λ c. search needs)
-    (λ c. search needs) (λ c. search needs) (λ c. search needs) loop3-again (λ c. search needs) (λ c. search needs) loop2-again
-    (λ c. search needs) (λ c. search needs) loop-again returns)
+    (λ c κs. search needs) loop3-holds (λ c. search needs) (λ c. search needs) with-adopters-requires (λ c. search needs)
+    (λ c. search needs) (λ c. search needs) (λ c. search needs) (λ c. search needs) loop3-again (λ c. search needs) (λ c. search needs)
+    loop2-again (λ c. search needs) (λ c. search needs) loop-again returns)
