@@ -63,13 +63,15 @@ module _ {d s : Float} (f : Finite d) (m : minus d ≡ 0) (g : Finite s) where
       at false r e =
           le-up (add binary64 d s)
           (subst (λ (x : Float). T (le x (add binary64 d s))) (ofUnits-zero false)
-          (subst (λ (x : Float). T (le (round binary64 false 0 one) x)) (sym (r .rounds ∙ ap (λ (b : Bool). round binary64 b (r .top) (r .bottom)) e))
+          (subst (λ (x : Float). T (le (round binary64 false 0 one) x))
+          (sym (r .rounds ∙ ap (λ (b : Bool). round binary64 b (r .top) (r .bottom)) e))
           (round-mono binary64 0 one (r .top) (r .bottom) one-pos (r .proper) (omega arith))))
 
       go : Result (add binary64 d s) (plus d + plus s) (minus d + minus s) 1 → T (up (add binary64 d s))
       go r = at (r .minus?) r refl
 
-finite-beyond : {z r s : Float} → Finite z → Finite r → Finite s → (Finite z → (plus s ≤ plus z) × (minus z ≤ minus s)) → lt r s ≡ true → le z r ≡ false
+finite-beyond : {z r s : Float} → Finite z → Finite r → Finite s → (Finite z → (plus s ≤ plus z) × (minus z ≤ minus s)) → lt r s ≡ true
+    → le z r ≡ false
 finite-beyond {z} {r} {s} h k g a e = go (le z r) refl
   where
     go : (b : Bool) → le z r ≡ b → b ≡ false
@@ -135,11 +137,14 @@ not-within {d} r (fin t n c) f m k h e =
 
 distance-finite : (x y : Float) → Finite (hypot x y)
 unfolding hypot
-distance-finite x y = root-finite (add binary64 (mul binary64 x x) (mul binary64 y y)) (add-fits binary64 (mul binary64 x x) (mul binary64 y y))
+distance-finite x y =
+    root-finite (add binary64 (mul binary64 x x) (mul binary64 y y)) (add-fits binary64 (mul binary64 x x) (mul binary64 y y))
 
 distance-minus : (x y : Float) → minus (hypot x y) ≡ 0
 unfolding hypot
-distance-minus x y = root-minus (add binary64 (mul binary64 x x) (mul binary64 y y)) (add-fits binary64 (mul binary64 x x) (mul binary64 y y))
+distance-minus x y =
+    root-minus (add binary64 (mul binary64 x x) (mul binary64 y y)) (add-fits binary64 (mul binary64 x x) (mul binary64 y y))
 
-pub not-contained : (a b : Circle) → T (fits binary64 (a .radius)) → T (fits binary64 (b .radius)) → lt (a .radius) (b .radius) ≡ true → contains a b ≡ false
+pub not-contained : (a b : Circle) → T (fits binary64 (a .radius)) → T (fits binary64 (b .radius)) → lt (a .radius) (b .radius) ≡ true
+    → contains a b ≡ false
 not-contained a b h k e = not-within (a .radius) (b .radius) (distance-finite _ _) (distance-minus _ _) h k e

@@ -1,5 +1,5 @@
--- What the steps of the code look at, and what they add from one mask; proofs/Taken.antt and proofs/LevelStep.antt show that a pass over all masks
--- adds what specs/Sets.antt says.
+-- What the steps of the code look at, and what they add from one mask; proofs/Taken.antt and proofs/LevelStep.antt show that a pass over
+-- all masks adds what specs/Sets.antt says.
 use Prim.Native.Nat.{ℕ}
 use mathlib.Core.Bool.{Bool, not, _&&_, _||_}
 use mathlib.Core.List.{List}

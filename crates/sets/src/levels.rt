@@ -177,8 +177,12 @@ fn add_joining(
     let mut i: usize = 0;
     while i < n {
         if s & 1 << i == 0 {
-            if joins(found, overlapping, containing, s | 1 << i, n) {
-                level[s | 1 << i] = 1;
+            let t = s | 1 << i;
+            // A mask joins from each of the masks with one head less: it is asked once.
+            if level[t] != 1 {
+                if joins(found, overlapping, containing, t, n) {
+                    level[t] = 1;
+                }
             }
         }
         i += 1;

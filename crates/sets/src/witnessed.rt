@@ -95,7 +95,9 @@ fn add_pairs_of(
     n: usize,
 )
     requires { ⌜ (n ≤ 10) × (i < n) ⌝ }
-    ensures { λ r. ⌜ now (found .exit) ≡ marked (pairsOf n (inMaskOf (now (meeting .entry))) (λ a b. inMaskOf (now (containing .entry)) b a) i) (now (found .entry)) ⌝ }
+    ensures { λ r.
+        ⌜ now (found .exit) ≡
+        marked (pairsOf n (inMaskOf (now (meeting .entry))) (λ a b. inMaskOf (now (containing .entry)) b a) i) (now (found .entry)) ⌝ }
 {
     let mut j: usize = 0;
     while j < i {

@@ -44,7 +44,8 @@ ten-circles c = search needs
 
 -- the pairs from the masks are those of the circles and points
 pairs-are : (c : tie.After-add-pairs) → let a = counted c .before .args in let n = counted c .at-most-ten .result in c .add-pairs .result
-    ≡ marked (isPair n (meetsAt (pointList (a .points))) (containsAt (take n (a .circles)))) (c .before .before .before .before .before .add-adopters .result)
+    ≡ marked (isPair n (meetsAt (pointList (a .points))) (containsAt (take n (a .circles))))
+    (c .before .before .before .before .before .add-adopters .result)
 pairs-are c =
     let con = c .before .before .before in
     let mee = con .before in
@@ -57,7 +58,8 @@ pairs-are c =
     (λ S h. pairs-agree n (inMaskOf (mee .meeting-heads .result)) (meetsAt (pointList (a .points)))
     (λ i j. inMaskOf (con .containing-heads .result) j i) (containsAt (take n (a .circles)))
     (λ i j k l. mee .meeting-heads .ensures i j (omega (arith, ten)) (omega (arith, ten)))
-    (λ i j k l. ap (λ (t : List ℕ). inMaskOf t j i) (con .containing-heads .ensures) ∙ containing-in n (containsAt (take n (a .circles))) i j k l) S)
+    (λ i j k l. ap (λ (t : List ℕ). inMaskOf t j i) (con .containing-heads .ensures)
+    ∙ containing-in n (containsAt (take n (a .circles))) i j k l) S)
 
 returns : tie.Need-returns
 returns c =

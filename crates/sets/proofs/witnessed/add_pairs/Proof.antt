@@ -18,7 +18,8 @@ abbrev pairsOfHead : List ℕ → List ℕ → ℕ → ℕ → ℕ → Bool
 pairsOfHead meeting containing n = pairsOf n (inMaskOf meeting) (λ a b. inMaskOf containing b a)
 
 abbrev Inv-loop : tie.InvT-loop
-Inv-loop meeting containing n bytes₀ i₀ bytes i = (n ≤ 10) × (i ≤ n) × (bytes ≡ marked (λ S. some i (λ k. pairsOfHead meeting containing n k S)) bytes₀)
+Inv-loop meeting containing n bytes₀ i₀ bytes i =
+    (n ≤ 10) × (i ≤ n) × (bytes ≡ marked (λ S. some i (λ k. pairsOfHead meeting containing n k S)) bytes₀)
 
 abbrev μ-loop : tie.MeasureT-loop
 μ-loop meeting containing n bytes₀ i₀ bytes i = n - i

@@ -32,13 +32,20 @@ long : (c : tie.Start Inv-loop μ-loop) → length (c .args .t1 .all) ≡ 90
 long c = search length-of-values
 
 loop-holds : tie.Need-loop-holds Inv-loop μ-loop
-loop-holds c = (long c, refl, search needs, omega arith, omega arith, λ i j h g. empty-masks i j h ∙ sym (any-none (parents i j) (c .args .t1 .all)))
+loop-holds c =
+    (long c, refl, search needs, omega arith, omega arith, λ i j h g. empty-masks i j h ∙ sym (any-none (parents i j) (c .args .t1 .all)))
 
 returns : tie.Need-returns Inv-loop μ-loop
 returns c =
     let l = c .before .before .loop in let a = c .before .before .before .args in
     let e : l .k ≡ a .t1 .n = omega arith in
     λ i j h g. l .inv .5 i j h g ∙ ap (λ (m : ℕ). meetsAt (take m (a .t1 .all)) i j) e
+
+mul-q : tie.Need-mul-q Inv-loop μ-loop
+mul-q c = omega arith
+
+element-copy-out-q : tie.Need-element-copy-out-q Inv-loop μ-loop
+element-copy-out-q c = omega arith
 
 loop-again : tie.Need-loop-again Inv-loop μ-loop
 loop-again c =
@@ -48,7 +55,8 @@ loop-again c =
     λ i j. any-next (parents i j) (a .t1 .all) (l .k) noPoint (omega arith) in
     let past : (i j : ℕ) → i < 10 → j < 10 → parents i j q ≡ false → inMaskOf (l .heads) i j ≡ meetsAt (take (l .k + 1) (a .t1 .all)) i j =
     λ i j h g e. l .inv .5 i j h g
-    ∙ sym (more i j ∙ ap (λ (b : Bool). meetsAt (take (l .k) (a .t1 .all)) i j || b) e ∙ or-false (meetsAt (take (l .k) (a .t1 .all)) i j)) in (
+    ∙ sym (more i j ∙ ap (λ (b : Bool). meetsAt (take (l .k) (a .t1 .all)) i j || b) e
+    ∙ or-false (meetsAt (take (l .k) (a .t1 .all)) i j)) in (
       l .inv .0,
       refl,
       ⊎-elim
@@ -76,6 +84,6 @@ returns-2 c =
 
 pub meeting-heads-spec : {M : Type 1} → statement M
 meeting-heads-spec =
-    tie.close (tie.spec Inv-loop μ-loop loop-holds returns (λ c. omega arith) (λ c. omega arith) (λ c. search needs) (λ c. search needs)
-    (λ c. search needs) (λ c. search needs) (λ c. search needs) (λ c. search needs) (λ c. search needs) (λ c. search needs)
-    (λ c. search needs) (λ c. search needs) (λ c. search needs) (λ c. search needs) loop-again returns-2)
+    tie.close (tie.spec Inv-loop μ-loop loop-holds returns mul-q element-copy-out-q (λ c. search needs) (λ c. search needs)
+    (λ c. search needs) (λ c. search needs) (λ c. search needs) (λ c. search needs) (λ c. search needs) (λ c. search needs) (λ c. search needs)
+    (λ c. search needs) (λ c. search needs) (λ c. search needs) loop-again returns-2)
