@@ -41,12 +41,6 @@ returns c =
     let e : l .k ≡ a .t1 .n = omega arith in
     λ i j h g. l .inv .5 i j h g ∙ ap (λ (m : ℕ). meetsAt (take m (a .t1 .all)) i j) e
 
-mul-q : tie.Need-mul-q Inv-loop μ-loop
-mul-q c = omega arith
-
-element-copy-out-q : tie.Need-element-copy-out-q Inv-loop μ-loop
-element-copy-out-q c = omega arith
-
 loop-again : tie.Need-loop-again Inv-loop μ-loop
 loop-again c =
     let l = c .before .before .before .before .loop in let a = c .before .before .before .before .before .args in
@@ -84,6 +78,6 @@ returns-2 c =
 
 pub meeting-heads-spec : {M : Type 1} → statement M
 meeting-heads-spec =
-    tie.close (tie.spec Inv-loop μ-loop loop-holds returns mul-q element-copy-out-q (λ c. search needs) (λ c. search needs)
-    (λ c. search needs) (λ c. search needs) (λ c. search needs) (λ c. search needs) (λ c. search needs) (λ c. search needs) (λ c. search needs)
-    (λ c. search needs) (λ c. search needs) (λ c. search needs) loop-again returns-2)
+    tie.close (tie.spec Inv-loop μ-loop loop-holds returns (λ c. omega arith) (λ c. omega arith) (λ c. search needs) (λ c. search needs)
+    (λ c. search needs) (λ c. search needs) (λ c. search needs) (λ c. search needs) (λ c. search needs) (λ c. search needs)
+    (λ c. search needs) (λ c. search needs) (λ c. search needs) (λ c. search needs) loop-again returns-2)
