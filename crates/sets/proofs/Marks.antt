@@ -75,12 +75,12 @@ marked-again p q l =
     go false false x = refl
 
 -- a mark where 1 stands already changes nothing
-pub mark-again : (p : ℕ → Bool) (v : ℕ) (b : Bool) (l : List ℕ) → getD (marked p l) v 0 ≡ 1 → marked p l ≡ marked (λ S. p S || (eqb S v && b)) l
+pub mark-again : (p : ℕ → Bool) (v : ℕ) (b : Bool) (l : List ℕ) → getD (marked p l) v 0 ≡ 1
+    → marked p l ≡ marked (λ S. p S || (eqb S v && b)) l
 mark-again p v b l e =
     ext-getD 0 (marked p l) (marked (λ S. p S || (eqb S v && b)) l) (length-marked p l ∙ sym (length-marked (λ S. p S || (eqb S v && b)) l))
     (λ S k. let h : S < length l = omega (arith, length-marked p l) in
-    marked-at p l S h ∙ go S h (eqb S v) refl
-    ∙ sym (marked-at (λ S. p S || (eqb S v && b)) l S h))
+    marked-at p l S h ∙ go S h (eqb S v) refl ∙ sym (marked-at (λ S. p S || (eqb S v && b)) l S h))
   where
     stays : (a c : Bool) (x : ℕ) → cond a 1 x ≡ 1 → cond a 1 x ≡ cond (a || c) 1 x
     stays true c x k = refl
@@ -118,9 +118,10 @@ module _ (v : ℕ → ℕ) (test : ℕ → Bool) (j : ℕ) (l : List ℕ) where
   -- a mask that is marked already
   pub mark-had : getD (marked (λ S. some j (λ k. eqb S (v k) && test k)) l) (v j) 0 ≡ 1
       → marked (λ S. some j (λ k. eqb S (v k) && test k)) l ≡ marked (λ S. some (j + 1) (λ k. eqb S (v k) && test k)) l
-  mark-had e = mark-again (λ S. some j (λ k. eqb S (v k) && test k)) (v j) (test j) l e
-      ∙ marked-same (λ S. some j (λ k. eqb S (v k) && test k) || (eqb S (v j) && test j)) (λ S. some (j + 1) (λ k. eqb S (v k) && test k)) l
-      (λ S h. sym (some-next j (λ k. eqb S (v k) && test k)))
+  mark-had e =
+      mark-again (λ S. some j (λ k. eqb S (v k) && test k)) (v j) (test j) l e
+      ∙ marked-same (λ S. some j (λ k. eqb S (v k) && test k) || (eqb S (v j) && test j))
+      (λ S. some (j + 1) (λ k. eqb S (v k) && test k)) l (λ S h. sym (some-next j (λ k. eqb S (v k) && test k)))
 
 -- ---- marks on no bytes
 

@@ -178,7 +178,7 @@ fn add_joining(
     while i < n {
         if s & 1 << i == 0 {
             let t = s | 1 << i;
-            // A mask joins from each of the masks with one head less: it is asked once.
+            // It is reached from each of the masks with one head less; once it has joined it is not asked again.
             if level[t] != 1 {
                 if joins(found, overlapping, containing, t, n) {
                     level[t] = 1;

@@ -1,4 +1,4 @@
--- `levels::add_joining`: s with each head below i that it lacks is marked, where it joins.
+-- `levels::add_joining`: s with each head below i that it lacks is marked, where it joins; where 1 stands already, a mark changes nothing.
 use mathlib.Core.Path.{_≡_, refl, sym, ap, ap₂, _∙_, subst}
 use mathlib.Core.Bool.{Bool, true, false, not, _&&_}
 use mathlib.Core.List.{List}
@@ -28,7 +28,8 @@ test found overlapping containing s n k =
 
 abbrev Inv-loop : tie.InvT-loop
 Inv-loop level₀ found overlapping containing s n i₀ level i =
-    (n ≤ 10) × (s < 2 ^ n) × (i ≤ n) × (level ≡ marked (λ T. some i (λ k. eqb T (withHead n s k) && test found overlapping containing s n k)) level₀)
+    (n ≤ 10) × (s < 2 ^ n) × (i ≤ n)
+    × (level ≡ marked (λ T. some i (λ k. eqb T (withHead n s k) && test found overlapping containing s n k)) level₀)
 
 abbrev μ-loop : tie.MeasureT-loop
 μ-loop level₀ found overlapping containing s n i₀ level i = n - i
@@ -45,8 +46,10 @@ element-copy-out-if2 c =
 joins-requires : tie.Need-joins-requires Inv-loop μ-loop
 joins-requires c κs =
     let l = c .before .before .before .before .loop in
-    let a = c .before .before .before .before .before .args in
-    (l .inv .0, subst (λ (m : ℕ). m < 2 ^ a .n) (sym (with-at (a .n) (a .s) (l .i) (l .inv .0) (l .inv .1) (omega arith))) (gather-lt (a .n) _))
+    let a = c .before .before .before .before .before .args in (
+      l .inv .0,
+      subst (λ (m : ℕ). m < 2 ^ a .n) (sym (with-at (a .n) (a .s) (l .i) (l .inv .0) (l .inv .1) (omega arith))) (gather-lt (a .n) _),
+    )
 
 loop-again : tie.Need-loop-again Inv-loop μ-loop
 loop-again c =
@@ -55,7 +58,8 @@ loop-again c =
     let h : l .i < a .n = omega arith in
     let v : ℕ → ℕ = withHead (a .n) (a .s) in
     let t : ℕ → Bool = test (a .found .now) (a .overlapping .now) (a .containing .now) (a .s) (a .n) in
-    let free : ℕ → Bool = joins (a .n) (stands (a .found .now)) (λ i. getD (a .overlapping .now) i 0) (λ i. getD (a .containing .now) i 0) in
+    let free : ℕ → Bool =
+    joins (a .n) (stands (a .found .now)) (λ i. getD (a .overlapping .now) i 0) (λ i. getD (a .containing .now) i 0) in
     let before : List ℕ = marked (λ T. some (l .i) (λ k. eqb T (v k) && t k)) (a .level .now) in
     let at = with-at (a .n) (a .s) (l .i) (l .inv .0) (l .inv .1) h in (
       l .inv .0,
@@ -70,7 +74,8 @@ loop-again c =
           (and-no (not (inSet (a .s) (l .i))) (free (v (l .i))) (ap free (sym at) ∙ sym (w .3 .ensures) ∙ w .4 .left)))
           (⊎-elim
           (λ w. w .3 ∙ l .inv .3 ∙ mark-had v t (l .i) (a .level .now)
-          (ap (λ (m : ℕ). getD before m 0) (sym at) ∙ ap (λ (x : List ℕ). getD x (bitOr (a .s) (shifted 64 (l .i))) 0) (sym (l .inv .3)) ∙ w .2 .left))
+          (ap (λ (m : ℕ). getD before m 0) (sym at)
+          ∙ ap (λ (x : List ℕ). getD x (bitOr (a .s) (shifted 64 (l .i))) 0) (sym (l .inv .3)) ∙ w .2 .left))
           (λ w. w .1 ∙ l .inv .3 ∙ mark-not v t (l .i) (a .level .now)
           (ap (λ (b : Bool). not b && free (v (l .i))) (has-at (a .s) (l .i) (omega arith) (w .0 .left))))))
           (c .if1 .came),
