@@ -20,17 +20,17 @@ rowsBy n bytes taken = cond taken (rowOrder (stands bytes) n) []
 
 row-order-requires : tie.Need-row-order-requires
 row-order-requires c κs =
-    let r = c .before .before in let a = r .before .args in
-    taken (a .n) (length (a .present .now)) (sym (r .rows-answer .ensures) ∙ c .before .if1 .taken)
+    let r = c .before in let a = r .before .before .args in
+    taken (a .n) (length (a .present .now)) (sym (r .rows-answer .ensures) ∙ c .if1 .taken)
 
 returns : tie.Need-returns
 returns c =
-    let w = c .before in let t = w .before .before in let r = t .before in let a = r .before .args in let e = w .row-order .ensures in
+    let t = c .before in let r = t .before in let a = r .before .before .args in let e = c .row-order .ensures in
     (e .0 ∙ sym (ap (rowsBy (a .n) (a .present .now)) (eq-eqb _ 0 (sym (r .rows-answer .ensures) ∙ t .if1 .taken))), e .1)
 
 returns-2 : tie.Need-returns-2
 returns-2 c =
-    let r = c .before in let a = r .before .args in (
+    let r = c .before in let a = r .before .before .args in (
       sym (ap (rowsBy (a .n) (a .present .now)) (ne-eqb _ 0 (λ e. c .if1 .left (r .rows-answer .ensures ∙ e)))),
       (omega arith, length-replicate {A = ℕ} 1024 0),
     )

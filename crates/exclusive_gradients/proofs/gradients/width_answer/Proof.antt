@@ -5,7 +5,8 @@ use native.Mathlib.Omega.{arith}
 use lib.Pow.{pow-pos}
 use Rattle.masks.specs.Operations.{shifted-is}
 use Rattle.exclusive.specs.Exclusive.{rowsAnswer}
-use Rattle.exclusive_gradients.proofs.Answers.{taken, rows-refuse, gradients-short, gradients-fit}
+use Rattle.exclusive.proofs.Answers.{taken}
+use Rattle.exclusive_gradients.proofs.Answers.{rows-refuse, gradients-short, gradients-fit}
 use borrow.Author.Needs.{needs}
 use Rattle.exclusive_gradients.proofs.gradients.width_answer.Statement.{statement}
 use Rattle.exclusive_gradients.proofs.gradients.width_answer.Tie as tie

@@ -1,10 +1,12 @@
 -- `subtract::subtract_supersets` meets its contract. The invariant: the rows from place i on have their unclamped exclusives, those before it
 -- are as they were.
 use mathlib.Core.Path.{_≡_, sym, ap, _∙_, subst}
-use mathlib.Core.List.{List}
+use mathlib.Core.Bool.{Bool, cond}
+use mathlib.Core.List.{List, []}
 use Prim.Native.Nat.{ℕ, suc, _+_, _*_, _-_, _^_, _≤_, _<_}
 use native.Mathlib.Nat.{mul-le-mul-right}
 use native.Mathlib.Omega.{arith}
+use borrow.Author.Tests.{eq-eqb}
 use lib.Count.{ones}
 use lib.ListN.{length, getD, take, drop, length-take, length-replicate}
 use Rattle.lists.specs.Lists.{keep}
@@ -19,6 +21,7 @@ use Rattle.exclusive.proofs.Unclamped.{above-every}
 use Rattle.exclusive.proofs.Sums.{supersets-after}
 use Rattle.exclusive.proofs.Passing.{Pass, pass-start, pass-next, pass-end, all-above, sums-due}
 use Rattle.exclusive.proofs.LevelSums.{row-at}
+use Rattle.exclusive.proofs.Answers.{room}
 use borrow.Author.Needs.{needs}
 use Rattle.exclusive_gradients.proofs.subtract.subtract_supersets.Statement.{statement}
 use Rattle.exclusive_gradients.proofs.subtract.subtract_supersets.Tie as tie
@@ -31,21 +34,20 @@ Inv-loop present numbers₀ n width order count supersets₀ i₀ numbers supers
 abbrev μ-loop : tie.MeasureT-loop
 μ-loop present numbers₀ n width order count supersets₀ i₀ numbers supersets i = i
 
-rows-in-order-requires : tie.Need-rows-in-order-requires Inv-loop μ-loop
-rows-in-order-requires c κs = let p = c .before .before .pre in (p .0, p .1)
-
 loop-holds : tie.Need-loop-holds Inv-loop μ-loop
 loop-holds c =
     let r = c .before in let s = r .before .before .before in let p = s .pre in let a = s .args in
-    let rows = r .rows-in-order .result in let e = r .rows-in-order .ensures in (
+    let rows = r .rows-in-order .result in let e = r .rows-in-order .ensures in
+    let here = eq-eqb _ 0 (sym (room (a .n) (length (a .present .now)) (p .0) (p .1))) in
+    let listed = e .0 ∙ ap (λ (b : Bool). cond b (rowOrder (stands (a .present .now)) (a .n)) []) here in (
       p .0,
       p .2,
       e .1 .1,
       e .1 .0,
-      e .0,
+      listed,
       omega arith,
       length-replicate {A = ℕ} 1024 0,
-      pass-start (a .n) (stands (a .present .now)) (a .width) (rows .n) (a .numbers .now) (omega (arith, length-take (rows .n) (rows .all), ap length (e .0))),
+      pass-start (a .n) (stands (a .present .now)) (a .width) (rows .n) (a .numbers .now) (omega (arith, length-take (rows .n) (rows .all), ap length listed)),
     )
 
 -- the place before i is one of the order, and the row there a mask of the table
@@ -131,6 +133,6 @@ returns c =
 
 pub subtract-supersets-spec : {M : Type 1} → statement M
 subtract-supersets-spec =
-    tie.close (tie.spec Inv-loop μ-loop rows-in-order-requires loop-holds (λ c. omega arith) (λ c. omega arith)
+    tie.close (tie.spec Inv-loop μ-loop (λ c κs. search needs) loop-holds (λ c. omega arith) (λ c. omega arith)
     (λ c. omega (arith, c .before .loop .inv .3)) add-collect-supersets collect-supersets-requires subtract-row-requires (λ c. omega arith)
     loop-again (λ c. c .before .loop .inv .7 .many) returns)
