@@ -3,8 +3,8 @@
 use crate::areas::rows_answer;
 use crate::areas::shorter;
 use crate::levels::subtract_levels;
-use crate::rows::row_order;
 use crate::rows::Rows;
+use crate::rows::row_order;
 ghost use mathlib.Core.Path.{_≡_};
 ghost use mathlib.Core.Bool.{cond};
 ghost use mathlib.Core.List.{[]};
@@ -25,11 +25,14 @@ pub fn rows_in_order(present: &[u8], n: usize) -> Rows
     if answer == 0 {
         return row_order(present, n);
     }
-    Rows { n: 0, all: [0usize; 1024] }
+    Rows {
+        n: 0,
+        all: [0usize; 1024],
+    }
 }
 
-// Each area less what stands for its row's strict supersets, in place, and not yet clamped: the answer is 0, or 2 for more than ten heads, or 7
-// where a table has fewer than 2^n rows; then nothing is written. What is left in an absent row is not said.
+// Each area less the sum of what stands for its row's strict supersets, in place, and not yet clamped: the answer is 0, or 2 for more than
+// ten heads, or 7 where a table has fewer than 2^n rows; then nothing is written. What is left in an absent row is not said.
 pub fn to_unclamped_areas(present: &[u8], areas: &mut [f64], n: usize) -> u8
     ensures { λ r. ⌜ r ≡ rowsAnswer n (min (length (now (present .entry))) (length (now (areas .entry)))) ⌝ }
     ensures { λ r. ⌜ (r ≡ 0 → Subtracted n (stands (now (present .entry))) 1 (now (areas .entry)) (now (areas .exit))) ⌝ }

@@ -1,5 +1,5 @@
 // From the last row to the first: each number less the sum of what stands for its row's strict supersets, in place. The table has
-// `width` numbers a row, a gradient; exclusive/src/levels.rt is for the areas. Rests on specs/Exclusive.antt and specs/Entries.antt of `exclusive`.
+// `width` numbers a row, a gradient; exclusive/src/levels.rt is for the areas. Rests on Exclusive.antt and Entries.antt, exclusive/specs.
 use exclusive::steps::rows_in_order;
 use masks::is_subset;
 ghost use mathlib.Core.Path.{_≡_};

@@ -11,8 +11,11 @@ use Rattle.exclusive.proofs.steps.to_unclamped_areas.Tie as tie
 
 -- what was answered
 answered : (c : tie.After-rows-answer)
-    → let a = c .before .before .before .before .args in c .rows-answer .result ≡ rowsAnswer (a .n) (min (length (a .present .now)) (length (a .areas .now)))
-answered c = let a = c .before .before .before .before .args in c .rows-answer .ensures ∙ ap (rowsAnswer (a .n)) (c .before .shorter .ensures)
+    → let a = c .before .before .before .before .args in
+    c .rows-answer .result ≡ rowsAnswer (a .n) (min (length (a .present .now)) (length (a .areas .now)))
+answered c =
+    let a = c .before .before .before .before .args in
+    c .rows-answer .ensures ∙ ap (rowsAnswer (a .n)) (c .before .shorter .ensures)
 
 subtract-levels-requires : tie.Need-subtract-levels-requires
 subtract-levels-requires c κs =

@@ -14,8 +14,8 @@ returns c =
     let w = c .before .before .before .before in let g = w .before .before .before .before .before in let f = g .before .before .before .before in
     let s = f .before .before .before .before .before in let a = s .args in let p = s .pre in let e = w .replace-rows .ensures in
     let u = f .to-unclamped-areas .ensures in
-    let one = u .1 .0 (u .0 ∙ sym (room (a .n) (min (length (a .present .now)) (length (a .areas .now))) (p .0) (omega (arith, p .1, p .2)))) in
-    let more = g .subtract-supersets .ensures in (
+    let fits = room (a .n) (min (length (a .present .now)) (length (a .areas .now))) (p .0) (omega (arith, p .1, p .2)) in
+    let one = u .1 .0 (u .0 ∙ sym fits) in let more = g .subtract-supersets .ensures in (
       e .0 ∙ areas-are (a .n) (a .width) (a .present .now) (a .areas .now) (a .gradients .now) _ _ one more,
       e .1 ∙ gradients-are (a .n) (a .width) (a .present .now) (a .areas .now) (a .gradients .now) _ _ one more,
     )
