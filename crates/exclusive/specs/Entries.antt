@@ -1,14 +1,13 @@
 -- A lent table of rows of so many numbers each, one row after another, and what stands in it once the supersets are subtracted and
--- nothing is clamped yet. What the private functions promise one another; no public contract cites it.
+-- nothing is clamped yet. What functions promise one another; of public contracts only that of to_unclamped_areas cites it.
 use Prim.Native.Nat.{ℕ, suc, _+_, _*_, _≤_, _<_, _^_}
-use mathlib.Core.Bool.{Bool, not, cond, _&&_}
+use mathlib.Core.Bool.{Bool, cond}
 use mathlib.Core.List.{List, [], _∷_}
 use mathlib.Core.Path.{_≡_}
-use lib.Ieee.{Float, nan, lt}
+use lib.Ieee.{Float, nan}
 use lib.ListN.{getD, length, drop}
 use Rattle.lists.specs.Every.{Every}
 use Rattle.masks.specs.Mask.{subset}
-use Rattle.masks.specs.Presence.{stands}
 use Rattle.binary64.specs.Constants.{zero64}
 use Rattle.binary64.specs.Floats.{_+ᶠ_, _-ᶠ_}
 use Rattle.exclusive.specs.RowOrder.{rowOrder}
@@ -34,10 +33,6 @@ pub record Subtracted (n : ℕ) (present : ℕ → Bool) (width : ℕ) (before a
   pub rows : (k : ℕ) → k < width → Every (λ S. entry width after k S ≡ unclamped n present (entry width before k) S) (rowOrder present n)
   pub rest : drop (2 ^ n * width) after ≡ drop (2 ^ n * width) before
   pub many : length after ≡ length before
-
--- A row keeps its numbers where it is present and its area, its supersets' subtracted, is not below zero.
-abbrev pub keptRow : List ℕ → List Float → ℕ → Bool
-keptRow bytes areas S = stands bytes S && not (lt (getD areas S nan) zero64)
 
 -- ---- levels: the rows from place lo to place hi of the order, all of as many heads
 
