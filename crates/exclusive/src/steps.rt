@@ -32,7 +32,7 @@ pub fn rows_in_order(present: &[u8], n: usize) -> Rows
 }
 
 // Each area less the sum of what stands for its row's strict supersets, in place, and not yet clamped: the answer is 0, or 2 for more than
-// ten heads, or 7 where a table has fewer than 2^n rows; then nothing is written. What is left in an absent row is not said.
+// ten heads, or 7 where a table has fewer than 2^n rows; then nothing is written. Absent rows and what is beyond stay.
 pub fn to_unclamped_areas(present: &[u8], areas: &mut [f64], n: usize) -> u8
     ensures { λ r. ⌜ r ≡ rowsAnswer n (min (length (now (present .entry))) (length (now (areas .entry)))) ⌝ }
     ensures { λ r. ⌜ (r ≡ 0 → Subtracted n (stands (now (present .entry))) 1 (now (areas .entry)) (now (areas .exit))) ⌝ }
