@@ -13,7 +13,7 @@ use intersections::points::IntersectionPoint;
 use intersections::points::Intersections;
 ghost use mathlib.Core.Path.{_≡_};
 ghost use mathlib.Core.Bool.{true, false};
-ghost use Prim.Native.Nat.{_+_, _*_, _%_, _<_, _≤_};
+ghost use Prim.Native.Nat.{_+_, _*_, _%_, _<_, _≤_, min};
 ghost use lib.ListN.{length, getD};
 ghost use lib.Ieee.{nan};
 ghost use Rattle.lists.specs.Lists.{keep};
@@ -109,32 +109,29 @@ fn has_parent(j: usize, q: IntersectionPoint) -> bool
     q.second == j
 }
 
-// How many meeting points head j has.
-fn points_of(points: Intersections, j: usize) -> usize
-    ensures { λ r. ⌜ r ≡ length (keep (hasParent j) (pointList points)) ⌝ }
+// How many places of a list of n points are taken.
+fn at_most_ninety(n: usize) -> usize
+    ensures { λ r. ⌜ r ≡ min n 90 ⌝ }
 {
-    let n = points.n;
-    let mut count: usize = 0;
-    let mut i: usize = 0;
-    while i < 90 {
-        if n <= i {
-            return count;
-        }
-        if has_parent(j, points.all[i]) {
-            count += 1;
-        }
-        i += 1;
-    }
-    count
+    if n < 90 { n } else { 90 }
 }
 
-// Whether there are places for the meeting points of every head.
+// Whether there are places for the meeting points of every head. The list stays where it is: handed on, it would be copied.
 pub(crate) fn few(points: Intersections, n_sets: usize) -> bool
     ensures { λ r. ⌜ r ≡ fewPoints «n_sets» (pointList points) ⌝ }
 {
+    let n = at_most_ninety(points.n);
     let mut j: usize = 0;
     while j < n_sets {
-        if 32 < points_of(points, j) {
+        let mut count: usize = 0;
+        let mut i: usize = 0;
+        while i < n {
+            if has_parent(j, points.all[i]) {
+                count += 1;
+            }
+            i += 1;
+        }
+        if 32 < count {
             return false;
         }
         j += 1;
