@@ -20,7 +20,7 @@ ghost use Rattle.lists.specs.Lists.{keep};
 ghost use Rattle.lists.specs.Written.{tab};
 ghost use Rattle.intersections.specs.Counted.{pointList};
 ghost use Rattle.boundary.specs.Sort.{place};
-ghost use Rattle.sums.specs.Marks.{mark, marksFrom, insertMark, hasParent, marksAt};
+ghost use Rattle.sums.specs.Marks.{mark, marksFrom, insertMark, hasParent};
 ghost use Rattle.sums.specs.Walk.{circlesIn, letters, gapLetters, Few, fewPoints, Marked};
 ghost use Rattle.sums.specs.Filled.{Filled, Kept, Long};
 
@@ -139,43 +139,6 @@ pub(crate) fn few(points: Intersections, n_sets: usize) -> bool
     true
 }
 
-// The meeting points of head j by angle, at its places; how many there are.
-fn fill_marks(
-    points: Intersections,
-    j: usize,
-    circle: Circle,
-    phi: &mut [f64; 320],
-    adopters: &mut [usize; 320],
-) -> usize
-    requires { ⌜ (j < 10) × ((length (now phi) ≡ 320) × (length (now adopters) ≡ 320)) ⌝ }
-    requires { ⌜ length (keep (hasParent j) (pointList points)) ≤ 32 ⌝ }
-    ensures { λ r. ⌜ (r ≤ 32) × (marksFrom (now (phi .exit)) (now (adopters .exit)) (j * 32) r ≡ marksAt circle j (pointList points)) ⌝ }
-    ensures { λ r. ⌜ Kept (j * 32) nan (now (phi .entry)) (now (phi .exit)) × Kept (j * 32) 0 (now (adopters .entry)) (now (adopters .exit)) ⌝ }
-{
-    let n = points.n;
-    let mut count: usize = 0;
-    let mut i: usize = 0;
-    while i < 90 {
-        if n <= i {
-            return count;
-        }
-        let q = points.all[i];
-        if has_parent(j, q) {
-            insert_at(
-                phi,
-                adopters,
-                j * 32,
-                count,
-                angle_about(circle, q.point),
-                q.adopters,
-            );
-            count += 1;
-        }
-        i += 1;
-    }
-    count
-}
-
 // Who lets head j have the gap from each of its n angles to the next.
 fn fill_lets(
     c: &[f64; 30],
@@ -199,7 +162,8 @@ fn fill_lets(
     }
 }
 
-// The arrays of the heads of a set; the others have no angle.
+// The arrays of the heads of a set: the meeting points of each by angle, and who lets it have the gaps between them. The others have
+// no angle.
 pub(crate) fn fill_heads(
     c: &[f64; 30],
     n_sets: usize,
@@ -217,12 +181,22 @@ pub(crate) fn fill_heads(
     ensures { λ r. ⌜ Marked (circlesIn (now (c .entry)) «n_sets») (pointList points) needed «n_sets» (now (counts .exit)) (now (owners .exit))
         (now (phi .exit)) (now (adopters .exit)) (now (lets .exit)) ⌝ }
 {
+    let n = at_most_ninety(points.n);
     let mut j: usize = 0;
     while j < n_sets {
         let mut count: usize = 0;
         if needed >> j & 1 == 1 {
             let circle = circle_at(c, j);
-            count = fill_marks(points, j, circle, phi, adopters);
+            let mut i: usize = 0;
+            while i < n {
+                let q = points.all[i];
+                if has_parent(j, q) {
+                    let angle = angle_about(circle, q.point);
+                    insert_at(phi, adopters, j * 32, count, angle, q.adopters);
+                    count += 1;
+                }
+                i += 1;
+            }
             fill_lets(c, n_sets, j, count, phi, lets);
             owners[j] = letters(c, n_sets, j, probe(circle));
         }
