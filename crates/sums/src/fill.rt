@@ -109,7 +109,7 @@ fn has_parent(j: usize, q: IntersectionPoint) -> bool
     q.second == j
 }
 
-// How many places of a list of n points are taken.
+// How many the first n of ninety points are.
 fn at_most_ninety(n: usize) -> usize
     ensures { λ r. ⌜ r ≡ min n 90 ⌝ }
 {

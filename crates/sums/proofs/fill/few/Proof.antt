@@ -3,7 +3,7 @@ use borrow.Author.Needs.{needs}
 use mathlib.Core.Path.{_≡_, sym, ap, _∙_}
 use mathlib.Core.Bool.{true, not}
 use mathlib.Core.Logic.{⊎-elim}
-use Prim.Native.Nat.{ℕ, min, _+_, _-_, _≤_, _<_}
+use Prim.Native.Nat.{ℕ, min, _-_, _≤_, _<_}
 use native.Mathlib.Omega.{arith}
 use lib.Dec.{ltb}
 use lib.ListN.{length, take, length-take}
@@ -35,6 +35,12 @@ record Counted (points : Intersections) (n j count i : ℕ) : Type 0 where
   within : i ≤ n
   less : count ≤ i
   many : count ≡ length (keep (hasParent j) (take i (pointList points)))
+
+-- all points of head j were counted
+all-counted : {points : Intersections} {n j count i : ℕ} → Counted points n j count i → n ≤ i
+    → count ≡ length (keep (hasParent j) (pointList points))
+all-counted {points} {n} {j} {count} {i} l h =
+    count-all j (pointList points) i count (omega (arith, length-take (points .n) (points .all), l .long, l .all)) (l .many)
 
 abbrev Inv-loop2 : tie.InvT-loop2
 Inv-loop2 n-sets points n j count₀ i₀ count i = Counted points n j count i
@@ -96,32 +102,26 @@ loop2-again c =
           (c .if1 .came);
     }
 
--- all points of a head were counted
-all-counted : (c : tie.After-loop2 Inv-loop2 μ-loop2 Inv-loop μ-loop)
-    → c .before .loop2 .count ≡ length (keep (hasParent (c .before .before .before .loop .j)) (pointList (c .before .before .before .before .before .args .t1)))
-all-counted c =
-    let l = c .before .loop2 in
-    let o = c .before .before .before in
-    let p = o .before .before .args .t1 in
-    count-all (o .loop .j) (pointList p) (l .i) (l .count)
-    (omega (arith, length-take (p .n) (p .all), c .loop2-test .left, l .inv .long, l .inv .all)) (l .inv .many)
-
 returns : tie.Need-returns Inv-loop2 μ-loop2 Inv-loop μ-loop
 returns c =
     let i = c .before .before .before in
     let a = i .before .before .before .args in
-    few-fails (a .n-sets) (pointList (a .t1)) (i .before .loop .j) _ (i .loop-test .taken) (all-counted (c .before)) (c .if2 .taken)
+    let m = c .before in
+    few-fails (a .n-sets) (pointList (a .t1)) (i .before .loop .j) _ (i .loop-test .taken)
+    (all-counted (m .before .loop2 .inv) (m .loop2-test .left)) (c .if2 .taken)
 
 loop-again : tie.Need-loop-again Inv-loop2 μ-loop2 Inv-loop μ-loop
 loop-again c =
     let i = c .before .before .before in
     let l = i .before .loop in
     let a = i .before .before .before .args in
+    let m = c .before in
+    let many = all-counted (m .before .loop2 .inv) (m .loop2-test .left) in
     record {
       long = l .inv .long;
       all = l .inv .all;
       within = omega (arith, i .loop-test .taken);
-      few = few-next (a .n-sets) (pointList (a .t1)) (l .j) _ (l .inv .few) (all-counted (c .before)) (omega (arith, c .if2 .left));
+      few = few-next (a .n-sets) (pointList (a .t1)) (l .j) _ (l .inv .few) many (omega (arith, c .if2 .left));
     }
 
 returns-2 : tie.Need-returns-2 Inv-loop2 μ-loop2 Inv-loop μ-loop

@@ -44,8 +44,8 @@ record Heads (c : List Float) (n-sets : ℕ) (points : Intersections) (n needed 
   long : Long counts owners phi adopters lets
   marked : Marked (circlesIn c n-sets) (pointList points) needed j counts owners phi adopters lets
 
-record Laid (points : Intersections) (n j : ℕ) (circle : Circle) (phi₀ : List Float) (adopters₀ : List ℕ) (phi : List Float) (adopters : List ℕ)
-    (count i : ℕ) : Type 0 where
+record Laid (points : Intersections) (n j : ℕ) (circle : Circle) (phi₀ : List Float) (adopters₀ : List ℕ) (phi : List Float)
+    (adopters : List ℕ) (count i : ℕ) : Type 0 where
   places : length (points .all) ≡ 90
   all : n ≡ min (points .n) 90
   within : i ≤ n
@@ -56,8 +56,8 @@ record Laid (points : Intersections) (n j : ℕ) (circle : Circle) (phi₀ : Lis
   adopters-kept : Kept (j * 32) 0 adopters₀ adopters
   sorted : Sorted circle j (pointList points) i count (marksFrom phi adopters (j * 32) count)
 
-module _ {points : Intersections} {n j : ℕ} {circle : Circle} {phi₀ : List Float} {adopters₀ : List ℕ} {phi : List Float} {adopters : List ℕ}
-    {count i : ℕ} (l : Laid points n j circle phi₀ adopters₀ phi adopters count i) where
+module _ {points : Intersections} {n j : ℕ} {circle : Circle} {phi₀ : List Float} {adopters₀ : List ℕ} {phi : List Float}
+    {adopters : List ℕ} {count i : ℕ} (l : Laid points n j circle phi₀ adopters₀ phi adopters count i) where
   laid-below : i < n → i < length (pointList points)
   laid-below h = omega (arith, length-take (points .n) (points .all), l .places, l .all)
 
@@ -125,10 +125,11 @@ insert-at-requires c κs =
     let o = d .before .before .before .before .before in
     let j = o .loop .j in
     let p = o .before .before .args .t3 in
+    let done = marksFrom (l .phi) (l .adopters) (j * 32) (l .count) in
     let same = getD-take (p .n) (p .all) (l .i) noPoint (omega (arith, d .loop2-test .taken, l .inv .all)) in (
       omega (arith, l .inv .head),
       (
-        sorted-room (d .before .before .circle-at .result) j (pointList p) (l .i) (l .count) (marksFrom (l .phi) (l .adopters) (j * 32) (l .count))
+        sorted-room (d .before .before .circle-at .result) j (pointList p) (l .i) (l .count) done
             (laid-below (l .inv) (d .loop2-test .taken)) (l .inv .sorted)
             (ap (hasParent j) same ∙ sym (t .before .has-parent .ensures) ∙ t .if2 .taken),
         (l .inv .phi-long, l .inv .adopters-long),
@@ -209,7 +210,8 @@ loop-again c =
       within = omega (arith, t);
       long =
           rw (w .9, w .10, w .11, w .12, w .13)
-          (long-in (l .counts) (l .owners) (l .phi) (l .adopters) (l .lets) k (l .j) _ _ _ _ _ (h .phi-kept) (h .adopters-kept) (w .6 .ensures .kept));
+          (long-in (l .counts) (l .owners) (l .phi) (l .adopters) (l .lets) k (l .j) _ _ _ _ _ (h .phi-kept) (h .adopters-kept)
+          (w .6 .ensures .kept));
       marked =
           rw (w .9, w .10, w .11, w .12, w .13)
           (marked-in cs points (a .needed) (l .j) (l .counts) (l .owners) (l .phi) (l .adopters) (l .lets) _ _ _ _ _
@@ -234,7 +236,8 @@ loop-again c =
       long = rw (w .1, w .2, w .3, w .4, w .5) (long-out (l .counts) (l .owners) (l .phi) (l .adopters) (l .lets) k (l .j) 0);
       marked =
           rw (w .1, w .2, w .3, w .4, w .5)
-          (marked-out cs points (a .needed) (l .j) (l .counts) (l .owners) (l .phi) (l .adopters) (l .lets) 0 0 (l .phi) (l .adopters) (l .lets)
+          (marked-out cs points (a .needed) (l .j) (l .counts) (l .owners) (l .phi) (l .adopters) (l .lets) 0 0
+          (l .phi) (l .adopters) (l .lets)
           (omega (arith, t, l .inv .ten, k .counts-long))
           (kept-self _ _ _)
           (kept-self _ _ _)
