@@ -107,7 +107,8 @@ pub fn any_tables(tally: &mut Tally, n: usize, areas: &Rows, random: &mut Random
         0 => [f64::NAN, f64::INFINITY, -0.0, 0.0][(random.next() % 4) as usize],
         _ => random.whole(-1000, 1000) as f64 / 7.0,
     };
-    let slopes: Slopes = areas.keys().map(|mask| (*mask, (0..width).map(|_| number()).collect())).collect();
+    // by mask, so that the same seed gives the same numbers
+    let slopes: Slopes = (0..count).filter(|mask| areas.contains_key(mask)).map(|mask| (mask, (0..width).map(|_| number()).collect())).collect();
     let before = Lent::of(count, count * width, random);
     let present: Vec<u8> = (0..count + 1).map(|mask| areas.contains_key(&mask) as u8).collect();
     let (mut e, mut g) = (before.exclusives.clone(), before.gradients.clone());

@@ -16,3 +16,8 @@ unfoldable pub namedArcIntegralWithGradient : Bounds → List Circle → Boundar
 unfolding clippedArcIntegralWithGradient
 namedArcIntegralWithGradient box cs arc g =
     cond (ltb (arc .circle) (length cs)) (clippedArcIntegralWithGradient box (getD cs (arc .circle) noCircle) arc g) (with-gradient zero64 g)
+
+-- The same with the arc's circle given, for ten heads: an arc of none of them has the integral +0 and no gradient.
+unfoldable pub headArcIntegralWithGradient : Bounds → Circle → BoundaryArc → List Float → WithGradient
+unfolding clippedArcIntegralWithGradient
+headArcIntegralWithGradient box c arc g = cond (ltb (arc .circle) 10) (clippedArcIntegralWithGradient box c arc g) (with-gradient zero64 g)

@@ -51,7 +51,7 @@ fn add_clipped_arc(
 }
 
 // A factor times the length of a span, added.
-fn add_span(factor: f64, total: f64, span: Span) -> f64
+pub fn add_span(factor: f64, total: f64, span: Span) -> f64
     ensures { λ r. ⌜ r ≡ addSpan factor total (spans span) ⌝ }
 {
     match span {

@@ -4,10 +4,11 @@ use inside::span::Span;
 use inside::span::horizontal_edge_inside_interval;
 use inside::span::vertical_edge_inside_interval;
 use intersections::members::Members;
+use intersections::members::at_most_ten;
 use outline::gradient::add_at;
 use outline::gradient::sub_at;
 ghost use mathlib.Core.Path.{_≡_};
-ghost use Prim.Native.Nat.{_≤_};
+ghost use Prim.Native.Nat.{min, _*_, _≤_};
 ghost use Rattle.intersections.specs.Counted.{circleList};
 ghost use Rattle.inside.specs.Span.{spans};
 ghost use Rattle.clip.specs.Gradient.{with-gradient, moved, edgeSlopes, addSpanWithGradient, bottomEdge, rightEdge, topEdge, leftEdge, addEdgesWithGradient};
@@ -59,7 +60,14 @@ fn add_span_with_gradient(total: f64, grad: &mut [f64], edge: Edge, at: usize, s
     }
 }
 
-fn bottom_edge(bounds: Bounds) -> Edge
+// The same, the box's four entries after three a head of n, of which at most ten count.
+pub fn add_edge_with_gradient(total: f64, grad: &mut [f64], edge: Edge, n: usize, span: Span) -> f64
+    ensures { λ r. ⌜ with-gradient r (now (grad .exit)) ≡ addSpanWithGradient edge (min n 10 * 3) (with-gradient total (now (grad .entry))) (spans span) ⌝ }
+{
+    add_span_with_gradient(total, grad, edge, at_most_ten(n) * 3, span)
+}
+
+pub fn bottom_edge(bounds: Bounds) -> Edge
     ensures { λ r. ⌜ r ≡ bottomEdge bounds ⌝ }
 {
     Edge {
@@ -70,7 +78,7 @@ fn bottom_edge(bounds: Bounds) -> Edge
     }
 }
 
-fn right_edge(bounds: Bounds) -> Edge
+pub fn right_edge(bounds: Bounds) -> Edge
     ensures { λ r. ⌜ r ≡ rightEdge bounds ⌝ }
 {
     Edge {
@@ -81,7 +89,7 @@ fn right_edge(bounds: Bounds) -> Edge
     }
 }
 
-fn top_edge(bounds: Bounds) -> Edge
+pub fn top_edge(bounds: Bounds) -> Edge
     ensures { λ r. ⌜ r ≡ topEdge bounds ⌝ }
 {
     Edge {
@@ -92,7 +100,7 @@ fn top_edge(bounds: Bounds) -> Edge
     }
 }
 
-fn left_edge(bounds: Bounds) -> Edge
+pub fn left_edge(bounds: Bounds) -> Edge
     ensures { λ r. ⌜ r ≡ leftEdge bounds ⌝ }
 {
     Edge {

@@ -9,7 +9,7 @@ use Rattle.lists.specs.Written.{written}
 use Rattle.lists.proofs.Writing.{written-cong}
 use Rattle.masks.specs.Presence.{byte}
 use Rattle.binary64.specs.Constants.{zero64}
-use Rattle.exclusive.specs.Gradient.{unlessReplaced, exclusiveWithGradient}
+use Rattle.exclusive_gradients.specs.Gradient.{unlessReplaced, exclusiveWithGradient}
 use Rattle.exclusive.proofs.TableRows.{place}
 use Rattle.exclusive.proofs.Unclamped.{unclamped-alike}
 

@@ -15,7 +15,7 @@ use Rattle.lists.proofs.Writing.{length-written, written-before, written-cong, 
 use Rattle.masks.specs.Presence.{byte, stands, byte-stands}
 use Rattle.exclusive.specs.Exclusive.{exclusiveRow, exclusivesInPlace}
 use Rattle.exclusive.specs.Entries.{entry}
-use Rattle.exclusive.specs.Gradient.{exclusiveWithGradient, gradientEntry, widthAnswer, gradientAnswer, exclusiveAreas, exclusiveGradients}
+use Rattle.exclusive_gradients.specs.Gradient.{exclusiveWithGradient, gradientEntry, widthAnswer, gradientAnswer, exclusiveAreas, exclusiveGradients}
 use Rattle.exclusive.proofs.Answers.{room}
 use Rattle.exclusive.proofs.TableRows.{byRow, place}
 use Rattle.exclusive.proofs.Unclamped.{exclusive-alike}

@@ -12,7 +12,7 @@ use Rattle.geometry.specs.declared.rectangle.Rectangle.{Rectangle}
 use Rattle.intersections.specs.Points.{collected}
 use Rattle.sets.specs.Regions.{setBytes}
 use Rattle.exclusive.specs.Exclusive.{rowsAnswer}
-use Rattle.exclusive.specs.Gradient.{widthAnswer}
+use Rattle.exclusive_gradients.specs.Gradient.{widthAnswer}
 use Rattle.diagram.specs.Rows.{Rows, Slopes, presenceWritten, exclusivesWritten, areasWritten, slopesWritten}
 use Rattle.diagram.specs.Drawing.{openRows, clippedRows, openSlopes, clippedSlopes}
 

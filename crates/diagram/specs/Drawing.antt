@@ -4,7 +4,6 @@
 use Prim.Native.Nat.{ℕ, _+_, _*_}
 use mathlib.Core.Bool.{Bool, true, false, cond}
 use mathlib.Core.List.{List, map}
-use lib.Dec.{eqb}
 use lib.Ieee.{Float}
 use lib.ListN.{length, replicate, set, take}
 use Rattle.binary64.specs.Constants.{zero64}
@@ -19,7 +18,7 @@ use Rattle.outline.specs.Area.{areaOf, addGradient, openArea}
 use Rattle.clip.specs.Area.{clippedArea}
 use Rattle.clip.specs.Gradient.{WithGradient, with-gradient, clippedWithGradient}
 use Rattle.diagram.specs.declared.drawing.Drawing.{Drawing}
-use Rattle.diagram.specs.Rows.{Rows, Slopes, areaAt, slopesAt}
+use Rattle.diagram.specs.Rows.{Rows, Slopes}
 
 module _ (circles : List Circle) (points : List IntersectionPoint) where
   -- the area that the heads of a set water together, without a box and in one, and its gradient by head, added to a gradient
@@ -72,7 +71,7 @@ circlesOf d = take (d .n) (d .circles)
 abbrev pub pointsOf : Drawing → List IntersectionPoint
 pointsOf d = pointList (d .points)
 
--- the area of a set, and the same with its gradient, added to one
+-- the area of a set, and the same with its gradient, added to one; what row 0 has, and its gradient
 abbrev pub setArea : Drawing → ℕ → Float
 setArea d S =
     cond (d .boxed) (clippedArea (bounds (d .container)) (membersOf (circlesOf d) (pointsOf d) S)) (openArea (membersOf (circlesOf d) (pointsOf d) S))
@@ -82,6 +81,10 @@ setOnto d S g = cond (d .boxed) (clippedOnto (circlesOf d) (pointsOf d) (d .cont
 
 abbrev pub boxAreaOf : Drawing → Float
 boxAreaOf d = cond (d .boxed) (area (d .container)) zero64
+
+abbrev pub boxRowOf : ℕ → Drawing → List Float
+boxRowOf width d =
+    cond (d .boxed) (set (replicate width zero64) (length (circlesOf d) * 3 + 2) (area (d .container))) (replicate width zero64)
 
 abbrev pub widthOf : Drawing → ℕ
 widthOf d = cond (d .boxed) (clippedWidth (circlesOf d) (pointsOf d)) (openWidth (circlesOf d) (pointsOf d))
@@ -94,14 +97,9 @@ abbrev pub slopesBy : ℕ → Drawing → (ℕ → Bool) → Slopes
 slopesBy width d sets = record {
   rows = record { hasBox = d .boxed; boxArea = boxAreaOf d; sets = sets; area = λ S. setOnto d S (replicate width zero64) .sum };
   width = width;
-  boxRow = cond (d .boxed) (set (replicate width zero64) (length (circlesOf d) * 3 + 2) (area (d .container))) (replicate width zero64);
+  boxRow = boxRowOf width d;
   row = λ S. setOnto d S (replicate width zero64) .grad;
 }
 
 abbrev pub slopesOf : Drawing → (ℕ → Bool) → Slopes
 slopesOf d = slopesBy (widthOf d) d
-
--- row S with its gradient of some width, from the byte of its mask among the sets
-abbrev pub rowWith : ℕ → Drawing → ℕ → ℕ → WithGradient
-rowWith width d b S =
-    with-gradient (areaAt (slopesBy width d (λ T. eqb b 1) .rows) S) (slopesAt (slopesBy width d (λ T. eqb b 1)) S)

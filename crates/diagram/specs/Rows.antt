@@ -10,7 +10,7 @@ use Rattle.masks.specs.Presence.{byte}
 use Rattle.binary64.specs.Constants.{zero64}
 use Rattle.sums.specs.Presence.{among}
 use Rattle.exclusive.specs.Exclusive.{exclusiveRow}
-use Rattle.exclusive.specs.Gradient.{unlessReplaced, exclusiveWithGradient}
+use Rattle.exclusive_gradients.specs.Gradient.{unlessReplaced, exclusiveWithGradient}
 
 -- The rows before anything is subtracted: row 0, "always present where there is a box", has the box's area; the row of a set has the set's.
 pub record Rows : Type 0 where

@@ -12,8 +12,8 @@ use crate::drawing::no_box;
 use crate::drawing::width_of;
 use crate::rows::write_rows_with_gradients;
 use exclusive::areas::shorter;
-use exclusive::gradients::to_exclusive_areas_and_gradients;
-use exclusive::gradients::width_answer;
+use exclusive_gradients::gradients::to_exclusive_areas_and_gradients;
+use exclusive_gradients::gradients::width_answer;
 use geometry::circle::Circle;
 use geometry::rectangle::Rectangle;
 use intersections::collect::collect_intersections;
@@ -34,15 +34,7 @@ fn write_exclusives_with_gradients(
     ensures { λ r. ⌜ now (gradients .exit) ≡ slopesWritten (drawing .n) (slopesBy width drawing (stands (now (sets .entry)))) (now (gradients .entry)) ⌝ }
 {
     let n = drawing.n;
-    write_rows_with_gradients(
-        drawing,
-        sets,
-        1usize << n,
-        width,
-        presence,
-        exclusives,
-        gradients,
-    );
+    write_rows_with_gradients(drawing, sets, width, presence, exclusives, gradients);
     to_exclusive_areas_and_gradients(presence, exclusives, gradients, n, width);
 }
 

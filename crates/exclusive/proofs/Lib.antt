@@ -9,4 +9,3 @@ pub mod LevelSums
 pub mod Answers
 pub mod Closing
 pub mod TableRows
-pub mod Replacing

@@ -1,7 +1,7 @@
 -- The pass from the last row to the first, in place: the rows from place i on have their unclamped exclusives, those before it are as they
--- were. It needs that no row comes twice and that a row's strict supersets all come after it.
+-- were, and so are absent rows. It needs that no row comes twice and that a row's strict supersets all come after it.
 use mathlib.Core.Path.{_≡_, refl, sym, ap, ap₂, _∙_, subst}
-use mathlib.Core.Bool.{Bool, true, false}
+use mathlib.Core.Bool.{Bool, true, false, true≢false}
 use mathlib.Core.List.{List, [], _∷_}
 use Prim.Native.Nat.{ℕ, suc, _+_, _*_, _^_, _≤_, _<_}
 use native.Mathlib.Nat.{le-refl, mul-le-mul-right}
@@ -13,14 +13,14 @@ use lib.ListN.{length, getD, take, drop, drop-of-length-le}
 use lib.Seq.{drop-cons, take-suc}
 use borrow.Author.Tests.{eqb-true, eqb-false}
 use Rattle.lists.specs.Lists.{keep}
-use Rattle.lists.specs.Every.{Every, every-map, every-both, every-left, every-right, every-keep}
+use Rattle.lists.specs.Every.{Every, every-map, every-both, every-left, every-right, every-keep, every-at}
 use Rattle.masks.specs.Mask.{strictSubset}
 use Rattle.binary64.specs.Constants.{zero64}
 use Rattle.binary64.specs.Floats.{_-ᶠ_}
 use Rattle.exclusive.specs.RowOrder.{rowOrder, Ordered}
 use Rattle.exclusive.specs.Exclusive.{sumOnto, above, unclamped}
 use Rattle.exclusive.specs.Entries.{entry, rowSums, RowSubtracted, Subtracted}
-use Rattle.exclusive.proofs.RowOrder.{rows-ordered, all-earlier, earlier-other}
+use Rattle.exclusive.proofs.RowOrder.{rows-ordered, every-row, all-earlier, earlier-other}
 use Rattle.exclusive.proofs.Sums.{cut, later}
 use Rattle.exclusive.proofs.Unclamped.{sum-same, unclamped-is}
 
@@ -28,6 +28,7 @@ module _ (n : ℕ) (present : ℕ → Bool) (width i : ℕ) (before after : List
   pub record Pass : Type 0 where
     pub reached : (k : ℕ) → k < width → Every (λ T. entry width after k T ≡ unclamped n present (entry width before k) T) (drop i (rowOrder present n))
     pub stayed : (k : ℕ) → k < width → Every (λ T. entry width after k T ≡ entry width before k T) (take i (rowOrder present n))
+    pub absent : (S k : ℕ) → present S ≡ false → k < width → entry width after k S ≡ entry width before k S
     pub rest : drop (2 ^ n * width) after ≡ drop (2 ^ n * width) before
     pub many : length after ≡ length before
 
@@ -42,12 +43,13 @@ module _ (n : ℕ) (present : ℕ → Bool) (width : ℕ) where
         reached = λ k hk.
             subst (Every (λ T. entry width before k T ≡ unclamped n present (entry width before k) T)) (sym (drop-of-length-le (rowOrder present n) h)) tt;
         stayed = λ k hk. all-stay (entry width before k) (take i (rowOrder present n));
+        absent = λ S k h hk. refl;
         rest = refl;
         many = refl;
       }
 
   pub pass-end : (before after : List Float) → Pass n present width 0 before after → Subtracted n present width before after
-  pass-end before after p = record { rows = p .reached; rest = p .rest; many = p .many }
+  pass-end before after p = record { rows = p .reached; absent = p .absent; rest = p .rest; many = p .many }
 
   -- what is to be subtracted from number k of row S
   abbrev pub due : ℕ → List Float → ℕ → Float
@@ -62,6 +64,12 @@ module _ (n : ℕ) (present : ℕ → Bool) (width : ℕ) where
         every-map (take i L) (λ T e. earlier-other T S e)
         (all-earlier (take i L) (drop (suc i) L) S
         (subst Ordered (cut L i S inside here) (rows-ordered present n)))
+
+    -- a row of the order is there
+    there : present S ≡ true
+    there =
+        let Present : ℕ → Type 0 = λ T. present T ≡ true in
+        subst Present here (every-at Present L i 0 inside (every-row present Present n (λ T h t. t)))
 
     -- the strict supersets that come after a row are all of them
     pub all-above : keep (strictSubset n S) (drop (i + 1) L) ≡ above n present S
@@ -84,6 +92,7 @@ module _ (n : ℕ) (present : ℕ → Bool) (width : ℕ) where
           reached = λ k hk. subst (Every (Reached after k)) (sym (drop-cons L i 0 inside ∙ ap₂ (λ (x j : ℕ). x ∷ drop j L) here (sym (add-one i))))
               (own k hk, every-map (drop (i + 1) L) (λ T t. keeps k hk T t (eqb T S) refl) (p .reached k hk));
           stayed = λ k hk. every-both (take i L) (λ T o t. r .others T k (λ e. absurd (o e)) hk ∙ t) earlier (first k hk .0);
+          absent = λ T k h hk. r .others T k (λ f. absurd (true≢false (sym there ∙ ap present (sym f) ∙ h))) hk ∙ p .absent T k h hk;
           rest = r .rest (2 ^ n * width) (mul-le-mul-right width hs) ∙ p .rest;
           many = r .many ∙ p .many;
         }

@@ -3,18 +3,19 @@ use mathlib.Core.Path.{_≡_, refl, sym, ap, ap₂, _∙_}
 use mathlib.Core.Bool.{Bool, true, false, cond, _&&_}
 use mathlib.Core.List.{List, [], _∷_, _++_, append-nil}
 use Prim.Native.Nat.{ℕ, zero, suc, _+_, _-_, _^_, _≤_, _<_}
-use native.Mathlib.Decide.{ℕ-discrete, le-ind}
-use native.Mathlib.Nat.{le-refl, lt-of-lt-of-le}
+use native.Mathlib.Decide.{ℕ-discrete}
+use native.Mathlib.Nat.{lt-of-lt-of-le}
 use native.Mathlib.Numerals.{add-one}
 use native.Mathlib.Omega.{arith}
-use borrow.Author.Tests.{eq-eqb, ne-eqb}
+use borrow.Author.Tests.{ne-eqb}
 use lib.Count.{ones}
 use lib.Dec.{eqb}
 use lib.ListN.{length, take, set, length-append}
 use lib.Pow.{pow-mono}
 use lib.Seq.{take-suc-set}
 use Rattle.lists.specs.Lists.{upTo, keep}
-use Rattle.lists.proofs.Lists.{keep-length}
+use Rattle.lists.specs.Written.{tab}
+use Rattle.lists.proofs.Lists.{keep-append, keep-push, keep-length}
 use Rattle.masks.specs.Mask.{strictSubset}
 use Rattle.exclusive.specs.RowOrder.{rowsOf, rowOrder}
 use Rattle.exclusive.specs.Exclusive.{above}
@@ -90,39 +91,40 @@ module _ (present : ℕ → Bool) where
   unfolding upTo
   rows-next m c = ap (rows m) (add-one c)
 
-  pub level-none : (R : List ℕ) (c : ℕ) → R ≡ R ++ rowsOf present c 0
-  unfolding upTo rowsOf
-  level-none R c = sym (append-nil R)
+-- ---- the present rows by mask
 
-  longer : (c s m : ℕ) → s ≤ m → length (rowsOf present c s) ≤ length (rowsOf present c m)
-  unfolding upTo rowsOf
-  longer c s m h =
-      le-ind (λ (k : ℕ). length (rowsOf present c s) ≤ length (rowsOf present c k)) (le-refl (length (rowsOf present c s)))
-      (λ k l ih. omega (arith, length-append (rowsOf present c k) (row present c k))) m h
+-- of a row or none, one of c heads
+one-kept : (c S : ℕ) (b : Bool) → keep (λ T. eqb (ones T) c) (cond b (S ∷ []) []) ≡ cond (b && eqb (ones S) c) (S ∷ []) []
+unfolding keep
+one-kept c S true = refl
+one-kept c S false = refl
 
-  -- at a row there is a place left
-  pub place : (c s m : ℕ) → s < m → (present s && eqb (ones s) c) ≡ true → length (rows m c ++ rowsOf present c s) < m
-  unfolding upTo
-  place c s m h e =
-      omega (
-        arith,
-        length-append (rows m c) (rowsOf present c s),
-        length-append (rows m c) (rowsOf present c m),
-        longer c (s + 1) m (omega arith),
-        ap length (level-next c s),
-        length-append (rowsOf present c s) (row present c s),
-        ap (λ (b : Bool). length (cond b (s ∷ []) [])) e,
-        few-rows m (suc c),
-      )
+module _ (present : ℕ → Bool) where
+  -- the present rows below m
+  abbrev pub rowsBelow : ℕ → List ℕ
+  rowsBelow m = keep present (tab (λ S. S) m)
 
--- A row is told by the number of its heads, 11 of an absent one.
-pub is-row : (b : Bool) (o c h : ℕ) → h ≡ cond b o 11 → c ≤ 10 → h ≡ c → (b && eqb o c) ≡ true
-is-row true o c h e few k = eq-eqb o c (sym e ∙ k)
-is-row false o c h e few k = absurd (omega (arith, e, k))
+  -- those of c heads
+  pub level-kept : (c m : ℕ) → keep (λ S. eqb (ones S) c) (rowsBelow m) ≡ rowsOf present c m
+  unfolding upTo keep tab rowsOf
+  level-kept c zero = refl
+  level-kept c (suc m) =
+      ap (keep (λ S. eqb (ones S) c)) (keep-push present (tab (λ S. S) m) m)
+      ∙ keep-append (λ S. eqb (ones S) c) (rowsBelow m) (cond (present m) (m ∷ []) [])
+      ∙ ap₂ _++_ (level-kept c m) (one-kept c m (present m))
 
-pub no-row : (b : Bool) (o c h : ℕ) → h ≡ cond b o 11 → (h ≡ c → ⊥) → (b && eqb o c) ≡ false
-no-row true o c h e k = ne-eqb o c (λ f. k (e ∙ f))
-no-row false o c h e k = refl
+  below-next : (s : ℕ) (b : Bool) → present s ≡ b → rowsBelow s ++ cond b (s ∷ []) [] ≡ rowsBelow (s + 1)
+  unfolding tab
+  below-next s b e =
+      ap (λ (b : Bool). rowsBelow s ++ cond b (s ∷ []) []) (sym e)
+      ∙ sym (ap rowsBelow (add-one s) ∙ keep-push present (tab (λ S. S) s) s)
+
+  -- one mask more
+  pub below-with : (s : ℕ) → present s ≡ true → rowsBelow s ++ (s ∷ []) ≡ rowsBelow (s + 1)
+  below-with s e = below-next s true e
+
+  pub below-without : (s : ℕ) → present s ≡ false → rowsBelow s ≡ rowsBelow (s + 1)
+  below-without s e = sym (append-nil (rowsBelow s)) ∙ below-next s false e
 
 -- the write of one row
 pub put : (all R : List ℕ) (k s : ℕ) → k < length all → take k all ≡ R → take (k + 1) (set all k s) ≡ R ++ (s ∷ [])

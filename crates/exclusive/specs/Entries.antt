@@ -1,14 +1,14 @@
 -- A lent table of rows of so many numbers each, one row after another, and what stands in it once the supersets are subtracted and
--- nothing is clamped yet. What the private functions promise one another; no public contract cites it.
+-- nothing is clamped yet: absent rows and what is beyond stay. What functions promise one another; of public contracts only that of
+-- to_unclamped_areas cites it.
 use Prim.Native.Nat.{ℕ, suc, _+_, _*_, _≤_, _<_, _^_}
-use mathlib.Core.Bool.{Bool, not, cond, _&&_}
+use mathlib.Core.Bool.{Bool, false, cond}
 use mathlib.Core.List.{List, [], _∷_}
 use mathlib.Core.Path.{_≡_}
-use lib.Ieee.{Float, nan, lt}
+use lib.Ieee.{Float, nan}
 use lib.ListN.{getD, length, drop}
 use Rattle.lists.specs.Every.{Every}
 use Rattle.masks.specs.Mask.{subset}
-use Rattle.masks.specs.Presence.{stands}
 use Rattle.binary64.specs.Constants.{zero64}
 use Rattle.binary64.specs.Floats.{_+ᶠ_, _-ᶠ_}
 use Rattle.exclusive.specs.RowOrder.{rowOrder}
@@ -29,15 +29,12 @@ pub record RowSubtracted (width S : ℕ) (sums : ℕ → Float) (k : ℕ) (befor
   pub rest : (m : ℕ) → suc S * width ≤ m → drop m after ≡ drop m before
   pub many : length after ≡ length before
 
--- Each number of each present row is its unclamped exclusive, and what is beyond row 2^n - 1 stays.
+-- Each number of each present row is its unclamped exclusive. Absent rows and what is beyond row 2^n - 1 stay.
 pub record Subtracted (n : ℕ) (present : ℕ → Bool) (width : ℕ) (before after : List Float) : Type 0 where
   pub rows : (k : ℕ) → k < width → Every (λ S. entry width after k S ≡ unclamped n present (entry width before k) S) (rowOrder present n)
+  pub absent : (S k : ℕ) → present S ≡ false → k < width → entry width after k S ≡ entry width before k S
   pub rest : drop (2 ^ n * width) after ≡ drop (2 ^ n * width) before
   pub many : length after ≡ length before
-
--- A row keeps its numbers where it is present and its area, its supersets' subtracted, is not below zero.
-abbrev pub keptRow : List ℕ → List Float → ℕ → Bool
-keptRow bytes areas S = stands bytes S && not (lt (getD areas S nan) zero64)
 
 -- ---- levels: the rows from place lo to place hi of the order, all of as many heads
 

@@ -1,4 +1,3 @@
 pub mod RowOrder
 pub mod Exclusive
 pub mod Entries
-pub mod Gradient

@@ -1,11 +1,10 @@
 // The present rows of a table in row order. Rests on specs/RowOrder.antt.
 ghost use mathlib.Core.Path.{_≡_};
-ghost use mathlib.Core.Bool.{cond};
 ghost use Prim.Native.Nat.{_≤_, _^_};
 ghost use lib.Count.{ones};
-ghost use lib.Dec.{eqb};
-ghost use lib.ListN.{length, replicate};
-ghost use Rattle.lists.specs.Written.{written};
+ghost use lib.ListN.{length, getD, replicate};
+ghost use Rattle.lists.specs.Lists.{keep};
+ghost use Rattle.lists.specs.Written.{tab, written};
 ghost use Rattle.masks.specs.Presence.{stands};
 ghost use Rattle.exclusive.specs.RowOrder.{rowOrder, rowList};
 
@@ -15,27 +14,36 @@ pub struct Rows {
     pub all: [usize; 1024],
 }
 
-// How many heads a row has; of an absent row 11, more than a row can have.
-fn heads_of(byte: u8, s: usize) -> u32
-    ensures { λ r. ⌜ r ≡ cond (eqb byte 1) (ones s) 11 ⌝ }
-{
-    if byte == 1 {
-        return usize::count_ones(s);
-    }
-    11
-}
-
-// The same of each row, looked up once for all numbers of heads.
-fn row_heads(present: &[u8], n: usize) -> [u32; 1024]
+// The masks of the present rows, ascending. Each mask is written, and the next takes its place if its row is absent: nothing waits for the
+// test.
+fn present_rows(present: &[u8], n: usize) -> Rows
     requires { ⌜ (n ≤ 10) × (2 ^ n ≤ length (now present)) ⌝ }
-    ensures { λ r. ⌜ r ≡ written (λ S. cond (stands (now (present .entry)) S) (ones S) 11) (2 ^ n) (replicate 1024 0) ⌝ }
+    ensures { λ r. ⌜ rowList r ≡ keep (stands (now (present .entry))) (tab (λ S. S) (2 ^ n)) ⌝ }
+    ensures { λ r. ⌜ (r .n ≤ 1024) × (length (r .all) ≡ 1024) ⌝ }
 {
     let masks = 1usize << n;
-    let mut heads = [0u32; 1024];
+    let mut all = [0usize; 1024];
+    let mut found: usize = 0;
     let mut s: usize = 0;
     while s < masks {
-        heads[s] = heads_of(present[s], s);
+        all[found] = s;
+        let one: usize = if present[s] == 1 { 1 } else { 0 };
+        found += one;
         s += 1;
+    }
+    Rows { n: found, all: all }
+}
+
+// How many heads each of the first `count` masks has, counted once for all numbers of heads.
+fn row_heads(masks: &[usize; 1024], count: usize) -> [u32; 1024]
+    requires { ⌜ (count ≤ 1024) × (length (now masks) ≡ 1024) ⌝ }
+    ensures { λ r. ⌜ r ≡ written (λ i. ones (getD (now (masks .entry)) i 0)) count (replicate 1024 0) ⌝ }
+{
+    let mut heads = [0u32; 1024];
+    let mut i: usize = 0;
+    while i < count {
+        heads[i] = usize::count_ones(masks[i]);
+        i += 1;
     }
     heads
 }
@@ -46,19 +54,21 @@ pub(crate) fn row_order(present: &[u8], n: usize) -> Rows
     ensures { λ r. ⌜ rowList r ≡ rowOrder (stands (now (present .entry))) n ⌝ }
     ensures { λ r. ⌜ (r .n ≤ 1024) × (length (r .all) ≡ 1024) ⌝ }
 {
-    let masks = 1usize << n;
-    let heads = row_heads(present, n);
+    let found = present_rows(present, n);
+    let masks = found.all;
+    let count = found.n;
+    let heads = row_heads(&masks, count);
     let mut all = [0usize; 1024];
     let mut k: usize = 0;
     let mut c: usize = 0;
     while c <= n {
-        let mut s: usize = 0;
-        while s < masks {
-            if heads[s] == c as u32 {
-                all[k] = s;
+        let mut i: usize = 0;
+        while i < count {
+            if heads[i] == c as u32 {
+                all[k] = masks[i];
                 k += 1;
             }
-            s += 1;
+            i += 1;
         }
         c += 1;
     }

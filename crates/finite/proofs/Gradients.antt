@@ -18,7 +18,7 @@ use Rattle.plan.proofs.Exactly.{plan-taken}
 use Rattle.drawn.specs.Drawn.{boxOf}
 use Rattle.intersections.specs.Members.{headsOf}
 use Rattle.exclusive.specs.Exclusive.{unclamped}
-use Rattle.exclusive.specs.Gradient.{replaced, unlessReplaced}
+use Rattle.exclusive_gradients.specs.Gradient.{replaced, unlessReplaced}
 use Rattle.areas.specs.Scatter.{scatter, scatterClipped}
 use Rattle.areas.specs.Clipped.{clippedGradientRow}
 use Rattle.areas.specs.Open.{openGradientRow}

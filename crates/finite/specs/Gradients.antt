@@ -16,7 +16,7 @@ use Rattle.plan.specs.Checks.{planAnswer}
 use Rattle.plan.specs.Table.{gradientWidth, openGradientWidth}
 use Rattle.geometry.specs.Rectangle.{area}
 use Rattle.drawn.specs.Drawn.{boxOf}
-use Rattle.exclusive.specs.Gradient.{unlessReplaced, exclusiveWithGradient}
+use Rattle.exclusive_gradients.specs.Gradient.{unlessReplaced, exclusiveWithGradient}
 use Rattle.regions.specs.Edit.{afreshRow}
 use Rattle.regions.specs.Table.{Exclusives, afresh}
 use Rattle.areas.specs.Open.{openMethod}

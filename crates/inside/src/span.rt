@@ -45,7 +45,7 @@ pub fn lowered(hi: f64, end: f64) -> f64
 }
 
 // Two ends, if the high one is above the low one.
-fn open_between(lo: f64, hi: f64) -> Span
+pub fn open_between(lo: f64, hi: f64) -> Span
     ensures { λ r. ⌜ spans r ≡ open-between lo hi ⌝ }
 {
     if hi > lo {

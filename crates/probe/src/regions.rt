@@ -2,7 +2,7 @@
 // centre and sides or without one, with gradients or without.
 ghost use mathlib.Core.Path.{_≡_};
 ghost use Rattle.diagram.specs.Diagram as left;
-ghost use Rattle.exclusive.specs.Gradient.{gradientAnswer, exclusiveAreas, exclusiveGradients};
+ghost use Rattle.exclusive_gradients.specs.Gradient.{gradientAnswer, exclusiveAreas, exclusiveGradients};
 ghost use Rattle.geometry.specs.Point.{at};
 ghost use Rattle.geometry.specs.Rectangle.{around};
 ghost use Rattle.probe.specs.Handed as spec;
@@ -12,7 +12,7 @@ use diagram::exclusives::compute_exclusive_regions;
 use diagram::exclusives::compute_exclusive_regions_clipped;
 use diagram::gradients::compute_exclusive_regions_clipped_with_gradient;
 use diagram::gradients::compute_exclusive_regions_with_gradient_circles;
-use exclusive::gradients::to_exclusive_areas_and_gradients;
+use exclusive_gradients::gradients::to_exclusive_areas_and_gradients;
 use geometry::point::Point;
 use geometry::rectangle::Rectangle;
 

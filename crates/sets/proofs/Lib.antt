@@ -2,6 +2,7 @@ pub mod Masks
 pub mod Marks
 pub mod EveryHead
 pub mod Pairing
+pub mod Contained
 pub mod Adopted
 pub mod Taken
 pub mod LevelStep

@@ -1,6 +1,6 @@
 -- Laws of presence bytes of which some are set to 1, and of a loop that sets them.
 use mathlib.Core.Path.{_≡_, refl, sym, ap, _∙_}
-use mathlib.Core.Bool.{Bool, true, false, cond, _&&_, _||_}
+use mathlib.Core.Bool.{Bool, true, false, cond, _&&_, _||_, or-false}
 use mathlib.Core.List.{List}
 use Prim.Native.Nat.{ℕ, _+_, _≤_, _<_}
 use native.Mathlib.Omega.{arith}
@@ -74,6 +74,24 @@ marked-again p q l =
     go false true x = refl
     go false false x = refl
 
+-- a mark where 1 stands already changes nothing
+pub mark-again : (p : ℕ → Bool) (v : ℕ) (b : Bool) (l : List ℕ) → getD (marked p l) v 0 ≡ 1
+    → marked p l ≡ marked (λ S. p S || (eqb S v && b)) l
+mark-again p v b l e =
+    ext-getD 0 (marked p l) (marked (λ S. p S || (eqb S v && b)) l) (length-marked p l ∙ sym (length-marked (λ S. p S || (eqb S v && b)) l))
+    (λ S k. let h : S < length l = omega (arith, length-marked p l) in
+    marked-at p l S h ∙ go S h (eqb S v) refl ∙ sym (marked-at (λ S. p S || (eqb S v && b)) l S h))
+  where
+    stays : (a c : Bool) (x : ℕ) → cond a 1 x ≡ 1 → cond a 1 x ≡ cond (a || c) 1 x
+    stays true c x k = refl
+    stays false true x k = k
+    stays false false x k = refl
+
+    go : (S : ℕ) → S < length l → (c : Bool) → eqb S v ≡ c → cond (p S) 1 (getD l S 0) ≡ cond (p S || (c && b)) 1 (getD l S 0)
+    go S h true s =
+        stays (p S) b (getD l S 0) (sym (marked-at p l S h) ∙ ap (λ (j : ℕ). getD (marked p l) j 0) (eqb-true S v s) ∙ e)
+    go S h false s = ap (λ (a : Bool). cond a 1 (getD l S 0)) (sym (or-false (p S)))
+
 -- ---- marks of a loop: the masks v 0, v 1, .. for which a test holds
 
 module _ (v : ℕ → ℕ) (test : ℕ → Bool) (j : ℕ) (l : List ℕ) where
@@ -96,6 +114,14 @@ module _ (v : ℕ → ℕ) (test : ℕ → Bool) (j : ℕ) (l : List ℕ) where
   mark-not e =
       marked-same (λ S. some j (λ k. eqb S (v k) && test k)) (λ S. some (j + 1) (λ k. eqb S (v k) && test k)) l
       (λ S h. and-no (eqb S (v j)) (test j) (some j (λ k. eqb S (v k) && test k)) e ∙ sym (some-next j (λ k. eqb S (v k) && test k)))
+
+  -- a mask that is marked already
+  pub mark-had : getD (marked (λ S. some j (λ k. eqb S (v k) && test k)) l) (v j) 0 ≡ 1
+      → marked (λ S. some j (λ k. eqb S (v k) && test k)) l ≡ marked (λ S. some (j + 1) (λ k. eqb S (v k) && test k)) l
+  mark-had e =
+      mark-again (λ S. some j (λ k. eqb S (v k) && test k)) (v j) (test j) l e
+      ∙ marked-same (λ S. some j (λ k. eqb S (v k) && test k) || (eqb S (v j) && test j))
+      (λ S. some (j + 1) (λ k. eqb S (v k) && test k)) l (λ S h. sym (some-next j (λ k. eqb S (v k) && test k)))
 
 -- ---- marks on no bytes
 

@@ -1,12 +1,18 @@
--- What the steps of the code add from one mask that they look at; proofs/Taken.antt and proofs/LevelStep.antt show that a pass over all masks
--- adds what specs/Sets.antt says.
+-- What the steps of the code look at, and what they add from one mask; proofs/Taken.antt and proofs/LevelStep.antt show that a pass over
+-- all masks adds what specs/Sets.antt says.
 use Prim.Native.Nat.{ℕ}
 use mathlib.Core.Bool.{Bool, not, _&&_, _||_}
+use mathlib.Core.List.{List}
 use lib.Count.{ones}
 use lib.Dec.{eqb, leb}
+use lib.ListN.{getD}
 use Rattle.lists.specs.Some.{some}
 use Rattle.masks.specs.Mask.{inSet, withHead, withoutHead}
 use Rattle.sets.specs.Sets.{allPairs, oneInAll, joined}
+
+-- head j is in the mask of head i, of a list of one mask a head
+abbrev pub inMaskOf : List ℕ → ℕ → ℕ → Bool
+inMaskOf masks i j = inSet (getD masks i 0) j
 
 -- S is M without one of its heads
 abbrev pub partOf : ℕ → ℕ → ℕ → Bool

@@ -7,6 +7,7 @@ use crate::parts::add_parts;
 use crate::witnessed::add_adopters;
 use crate::witnessed::add_pairs;
 use crate::witnessed::add_singles;
+use crate::witnessed::meeting_heads;
 use geometry::circle::Circle;
 use intersections::members::at_most_ten;
 use intersections::points::Intersections;
@@ -57,10 +58,11 @@ pub fn discover_regions(circles: [Circle; 10], points: Intersections, n_sets: us
     let none = [0u8; 1024];
     let singles = add_singles(none, n);
     let adopted = add_adopters(singles, points, n);
-    let witnessed = add_pairs(adopted, circles, points, n);
+    let meeting = meeting_heads(points);
+    let containing = containing_heads(circles, n);
+    let witnessed = add_pairs(adopted, &meeting, &containing, n);
     let found = add_parts(witnessed, n);
     let overlapping = overlapping_heads(&found, n);
-    let containing = containing_heads(circles, n);
-    let level = levels(&found, overlapping, containing, n);
+    let level = levels(&found, &overlapping, &containing, n);
     joined_bytes(found, &level, n)
 }

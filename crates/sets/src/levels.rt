@@ -6,6 +6,7 @@ ghost use Prim.Native.Nat.{_≤_, _<_, _^_};
 ghost use lib.Count.{ones};
 ghost use lib.Dec.{eqb};
 ghost use lib.ListN.{getD, replicate, take};
+ghost use Rattle.geometry.specs.Circle as spec;
 ghost use Rattle.masks.specs.Mask.{inSet, withoutHead, subset, every};
 ghost use Rattle.masks.specs.Presence.{byte, stands};
 ghost use Rattle.lists.specs.Some.{some};
@@ -46,6 +47,16 @@ pub(crate) fn overlapping_heads(found: &[u8; 1024], n: usize) -> [usize; 10]
     heads
 }
 
+// Whether the circle contains the other. A smaller one does not, and needs no distance.
+fn contains(circle: Circle, other: Circle) -> bool
+    ensures { λ r. ⌜ r ≡ spec.contains circle other ⌝ }
+{
+    if circle.radius < other.radius {
+        return false;
+    }
+    circle.contains(other)
+}
+
 // The heads that contain head k.
 fn containing_head(circles: [Circle; 10], k: usize, n: usize) -> usize
     requires { ⌜ (n ≤ 10) × (k < n) ⌝ }
@@ -54,8 +65,7 @@ fn containing_head(circles: [Circle; 10], k: usize, n: usize) -> usize
     let mut mask: usize = 0;
     let mut j: usize = 0;
     while j < n {
-        let c = circles[j];
-        if c.contains(circles[k]) {
+        if contains(circles[j], circles[k]) {
             mask = mask | 1 << j;
         }
         j += 1;
@@ -103,9 +113,9 @@ fn others_in(s: usize, i: usize, heads: usize, n: usize) -> bool
 }
 
 // Whether each head of s overlaps all others.
-fn all_pairs(overlapping: [usize; 10], s: usize, n: usize) -> bool
+fn all_pairs(overlapping: &[usize; 10], s: usize, n: usize) -> bool
     requires { ⌜ (n ≤ 10) × (s < 2 ^ n) ⌝ }
-    ensures { λ r. ⌜ r ≡ every n (λ i. not (inSet s i) || subset n (withoutHead n s i) (getD overlapping i 0)) ⌝ }
+    ensures { λ r. ⌜ r ≡ every n (λ i. not (inSet s i) || subset n (withoutHead n s i) (getD (now (overlapping .entry)) i 0)) ⌝ }
 {
     let mut i: usize = 0;
     while i < n {
@@ -118,9 +128,9 @@ fn all_pairs(overlapping: [usize; 10], s: usize, n: usize) -> bool
 }
 
 // Whether one head of s is contained in all others.
-fn one_in_all(containing: [usize; 10], s: usize, n: usize) -> bool
+fn one_in_all(containing: &[usize; 10], s: usize, n: usize) -> bool
     requires { ⌜ (n ≤ 10) × (s < 2 ^ n) ⌝ }
-    ensures { λ r. ⌜ r ≡ some n (λ i. inSet s i && subset n (withoutHead n s i) (getD containing i 0)) ⌝ }
+    ensures { λ r. ⌜ r ≡ some n (λ i. inSet s i && subset n (withoutHead n s i) (getD (now (containing .entry)) i 0)) ⌝ }
 {
     let mut i: usize = 0;
     while i < n {
@@ -135,13 +145,13 @@ fn one_in_all(containing: [usize; 10], s: usize, n: usize) -> bool
 // Whether a mask with one head more than one of the level below joins the next level.
 fn joins(
     found: &[u8; 1024],
-    overlapping: [usize; 10],
-    containing: [usize; 10],
+    overlapping: &[usize; 10],
+    containing: &[usize; 10],
     s: usize,
     n: usize,
 ) -> bool
     requires { ⌜ (n ≤ 10) × (s < 2 ^ n) ⌝ }
-    ensures { λ r. ⌜ r ≡ joins n (stands (now (found .entry))) (λ i. getD overlapping i 0) (λ i. getD containing i 0) s ⌝ }
+    ensures { λ r. ⌜ r ≡ joins n (stands (now (found .entry))) (λ i. getD (now (overlapping .entry)) i 0) (λ i. getD (now (containing .entry)) i 0) s ⌝ }
 {
     if found[s] == 1 {
         return false;
@@ -156,19 +166,23 @@ fn joins(
 fn add_joining(
     level: &mut [u8; 1024],
     found: &[u8; 1024],
-    overlapping: [usize; 10],
-    containing: [usize; 10],
+    overlapping: &[usize; 10],
+    containing: &[usize; 10],
     s: usize,
     n: usize,
 )
     requires { ⌜ (n ≤ 10) × (s < 2 ^ n) ⌝ }
-    ensures { λ r. ⌜ now (level .exit) ≡ marked (joiningOf n (stands (now (found .entry))) (λ i. getD overlapping i 0) (λ i. getD containing i 0) s) (now (level .entry)) ⌝ }
+    ensures { λ r. ⌜ now (level .exit) ≡ marked (joiningOf n (stands (now (found .entry))) (λ i. getD (now (overlapping .entry)) i 0) (λ i. getD (now (containing .entry)) i 0) s) (now (level .entry)) ⌝ }
 {
     let mut i: usize = 0;
     while i < n {
         if s & 1 << i == 0 {
-            if joins(found, overlapping, containing, s | 1 << i, n) {
-                level[s | 1 << i] = 1;
+            let t = s | 1 << i;
+            // It is reached from each of the masks with one head less; once it has joined it is not asked again.
+            if level[t] != 1 {
+                if joins(found, overlapping, containing, t, n) {
+                    level[t] = 1;
+                }
             }
         }
         i += 1;
@@ -188,12 +202,12 @@ fn in_level(found: u8, level: u8, s: usize) -> bool
 // 5. Level by level, in one pass from the first mask on: a mask with one head more is a larger number, and is looked at later.
 pub(crate) fn levels(
     found: &[u8; 1024],
-    overlapping: [usize; 10],
-    containing: [usize; 10],
+    overlapping: &[usize; 10],
+    containing: &[usize; 10],
     n: usize,
 ) -> [u8; 1024]
     requires { ⌜ n ≤ 10 ⌝ }
-    ensures { λ r. ⌜ r ≡ written (λ S. byte (joined n (stands (now (found .entry))) (λ i. getD overlapping i 0) (λ i. getD containing i 0) S)) (2 ^ n) (replicate 1024 0) ⌝ }
+    ensures { λ r. ⌜ r ≡ written (λ S. byte (joined n (stands (now (found .entry))) (λ i. getD (now (overlapping .entry)) i 0) (λ i. getD (now (containing .entry)) i 0) S)) (2 ^ n) (replicate 1024 0) ⌝ }
 {
     let mut level = [0u8; 1024];
     let masks = 1usize << n;

@@ -1,16 +1,14 @@
-// Singles, adopter masks and pairs: the first masks found. Rests on specs/Regions.antt.
-use geometry::circle::Circle;
-use intersections::points::IntersectionPoint;
+// Singles, adopter masks and pairs: the first masks found. Rests on specs/Regions.antt and specs/Steps.antt.
 use intersections::points::Intersections;
 ghost use mathlib.Core.Path.{_≡_};
 ghost use mathlib.Core.Bool.{_&&_};
-ghost use Prim.Native.Nat.{_≤_, _<_, _^_};
+ghost use Prim.Native.Nat.{ℕ, _≤_, _<_, _^_};
 ghost use lib.Dec.{ltb};
-ghost use lib.ListN.{take};
 ghost use Rattle.intersections.specs.Counted.{pointList};
 ghost use Rattle.sets.specs.Marked.{marked};
 ghost use Rattle.sets.specs.Sets.{paired, pairsOf, isPair};
-ghost use Rattle.sets.specs.Regions.{isOneHead, isAdoptersOf, parents, meetsAt, containsAt};
+ghost use Rattle.sets.specs.Regions.{isOneHead, isAdoptersOf, meetsAt};
+ghost use Rattle.sets.specs.Steps.{inMaskOf};
 
 // 1. Singles.
 pub(crate) fn add_singles(found: [u8; 1024], n: usize) -> [u8; 1024]
@@ -49,90 +47,81 @@ pub(crate) fn add_adopters(found: [u8; 1024], points: Intersections, n: usize) -
     bytes
 }
 
-// Whether heads i and j are the parents of the point.
-fn are_parents(q: IntersectionPoint, i: usize, j: usize) -> bool
-    ensures { λ r. ⌜ r ≡ parents i j q ⌝ }
+// For each head the heads that it shares a meeting point with.
+pub(crate) fn meeting_heads(points: Intersections) -> [usize; 10]
+    ensures { λ r. ⌜ ((i j : ℕ) → i < 10 → j < 10 → inMaskOf r i j ≡ meetsAt (pointList points) i j) ⌝ }
 {
-    if q.first == i {
-        if q.second == j {
-            return true;
-        }
-    }
-    if q.first == j {
-        return q.second == i;
-    }
-    false
-}
-
-// Whether heads i and j are the parents of a meeting point.
-fn meet(points: Intersections, i: usize, j: usize) -> bool
-    ensures { λ r. ⌜ r ≡ meetsAt (pointList points) i j ⌝ }
-{
-    let n = points.n;
+    let mut heads = [0usize; 10];
+    let count = points.n;
     let mut k: usize = 0;
     while k < 90 {
-        if n <= k {
-            return false;
+        if count <= k {
+            return heads;
         }
         let q = points.all[k];
-        if are_parents(q, i, j) {
-            return true;
+        let a = q.first;
+        let b = q.second;
+        if a < 10 {
+            if b < 10 {
+                heads[a] = heads[a] | 1 << b;
+                heads[b] = heads[b] | 1 << a;
+            }
         }
         k += 1;
     }
-    false
+    heads
 }
 
 // Whether heads i and j meet or one contains the other.
-fn is_pair(circles: [Circle; 10], points: Intersections, i: usize, j: usize, n: usize) -> bool
-    requires { ⌜ (n ≤ 10) × ((i < n) × (j < n)) ⌝ }
-    ensures { λ r. ⌜ r ≡ paired (meetsAt (pointList points)) (containsAt (take n circles)) i j ⌝ }
+fn is_pair(meeting: &[usize; 10], containing: &[usize; 10], i: usize, j: usize) -> bool
+    requires { ⌜ (i < 10) × (j < 10) ⌝ }
+    ensures { λ r. ⌜ r ≡ paired (inMaskOf (now (meeting .entry))) (λ a b. inMaskOf (now (containing .entry)) b a) i j ⌝ }
 {
-    if meet(points, i, j) {
+    if meeting[i] & 1 << j != 0 {
         return true;
     }
-    let a = circles[i];
-    let b = circles[j];
-    if a.contains(b) {
+    if containing[j] & 1 << i != 0 {
         return true;
     }
-    b.contains(a)
+    containing[i] & 1 << j != 0
 }
 
 // The pairs of head i with the heads before it.
 fn add_pairs_of(
     found: &mut [u8; 1024],
-    circles: [Circle; 10],
-    points: Intersections,
+    meeting: &[usize; 10],
+    containing: &[usize; 10],
     i: usize,
     n: usize,
 )
     requires { ⌜ (n ≤ 10) × (i < n) ⌝ }
-    ensures { λ r. ⌜ now (found .exit) ≡ marked (pairsOf n (meetsAt (pointList points)) (containsAt (take n circles)) i) (now (found .entry)) ⌝ }
+    ensures { λ r.
+        ⌜ now (found .exit) ≡
+        marked (pairsOf n (inMaskOf (now (meeting .entry))) (λ a b. inMaskOf (now (containing .entry)) b a) i) (now (found .entry)) ⌝ }
 {
     let mut j: usize = 0;
     while j < i {
-        if is_pair(circles, points, i, j, n) {
+        if is_pair(meeting, containing, i, j) {
             found[1 << i | 1 << j] = 1;
         }
         j += 1;
     }
 }
 
-// 3. Every pair that meets or of which one contains the other.
+// 3. Every pair that meets or of which one contains the other, from the masks of the heads that meet and that contain each head.
 pub(crate) fn add_pairs(
     found: [u8; 1024],
-    circles: [Circle; 10],
-    points: Intersections,
+    meeting: &[usize; 10],
+    containing: &[usize; 10],
     n: usize,
 ) -> [u8; 1024]
     requires { ⌜ n ≤ 10 ⌝ }
-    ensures { λ r. ⌜ r ≡ marked (isPair n (meetsAt (pointList points)) (containsAt (take n circles))) found ⌝ }
+    ensures { λ r. ⌜ r ≡ marked (isPair n (inMaskOf (now (meeting .entry))) (λ a b. inMaskOf (now (containing .entry)) b a)) found ⌝ }
 {
     let mut bytes = found;
     let mut i: usize = 0;
     while i < n {
-        add_pairs_of(&mut bytes, circles, points, i, n);
+        add_pairs_of(&mut bytes, meeting, containing, i, n);
         i += 1;
     }
     bytes

@@ -11,6 +11,9 @@ pub mod Spans
 pub mod Filling
 pub mod Valuing
 pub mod Passing
+pub mod Sloping
+pub mod Laid
+pub mod Widths
 pub mod Counts
 pub mod Bytes
 pub mod Passes

@@ -10,7 +10,7 @@ use native.Mathlib.Omega.{arith}
 use lib.Bits.{bitOr}
 use lib.ListN.{length, getD, take}
 use lib.Ieee.{Float, nan}
-use Rattle.lists.specs.Written.{tab}
+use Rattle.lists.specs.Written.{tab, written}
 use Rattle.lists.proofs.Writing.{tab-map, tab-cong}
 use Rattle.masks.specs.Mask.{inSet, Subset}
 use Rattle.masks.specs.Operations.{bit-or, bit-beyond, below-pow}
@@ -20,10 +20,11 @@ use Rattle.geometry.specs.declared.bounds.Bounds.{Bounds}
 use Rattle.geometry.specs.declared.circle.Circle.{Circle}
 use Rattle.intersections.specs.Members.{noCircle}
 use Rattle.sums.specs.Walk.{circleIn, circlesIn, Ready}
+use Rattle.sums.specs.Rows.{numberAt}
 use Rattle.sums.specs.Fast.{numberOf, OfWanted, Worth}
 use Rattle.sums.proofs.Filling.{HeldTo}
 use Rattle.sums.proofs.Spans.{chorded-less}
-use Rattle.sums.proofs.Valuing.{valued-less, terms-less}
+use Rattle.sums.proofs.Valuing.{valued-less, three-less}
 
 -- ---- three numbers a circle
 
@@ -82,5 +83,12 @@ worth-less S within held =
     record {
       integrals = λ e. valued-less S within (held .integrals e);
       chords = λ e. chorded-less S within (held .chords e);
-      terms = λ e. terms-less S within (held .terms e);
+      terms = λ e. three-less S within (held .terms e);
     }
+
+-- ---- what is left, by equal circles and an equal count
+
+pub written-alike : (area : List Circle → ℕ → Float) (wanted : ℕ → Bool) (l : List Float) {cs cs' : List Circle} {k k' : ℕ} {r : List Float}
+    → r ≡ written (numberAt wanted (area cs) l) k l → cs ≡ cs' → k ≡ k' → r ≡ written (numberAt wanted (area cs') l) k' l
+written-alike area wanted l {cs} {cs'} {k} {k'} e ec ek =
+    e ∙ ap (λ c. written (numberAt wanted (area c) l) k l) ec ∙ ap (λ (m : ℕ). written (numberAt wanted (area cs') l) m l) ek

@@ -21,6 +21,7 @@ use Rattle.intersections.proofs.Masks.{every-cong}
 use Rattle.inside.specs.Span.{Interval, misses, missed, halfChord, raised, lowered, lowEnd, highEnd, open-between, horizontalSpan, verticalSpan, seen}
 use Rattle.inside.proofs.Spanning.{seen-level, seen-upright}
 use Rattle.clip.specs.Area.{addSpan, addEdges}
+use Rattle.clip.specs.Gradient.{WithGradient, addSpanWithGradient, bottomEdge, rightEdge, topEdge, leftEdge, addEdgesWithGradient}
 use Rattle.sums.proofs.Ranks.{heads-with, heads-without}
 use Rattle.sums.specs.Chords.{uprightEdge, lineOf, reachOf, lowOf, highOf, lowTo, highTo, spanFrom, Chorded}
 
@@ -219,6 +220,34 @@ module _ (box : Bounds) (circles : List Circle) (S : ℕ) (reach : List ℕ) (lo
           sym (span-is 0 (omega arith) (box .«x_min») (box .«x_max»)) ∙ ap (horizontalSpan (box .«y_min») (box .«x_min») (box .«x_max»)) (seen-level own),
         )
 
+  -- the same with a gradient
+  module _ (n : ℕ) (many : length circles ≡ n) (at : ℕ) (s : WithGradient) {bottom right top left : WithGradient}
+      (eb : bottom ≡ addSpanWithGradient (bottomEdge box) at s
+      (spanFrom n (getD reach 0 0) (λ l. getD low (0 + l) nan) (λ l. getD high (0 + l) nan) S (box .«x_min») (box .«x_max»)))
+      (er : right ≡ addSpanWithGradient (rightEdge box) at bottom
+      (spanFrom n (getD reach 1 0) (λ l. getD low (10 + l) nan) (λ l. getD high (10 + l) nan) S (box .«y_min») (box .«y_max»)))
+      (et : top ≡ addSpanWithGradient (topEdge box) at right
+      (spanFrom n (getD reach 2 0) (λ l. getD low (20 + l) nan) (λ l. getD high (20 + l) nan) S (box .«x_min») (box .«x_max»)))
+      (el : left ≡ addSpanWithGradient (leftEdge box) at top
+      (spanFrom n (getD reach 3 0) (λ l. getD low (30 + l) nan) (λ l. getD high (30 + l) nan) S (box .«y_min») (box .«y_max»))) where
+    pub edges-with-are : left ≡ addEdgesWithGradient box own at s
+    unfolding addEdgesWithGradient uprightEdge lineOf
+    edges-with-are =
+        el
+        ∙ rw (
+          sym many,
+          sym (span-is 3 (omega arith) (box .«y_min») (box .«y_max»)) ∙ seen-upright (box .«x_min») (box .«y_min») (box .«y_max») own,
+          et,
+          sym many,
+          sym (span-is 2 (omega arith) (box .«x_min») (box .«x_max»)) ∙ ap (horizontalSpan (box .«y_max») (box .«x_min») (box .«x_max»)) (seen-level own),
+          er,
+          sym many,
+          sym (span-is 1 (omega arith) (box .«y_min») (box .«y_max»)) ∙ seen-upright (box .«x_max») (box .«y_min») (box .«y_max») own,
+          eb,
+          sym many,
+          sym (span-is 0 (omega arith) (box .«x_min») (box .«x_max»)) ∙ ap (horizontalSpan (box .«y_min») (box .«x_min») (box .«x_max»)) (seen-level own),
+        )
+
 -- ---- for the loop over the heads
 
 -- the ends after the heads below l
@@ -240,20 +269,14 @@ module _ (low high : ℕ → Float) (S : ℕ) (from to : Float) where
     unfolding lowTo highTo
     ends-out e = record { lo-is = so-far .lo-is ∙ rw (add-one l, e); hi-is = so-far .hi-is ∙ rw (add-one l, e) }
 
-    -- the span, added
-    module _ (factor total : Float) (reach : ℕ) (below : S < 2 ^ l) (all : bitAnd S reach ≡ S) where
-      pub span-added : (lo <ᶠ hi) ≡ true → total +ᶠ factor *ᶠ (hi -ᶠ lo) ≡ addSpan factor total (spanFrom l reach low high S from to)
-      unfolding spanFrom open-between
-      span-added h = rw (sym (and-test l S reach below) ∙ eq-eqb (bitAnd S reach) S all, sym (so-far .lo-is), sym (so-far .hi-is), h)
+    -- the span
+    pub span-open : (reach : ℕ) → S < 2 ^ l → bitAnd S reach ≡ S → open-between lo hi ≡ spanFrom l reach low high S from to
+    unfolding spanFrom
+    span-open reach below all = rw (sym (and-test l S reach below) ∙ eq-eqb (bitAnd S reach) S all, sym (so-far .lo-is), sym (so-far .hi-is))
 
-      pub span-shut : (lo <ᶠ hi) ≡ false → total ≡ addSpan factor total (spanFrom l reach low high S from to)
-      unfolding spanFrom open-between
-      span-shut h = rw (sym (and-test l S reach below) ∙ eq-eqb (bitAnd S reach) S all, sym (so-far .lo-is), sym (so-far .hi-is), h)
-
-  pub span-missed : (factor total : Float) (n reach : ℕ) → S < 2 ^ n → (bitAnd S reach ≡ S → ⊥)
-      → total ≡ addSpan factor total (spanFrom n reach low high S from to)
+  pub span-missed : (n reach : ℕ) → S < 2 ^ n → (bitAnd S reach ≡ S → ⊥) → [] ≡ spanFrom n reach low high S from to
   unfolding spanFrom
-  span-missed factor total n reach below e = rw (sym (and-test n S reach below) ∙ ne-eqb (bitAnd S reach) S e)
+  span-missed n reach below e = rw (sym (and-test n S reach below) ∙ ne-eqb (bitAnd S reach) S e)
 
 -- ---- for the loops that fill
 

@@ -73,20 +73,30 @@ pub record Known (n : ℕ) (counts : List ℕ) (f : ℕ → Float) (value : List
   pub readable : Readable counts p
   pub held : p < 330 → getD value p nan ≡ f p
 
--- ---- the three terms together
+-- ---- three terms together
 
+-- the arrays hold three terms of all such arcs, and what is known of the arc of a number
+pub record ThreeValued (termA termB termC : Circle → BoundaryArc → Float) (needed : ℕ) (circles : List Circle) (counts : List ℕ)
+    (phi xs ys rs : List Float) : Type 0 where
+  pub x : Valued needed counts (termOf termA circles counts phi) xs
+  pub y : Valued needed counts (termOf termB circles counts phi) ys
+  pub r : Valued needed counts (termOf termC circles counts phi) rs
+
+pub record ThreeKnown (termA termB termC : Circle → BoundaryArc → Float) (n : ℕ) (circles : List Circle) (counts : List ℕ)
+    (phi xs ys rs : List Float) (p : ℕ) : Type 0 where
+  pub x : Known n counts (termOf termA circles counts phi) xs p
+  pub y : Known n counts (termOf termB circles counts phi) ys p
+  pub r : Known n counts (termOf termC circles counts phi) rs p
+
+-- those of the sum
 abbrev pub addTerms : List Circle → List ℕ → List Float → Float → ℕ → Float
 addTerms circles counts phi = addThree (termOf termX circles counts phi) (termOf termY circles counts phi) (termOf termR circles counts phi)
 
-pub record TermsValued (needed : ℕ) (circles : List Circle) (counts : List ℕ) (phi xs ys rs : List Float) : Type 0 where
-  pub x : Valued needed counts (termOf termX circles counts phi) xs
-  pub y : Valued needed counts (termOf termY circles counts phi) ys
-  pub r : Valued needed counts (termOf termR circles counts phi) rs
+abbrev pub TermsValued : ℕ → List Circle → List ℕ → List Float → List Float → List Float → List Float → Type 0
+TermsValued = ThreeValued termX termY termR
 
-pub record TermsKnown (n : ℕ) (circles : List Circle) (counts : List ℕ) (phi xs ys rs : List Float) (p : ℕ) : Type 0 where
-  pub x : Known n counts (termOf termX circles counts phi) xs p
-  pub y : Known n counts (termOf termY circles counts phi) ys p
-  pub r : Known n counts (termOf termR circles counts phi) rs p
+abbrev pub TermsKnown : ℕ → List Circle → List ℕ → List Float → List Float → List Float → List Float → ℕ → Type 0
+TermsKnown = ThreeKnown termX termY termR
 
 -- ---- what a row asks of the points
 

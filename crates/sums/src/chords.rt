@@ -1,9 +1,17 @@
 // The chords that the heads cut from the edges of the box, and the spans of the edges for a set. Rests on specs/Chords.antt.
+use clip::area::add_span;
+use clip::edges::add_edge_with_gradient;
+use clip::edges::bottom_edge;
+use clip::edges::left_edge;
+use clip::edges::right_edge;
+use clip::edges::top_edge;
 use geometry::bounds::Bounds;
 use geometry::circle::Circle;
+use inside::span::Span;
 use inside::span::half_chord;
 use inside::span::lowered;
 use inside::span::misses;
+use inside::span::open_between;
 use inside::span::raised;
 use inside::span::seen;
 ghost use mathlib.Core.Path.{_≡_};
@@ -15,7 +23,9 @@ ghost use lib.Ieee.{nan};
 ghost use Rattle.masks.specs.Mask.{inSet};
 ghost use Rattle.geometry.specs.declared.circle.Circle.{Circle};
 ghost use Rattle.intersections.specs.Members.{headsOf, circleAt};
-ghost use Rattle.clip.specs.Area.{addSpan, addEdges};
+ghost use Rattle.inside.specs.Span.{spans};
+ghost use Rattle.clip.specs.Area.{addEdges};
+ghost use Rattle.clip.specs.Gradient.{with-gradient, addEdgesWithGradient};
 ghost use Rattle.sums.specs.Chords.{uprightEdge, lineOf, reachOf, lowOf, highOf, spanFrom, Chorded};
 
 // Whether an edge is vertical. The edges by number: bottom, right, top, left.
@@ -109,10 +119,8 @@ pub(crate) fn fill_chords(
     }
 }
 
-// A factor times the length of the span of an edge for a set, added. The chords of the edge stand from `at` on.
-fn add_chords(
-    factor: f64,
-    total: f64,
+// The span of an edge for a set. The chords of the edge stand from `at` on.
+fn chord_span(
     mask: usize,
     n_sets: usize,
     from: f64,
@@ -121,12 +129,12 @@ fn add_chords(
     at: usize,
     low: &[f64; 40],
     high: &[f64; 40],
-) -> f64
+) -> Span
     requires { ⌜ («n_sets» ≤ 10) × ((mask < 2 ^ «n_sets») × (at ≤ 30)) ⌝ }
-    ensures { λ r. ⌜ r ≡ addSpan factor total (spanFrom «n_sets» reach (λ l. getD (now (low .entry)) (at + l) nan) (λ l. getD (now (high .entry)) (at + l) nan) mask from to) ⌝ }
+    ensures { λ r. ⌜ spans r ≡ spanFrom «n_sets» reach (λ l. getD (now (low .entry)) (at + l) nan) (λ l. getD (now (high .entry)) (at + l) nan) mask from to ⌝ }
 {
     if mask & reach != mask {
-        return total;
+        return Span::None;
     }
     let mut lo = from;
     let mut hi = to;
@@ -138,10 +146,7 @@ fn add_chords(
         }
         l += 1;
     }
-    if hi > lo {
-        return total + factor * (hi - lo);
-    }
-    total
+    open_between(lo, hi)
 }
 
 // The spans of the four edges for a set, counterclockwise from the bottom, added.
@@ -158,54 +163,38 @@ pub(crate) fn add_edges(
     ensures { λ r. ⌜ ((circles : List Circle) → length circles ≡ «n_sets» → Chorded bounds circles mask (now (reach .entry)) (now (low .entry)) (now (high .entry)) → r ≡ addEdges bounds (map (circleAt circles) (headsOf (length circles) mask)) total) ⌝ }
 {
     let b = bounds;
-    let s = mask;
+    let bottom = chord_span(mask, n_sets, b.x_min, b.x_max, reach[0], 0, low, high);
+    let with_bottom = add_span(-b.y_min, total, bottom);
+    let right = chord_span(mask, n_sets, b.y_min, b.y_max, reach[1], 10, low, high);
+    let with_right = add_span(b.x_max, with_bottom, right);
+    let top = chord_span(mask, n_sets, b.x_min, b.x_max, reach[2], 20, low, high);
+    let with_top = add_span(b.y_max, with_right, top);
+    let left = chord_span(mask, n_sets, b.y_min, b.y_max, reach[3], 30, low, high);
+    add_span(-b.x_min, with_top, left)
+}
+
+// The same with the box's four entries of a gradient, after those of the heads.
+pub(crate) fn add_edges_with_gradient(
+    total: f64,
+    grad: &mut [f64],
+    bounds: Bounds,
+    mask: usize,
+    n_sets: usize,
+    reach: &[usize; 4],
+    low: &[f64; 40],
+    high: &[f64; 40],
+) -> f64
+    requires { ⌜ («n_sets» ≤ 10) × (mask < 2 ^ «n_sets») ⌝ }
+    ensures { λ r. ⌜ ((circles : List Circle) → length circles ≡ «n_sets» → Chorded bounds circles mask (now (reach .entry)) (now (low .entry)) (now (high .entry)) → with-gradient r (now (grad .exit)) ≡ addEdgesWithGradient bounds (map (circleAt circles) (headsOf (length circles) mask)) («n_sets» * 3) (with-gradient total (now (grad .entry)))) ⌝ }
+{
+    let b = bounds;
     let n = n_sets;
-    let bottom = add_chords(
-        -b.y_min,
-        total,
-        s,
-        n,
-        b.x_min,
-        b.x_max,
-        reach[0],
-        0,
-        low,
-        high,
-    );
-    let right = add_chords(
-        b.x_max,
-        bottom,
-        s,
-        n,
-        b.y_min,
-        b.y_max,
-        reach[1],
-        10,
-        low,
-        high,
-    );
-    let top = add_chords(
-        b.y_max,
-        right,
-        s,
-        n,
-        b.x_min,
-        b.x_max,
-        reach[2],
-        20,
-        low,
-        high,
-    );
-    add_chords(
-        -b.x_min,
-        top,
-        s,
-        n,
-        b.y_min,
-        b.y_max,
-        reach[3],
-        30,
-        low,
-        high,
-    )
+    let bottom = chord_span(mask, n, b.x_min, b.x_max, reach[0], 0, low, high);
+    let with_bottom = add_edge_with_gradient(total, grad, bottom_edge(b), n, bottom);
+    let right = chord_span(mask, n, b.y_min, b.y_max, reach[1], 10, low, high);
+    let with_right = add_edge_with_gradient(with_bottom, grad, right_edge(b), n, right);
+    let top = chord_span(mask, n, b.x_min, b.x_max, reach[2], 20, low, high);
+    let with_top = add_edge_with_gradient(with_right, grad, top_edge(b), n, top);
+    let left = chord_span(mask, n, b.y_min, b.y_max, reach[3], 30, low, high);
+    add_edge_with_gradient(with_top, grad, left_edge(b), n, left)
 }

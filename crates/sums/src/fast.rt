@@ -38,7 +38,7 @@ fn number_of(circle: Circle, i: usize) -> f64
 }
 
 // Three numbers a circle: an array of circles is not lent.
-fn numbers_of(circles: [Circle; 10], n_sets: usize) -> [f64; 30]
+pub(crate) fn numbers_of(circles: [Circle; 10], n_sets: usize) -> [f64; 30]
     requires { ⌜ «n_sets» ≤ 10 ⌝ }
     ensures { λ r. ⌜ circlesIn r «n_sets» ≡ take «n_sets» circles ⌝ }
 {
@@ -52,7 +52,7 @@ fn numbers_of(circles: [Circle; 10], n_sets: usize) -> [f64; 30]
 }
 
 // The heads of the sets below count that are wanted.
-fn wanted_heads(wanted: &[u8; 1024], count: usize) -> usize
+pub(crate) fn wanted_heads(wanted: &[u8; 1024], count: usize) -> usize
     requires { ⌜ count ≤ 1024 ⌝ }
     ensures { λ r. ⌜ OfWanted (now (wanted .entry)) count (λ S. Subset S r) ⌝ }
     ensures { λ r. ⌜ ((n : ℕ) → count ≤ 2 ^ n → r < 2 ^ n) ⌝ }

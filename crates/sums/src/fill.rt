@@ -13,14 +13,14 @@ use intersections::points::IntersectionPoint;
 use intersections::points::Intersections;
 ghost use mathlib.Core.Path.{_≡_};
 ghost use mathlib.Core.Bool.{true, false};
-ghost use Prim.Native.Nat.{_+_, _*_, _%_, _<_, _≤_};
+ghost use Prim.Native.Nat.{_+_, _*_, _%_, _<_, _≤_, min};
 ghost use lib.ListN.{length, getD};
 ghost use lib.Ieee.{nan};
 ghost use Rattle.lists.specs.Lists.{keep};
 ghost use Rattle.lists.specs.Written.{tab};
 ghost use Rattle.intersections.specs.Counted.{pointList};
 ghost use Rattle.boundary.specs.Sort.{place};
-ghost use Rattle.sums.specs.Marks.{mark, marksFrom, insertMark, hasParent, marksAt};
+ghost use Rattle.sums.specs.Marks.{mark, marksFrom, insertMark, hasParent};
 ghost use Rattle.sums.specs.Walk.{circlesIn, letters, gapLetters, Few, fewPoints, Marked};
 ghost use Rattle.sums.specs.Filled.{Filled, Kept, Long};
 
@@ -109,74 +109,34 @@ fn has_parent(j: usize, q: IntersectionPoint) -> bool
     q.second == j
 }
 
-// How many meeting points head j has.
-fn points_of(points: Intersections, j: usize) -> usize
-    ensures { λ r. ⌜ r ≡ length (keep (hasParent j) (pointList points)) ⌝ }
+// How many the first n of ninety points are.
+fn at_most_ninety(n: usize) -> usize
+    ensures { λ r. ⌜ r ≡ min n 90 ⌝ }
 {
-    let n = points.n;
-    let mut count: usize = 0;
-    let mut i: usize = 0;
-    while i < 90 {
-        if n <= i {
-            return count;
-        }
-        if has_parent(j, points.all[i]) {
-            count += 1;
-        }
-        i += 1;
-    }
-    count
+    if n < 90 { n } else { 90 }
 }
 
-// Whether there are places for the meeting points of every head.
+// Whether there are places for the meeting points of every head. The list stays where it is: handed on, it would be copied.
 pub(crate) fn few(points: Intersections, n_sets: usize) -> bool
     ensures { λ r. ⌜ r ≡ fewPoints «n_sets» (pointList points) ⌝ }
 {
+    let n = at_most_ninety(points.n);
     let mut j: usize = 0;
     while j < n_sets {
-        if 32 < points_of(points, j) {
+        let mut count: usize = 0;
+        let mut i: usize = 0;
+        while i < n {
+            if has_parent(j, points.all[i]) {
+                count += 1;
+            }
+            i += 1;
+        }
+        if 32 < count {
             return false;
         }
         j += 1;
     }
     true
-}
-
-// The meeting points of head j by angle, at its places; how many there are.
-fn fill_marks(
-    points: Intersections,
-    j: usize,
-    circle: Circle,
-    phi: &mut [f64; 320],
-    adopters: &mut [usize; 320],
-) -> usize
-    requires { ⌜ (j < 10) × ((length (now phi) ≡ 320) × (length (now adopters) ≡ 320)) ⌝ }
-    requires { ⌜ length (keep (hasParent j) (pointList points)) ≤ 32 ⌝ }
-    ensures { λ r. ⌜ (r ≤ 32) × (marksFrom (now (phi .exit)) (now (adopters .exit)) (j * 32) r ≡ marksAt circle j (pointList points)) ⌝ }
-    ensures { λ r. ⌜ Kept (j * 32) nan (now (phi .entry)) (now (phi .exit)) × Kept (j * 32) 0 (now (adopters .entry)) (now (adopters .exit)) ⌝ }
-{
-    let n = points.n;
-    let mut count: usize = 0;
-    let mut i: usize = 0;
-    while i < 90 {
-        if n <= i {
-            return count;
-        }
-        let q = points.all[i];
-        if has_parent(j, q) {
-            insert_at(
-                phi,
-                adopters,
-                j * 32,
-                count,
-                angle_about(circle, q.point),
-                q.adopters,
-            );
-            count += 1;
-        }
-        i += 1;
-    }
-    count
 }
 
 // Who lets head j have the gap from each of its n angles to the next.
@@ -202,7 +162,8 @@ fn fill_lets(
     }
 }
 
-// The arrays of the heads of a set; the others have no angle.
+// The arrays of the heads of a set: the meeting points of each by angle, and who lets it have the gaps between them. The others have
+// no angle.
 pub(crate) fn fill_heads(
     c: &[f64; 30],
     n_sets: usize,
@@ -220,12 +181,22 @@ pub(crate) fn fill_heads(
     ensures { λ r. ⌜ Marked (circlesIn (now (c .entry)) «n_sets») (pointList points) needed «n_sets» (now (counts .exit)) (now (owners .exit))
         (now (phi .exit)) (now (adopters .exit)) (now (lets .exit)) ⌝ }
 {
+    let n = at_most_ninety(points.n);
     let mut j: usize = 0;
     while j < n_sets {
         let mut count: usize = 0;
         if needed >> j & 1 == 1 {
             let circle = circle_at(c, j);
-            count = fill_marks(points, j, circle, phi, adopters);
+            let mut i: usize = 0;
+            while i < n {
+                let q = points.all[i];
+                if has_parent(j, q) {
+                    let angle = angle_about(circle, q.point);
+                    insert_at(phi, adopters, j * 32, count, angle, q.adopters);
+                    count += 1;
+                }
+                i += 1;
+            }
             fill_lets(c, n_sets, j, count, phi, lets);
             owners[j] = letters(c, n_sets, j, probe(circle));
         }

@@ -4,9 +4,11 @@
 mod chords;
 mod fast;
 mod fill;
+pub mod gradients;
 pub mod presence;
 mod row;
 pub mod rows;
+mod shares;
 mod terms;
 mod values;
 mod walk;

@@ -12,13 +12,10 @@ mul-result c = let s = c .before .args .s in
     let h : s ≤ 4294967295 = omega arith in
     omega (arith, mul-le-mul h h)
 
-returns : tie.Need-returns
-returns c = refl
-
 returns-2 : tie.Need-returns-2
 returns-2 c = let s = c .before .args .s in
     let h : 4294967296 ≤ s = omega arith in
     sym (lt-ltb (c .before .args .d) (s * s) (omega (arith, mul-le-mul h h)))
 
 pub below-square-spec : {M : Type 1} → statement M
-below-square-spec = tie.close (tie.spec mul-result returns returns-2)
+below-square-spec = tie.close (tie.spec mul-result (λ c. refl) returns-2)

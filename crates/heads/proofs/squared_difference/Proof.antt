@@ -19,8 +19,5 @@ mul-result c = let s = c .before in
     let d : c .distance-along .result ≤ 4294967295 = omega (arith, distance c, diff-below (s .args .a) (s .args .b) (s .fits .a .sfits) (s .fits .b .sfits)) in
     omega (arith, mul-le-mul d d)
 
-returns : tie.Need-returns
-returns c = ap (λ (n : ℕ). n * n) (distance c)
-
 pub squared-difference-spec : {M : Type 1} → statement M
-squared-difference-spec = tie.close (tie.spec (λ c κs. search needs) mul-result returns)
+squared-difference-spec = tie.close (tie.spec (λ c κs. search needs) mul-result (λ c. ap (λ (n : ℕ). n * n) (distance c)))

@@ -9,13 +9,7 @@ Inv-loop words₀ counts₀ r₀ plan₀ turns₀ words counts r plan turns = Un
 abbrev μ-loop : tie.MeasureT-loop
 μ-loop words₀ counts₀ r₀ plan₀ turns₀ words counts r plan turns = turns
 
-loop-holds : tie.Need-loop-holds Inv-loop μ-loop
-loop-holds c = tt
-
-loop-again : tie.Need-loop-again Inv-loop μ-loop
-loop-again c = tt
-
 pub main-spec : {M : Type 1} → statement M
 main-spec =
-    tie.close (tie.spec Inv-loop μ-loop (λ c κs. search needs) loop-holds (λ c κs. search needs) (λ c. search needs) (λ c. search needs)
-    loop-again (λ c κs. search needs) (λ c κs. search needs) (λ c. search needs))
+    tie.close (tie.spec Inv-loop μ-loop (λ c κs. search needs) (λ c. tt) (λ c κs. search needs) (λ c. search needs) (λ c. search needs)
+    (λ c. tt) (λ c κs. search needs) (λ c κs. search needs) (λ c. search needs))

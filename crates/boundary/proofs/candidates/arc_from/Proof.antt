@@ -28,12 +28,6 @@ unfolding gapArc
 returns c = let n = c .before .before in let a = n .before .args in
     rw (le-ltb (a .i) (length (angleList (a .t3))) (omega (arith, n .count .ensures))) (c .whole-circle .ensures)
 
-mul-phi-a : tie.Need-mul-phi-a
-mul-phi-a c = omega (arith, few (c .before))
-
-element-copy-out-phi-a : tie.Need-element-copy-out-phi-a
-element-copy-out-phi-a c = omega (arith, few (c .before))
-
 mul-phi-b : tie.Need-mul-phi-b
 mul-phi-b c = omega (arith, few (c .before .before), next (c .before))
 
@@ -86,6 +80,7 @@ returns-4 c =
 
 pub arc-from-spec : {M : Type 1} → statement M
 arc-from-spec =
-    tie.close (tie.spec (λ c κs. search needs) (λ c κs. search needs) returns (λ c. search needs) (λ c. search needs) mul-phi-a
-    element-copy-out-phi-a mul-phi-b element-copy-out-phi-b (λ c κs. search needs) (λ c κs. search needs) (λ c κs. search needs) returns-2
-    (λ c κs. search needs) (λ c κs. search needs) (λ c κs. search needs) returns-3 (λ c κs. search needs) returns-4)
+    tie.close (tie.spec (λ c κs. search needs) (λ c κs. search needs) returns (λ c. search needs) (λ c. search needs)
+    (λ c. omega (arith, few (c .before))) (λ c. omega (arith, few (c .before))) mul-phi-b element-copy-out-phi-b (λ c κs. search needs)
+    (λ c κs. search needs) (λ c κs. search needs) returns-2 (λ c κs. search needs) (λ c κs. search needs) (λ c κs. search needs) returns-3
+    (λ c κs. search needs) returns-4)

@@ -38,24 +38,12 @@ returns : tie.Need-returns Inv-loop μ-loop
 returns c = let d = c .before .before in let a = d .before .args in
     sym (owned-all (a .k) (a .p) (circleList (a .t3)) (d .loop .l) (omega (arith, length-take (a .t3 .n) (a .t3 .circles)))) ∙ d .loop .inv .rest
 
-mul-lets : tie.Need-mul-lets Inv-loop μ-loop
-mul-lets c = omega arith
-
-element-copy-out-lets : tie.Need-element-copy-out-lets Inv-loop μ-loop
-element-copy-out-lets c = omega arith
-
 returns-2 : tie.Need-returns-2 Inv-loop μ-loop
 returns-2 c = let d = c .before .before .before .before .before in let a = d .before .args in
     let below : d .loop .l < a .t3 .n = omega arith in
     let e : lets (a .k) (a .p) (d .loop .l) (getD (circleList (a .t3)) (d .loop .l) noCircle) ≡ false =
     rw (getD-take (a .t3 .n) (a .t3 .circles) (d .loop .l) noCircle below) (sym (c .before .lets .ensures) ∙ not-true _ (c .if2 .taken)) in
     sym (owned-not (a .k) (a .p) (circleList (a .t3)) (d .loop .l) (omega (arith, length-take (a .t3 .n) (a .t3 .circles))) e) ∙ d .loop .inv .rest
-
-add-l : tie.Need-add-l Inv-loop μ-loop
-add-l c = omega arith
-
-loop-less : tie.Need-loop-less Inv-loop μ-loop
-loop-less c = omega arith
 
 loop-again : tie.Need-loop-again Inv-loop μ-loop
 loop-again c = let d = c .before .before .before .before .before in let a = d .before .args in
@@ -77,5 +65,5 @@ returns-3 c = let d = c .before in let a = d .before .args in
 
 pub owned-spec : {M : Type 1} → statement M
 owned-spec =
-    tie.close (tie.spec Inv-loop μ-loop loop-holds returns mul-lets element-copy-out-lets (λ c κs. search needs) returns-2 add-l loop-less
-    loop-again returns-3)
+    tie.close (tie.spec Inv-loop μ-loop loop-holds returns (λ c. omega arith) (λ c. omega arith) (λ c κs. search needs) returns-2
+    (λ c. omega arith) (λ c. omega arith) loop-again returns-3)

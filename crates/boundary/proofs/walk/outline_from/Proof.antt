@@ -43,24 +43,6 @@ returns c =
     let arcs = c .before .before .before .before .args .t1 in
     copied-by-count (inv .1) (omega arith) ∙ whole (arcs .all) (arcs .n) (inv .0)
 
-mul-all : tie.Need-mul-all Inv-loop μ-loop
-mul-all c = omega arith
-
-element-copy-out-all-2 : tie.Need-element-copy-out-all-2 Inv-loop μ-loop
-element-copy-out-all-2 c = omega arith
-
-mul-all-2 : tie.Need-mul-all-2 Inv-loop μ-loop
-mul-all-2 c = omega arith
-
-array-set-from-all : tie.Need-array-set-from-all Inv-loop μ-loop
-array-set-from-all c = omega arith
-
-add-i : tie.Need-add-i Inv-loop μ-loop
-add-i c = omega arith
-
-loop-less : tie.Need-loop-less Inv-loop μ-loop
-loop-less c = omega arith
-
 loop-again : tie.Need-loop-again Inv-loop μ-loop
 loop-again c =
     let inv = c .before .before .before .loop .inv in
@@ -74,5 +56,5 @@ returns-2 c =
 
 pub outline-from-spec : {M : Type 1} → statement M
 outline-from-spec =
-    tie.close (tie.spec Inv-loop μ-loop (λ c. search needs) loop-holds returns mul-all element-copy-out-all-2 mul-all-2 array-set-from-all
-    add-i loop-less loop-again returns-2)
+    tie.close (tie.spec Inv-loop μ-loop (λ c. search needs) loop-holds returns (λ c. omega arith) (λ c. omega arith) (λ c. omega arith)
+    (λ c. omega arith) (λ c. omega arith) (λ c. omega arith) loop-again returns-2)

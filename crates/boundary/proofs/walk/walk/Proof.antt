@@ -47,15 +47,6 @@ loop-holds c =
 returns : tie.Need-returns Inv-loop2 μ-loop2 Inv-loop μ-loop
 returns c = let inv = c .before .before .loop .inv in (all-by-count inv (omega arith), all-counted inv)
 
-mul-circle : tie.Need-mul-circle Inv-loop2 μ-loop2 Inv-loop μ-loop
-mul-circle c = omega arith
-
-element-copy-out-circle : tie.Need-element-copy-out-circle Inv-loop2 μ-loop2 Inv-loop μ-loop
-element-copy-out-circle c = omega arith
-
-mul-angles-for : tie.Need-mul-angles-for Inv-loop2 μ-loop2 Inv-loop μ-loop
-mul-angles-for c = omega arith
-
 element-copy-out-angles-for :
     tie.Need-element-copy-out-angles-for Inv-loop2 μ-loop2 Inv-loop μ-loop
 element-copy-out-angles-for c = omega arith
@@ -70,21 +61,6 @@ loop2-holds c =
 free : (c : tie.Then2 Inv-loop2 μ-loop2 Inv-loop μ-loop) → c .before .before .before .before .loop2 .held < 320
 free c = gap-free (c .before .before .before .before .loop2 .inv) (c .before .before .before .loop2-test .taken)
 
-mul-all : tie.Need-mul-all Inv-loop2 μ-loop2 Inv-loop μ-loop
-mul-all c = omega (arith, free c)
-
-array-set-from-all : tie.Need-array-set-from-all Inv-loop2 μ-loop2 Inv-loop μ-loop
-array-set-from-all c = omega (arith, free c)
-
-add-held : tie.Need-add-held Inv-loop2 μ-loop2 Inv-loop μ-loop
-add-held c = omega (arith, free c)
-
-add-i : tie.Need-add-i Inv-loop2 μ-loop2 Inv-loop μ-loop
-add-i c = omega arith
-
-loop2-less : tie.Need-loop2-less Inv-loop2 μ-loop2 Inv-loop μ-loop
-loop2-less c = omega arith
-
 loop2-again : tie.Need-loop2-again Inv-loop2 μ-loop2 Inv-loop μ-loop
 loop2-again c =
     let l = c .before .before .before .before .loop2 in
@@ -95,12 +71,6 @@ loop2-again c =
     (λ w. rw (w .1, w .2) (gaps-without (l .inv) (found .result .kept) (found .result .arc) below (found .ensures) (w .0 .left)))
     (c .if2 .came)
 
-add-k : tie.Need-add-k Inv-loop2 μ-loop2 Inv-loop μ-loop
-add-k c = omega arith
-
-loop-less : tie.Need-loop-less Inv-loop2 μ-loop2 Inv-loop μ-loop
-loop-less c = omega arith
-
 loop-again : tie.Need-loop-again Inv-loop2 μ-loop2 Inv-loop μ-loop
 loop-again c = gaps-all (c .before .loop2 .inv) (omega arith)
 
@@ -109,6 +79,7 @@ returns-2 c = let inv = c .before .loop .inv in (all-by-room inv (omega arith), 
 
 pub walk-spec : {M : Type 1} → statement M
 walk-spec =
-    tie.close (tie.spec Inv-loop2 μ-loop2 Inv-loop μ-loop element-copy-out-full-circle (λ c κs. search needs) loop-holds returns mul-circle
-    element-copy-out-circle mul-angles-for element-copy-out-angles-for (λ c κs. search needs) (λ c κs. search needs) loop2-holds
-    (λ c κs. search needs) mul-all array-set-from-all add-held add-i loop2-less loop2-again add-k loop-less loop-again returns-2)
+    tie.close (tie.spec Inv-loop2 μ-loop2 Inv-loop μ-loop element-copy-out-full-circle (λ c κs. search needs) loop-holds returns
+    (λ c. omega arith) (λ c. omega arith) (λ c. omega arith) element-copy-out-angles-for (λ c κs. search needs) (λ c κs. search needs)
+    loop2-holds (λ c κs. search needs) (λ c. omega (arith, free c)) (λ c. omega (arith, free c)) (λ c. omega (arith, free c))
+    (λ c. omega arith) (λ c. omega arith) loop2-again (λ c. omega arith) (λ c. omega arith) loop-again returns-2)

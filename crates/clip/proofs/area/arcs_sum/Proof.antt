@@ -22,21 +22,6 @@ loop-holds c = record { long = search length-of-values; count = refl; most = ome
 returns : tie.Need-returns Inv-loop μ-loop
 returns c = arcs-by-count (c .before .before .loop .inv) (omega arith)
 
-mul-add-clipped-arc : tie.Need-mul-add-clipped-arc Inv-loop μ-loop
-mul-add-clipped-arc c = omega arith
-
-element-copy-out-add-clipped-arc : tie.Need-element-copy-out-add-clipped-arc Inv-loop μ-loop
-element-copy-out-add-clipped-arc c = omega arith
-
-add-clipped-arc-requires : tie.Need-add-clipped-arc-requires Inv-loop μ-loop
-add-clipped-arc-requires c κs = omega arith
-
-add-i : tie.Need-add-i Inv-loop μ-loop
-add-i c = omega arith
-
-loop-less : tie.Need-loop-less Inv-loop μ-loop
-loop-less c = omega arith
-
 loop-again : tie.Need-loop-again Inv-loop μ-loop
 loop-again c = arcs-next (c .before .before .before .before .loop .inv) _ (omega arith) (omega arith) (c .add-clipped-arc .ensures)
 
@@ -45,5 +30,5 @@ returns-2 c = arcs-by-room (c .before .loop .inv) (omega arith)
 
 pub arcs-sum-spec : {M : Type 1} → statement M
 arcs-sum-spec =
-    tie.close (tie.spec Inv-loop μ-loop loop-holds returns mul-add-clipped-arc element-copy-out-add-clipped-arc add-clipped-arc-requires
-    add-i loop-less loop-again returns-2)
+    tie.close (tie.spec Inv-loop μ-loop loop-holds returns (λ c. omega arith) (λ c. omega arith) (λ c κs. omega arith) (λ c. omega arith)
+    (λ c. omega arith) loop-again returns-2)

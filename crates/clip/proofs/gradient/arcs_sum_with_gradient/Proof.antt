@@ -29,14 +29,8 @@ loop-holds : tie.Need-loop-holds Inv-loop μ-loop
 loop-holds c =
     record { same = refl; added = record { long = search length-of-values; count = refl; most = omega arith; within = omega arith; sum = refl } }
 
-same-length : tie.Need-same-length Inv-loop μ-loop
-same-length c = c .before .before .loop .inv .same
-
 returns : tie.Need-returns Inv-loop μ-loop
 returns c = arcs-by-count (c .before .before .loop .inv .added) (omega arith)
-
-mul-add-clipped-arc-with-gradient : tie.Need-mul-add-clipped-arc-with-gradient Inv-loop μ-loop
-mul-add-clipped-arc-with-gradient c = omega arith
 
 element-copy-out-add-clipped-arc-with-gradient :
     tie.Need-element-copy-out-add-clipped-arc-with-gradient Inv-loop μ-loop
@@ -46,26 +40,17 @@ add-clipped-arc-with-gradient-requires :
     tie.Need-add-clipped-arc-with-gradient-requires Inv-loop μ-loop
 add-clipped-arc-with-gradient-requires c κs = omega arith
 
-add-i : tie.Need-add-i Inv-loop μ-loop
-add-i c = omega arith
-
-loop-less : tie.Need-loop-less Inv-loop μ-loop
-loop-less c = omega arith
-
 loop-again : tie.Need-loop-again Inv-loop μ-loop
 loop-again c =
     let one = c .before .before .add-clipped-arc-with-gradient in
     let inv = c .before .before .before .before .before .before .before .loop .inv in
     record { same = one .kept .1 .0 ∙ inv .same; added = arcs-next (inv .added) _ (omega arith) (omega arith) (one .ensures) }
 
-same-length-2 : tie.Need-same-length-2 Inv-loop μ-loop
-same-length-2 c = c .before .loop .inv .same
-
 returns-2 : tie.Need-returns-2 Inv-loop μ-loop
 returns-2 c = arcs-by-room (c .before .loop .inv .added) (omega arith)
 
 pub arcs-sum-with-gradient-spec : {M : Type 1} → statement M
 arcs-sum-with-gradient-spec =
-    tie.close (tie.spec Inv-loop μ-loop loop-holds same-length returns mul-add-clipped-arc-with-gradient
-    element-copy-out-add-clipped-arc-with-gradient add-clipped-arc-with-gradient-requires add-i loop-less loop-again same-length-2
-    returns-2)
+    tie.close (tie.spec Inv-loop μ-loop loop-holds (λ c. c .before .before .loop .inv .same) returns (λ c. omega arith)
+    element-copy-out-add-clipped-arc-with-gradient add-clipped-arc-with-gradient-requires (λ c. omega arith) (λ c. omega arith) loop-again
+    (λ c. c .before .loop .inv .same) returns-2)

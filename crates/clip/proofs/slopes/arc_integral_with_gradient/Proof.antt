@@ -79,9 +79,6 @@ loop-again c = let p = c .before .before in
           (pairs-on f (with-gradient (l .sum) (l .grad)) (angleList list) (l .i) nan (omega (arith, l .inv .count)) ∙ l .inv .rest);
     }
 
-same-length : tie.Need-same-length Inv-loop μ-loop
-same-length c = c .before .loop .inv .same
-
 returns : tie.Need-returns Inv-loop μ-loop
 unfolding clippedArcIntegralWithGradient breaks
 returns c = let l = c .before .loop in
@@ -97,5 +94,5 @@ pub arc-integral-with-gradient-spec : {M : Type 1} → statement M
 arc-integral-with-gradient-spec =
     tie.close (tie.spec Inv-loop μ-loop (λ c. search needs) (λ c κs. search needs) (λ c κs. search needs) loop-holds (λ c. search needs)
     (λ c. search needs) element-copy-out-add-part-with-gradient (λ c. search needs) (λ c. search needs)
-    element-copy-out-add-part-with-gradient-2 (λ c κs. search needs) (λ c. search needs) (λ c. search needs) loop-again same-length
-    returns)
+    element-copy-out-add-part-with-gradient-2 (λ c κs. search needs) (λ c. search needs) (λ c. search needs) loop-again
+    (λ c. c .before .loop .inv .same) returns)

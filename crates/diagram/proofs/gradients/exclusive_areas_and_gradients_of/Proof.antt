@@ -8,8 +8,8 @@ use borrow.Author.Tests.{eq-eqb, ne-eqb}
 use lib.Ieee.{Float}
 use lib.ListN.{length}
 use Rattle.masks.specs.Presence.{stands}
-use Rattle.exclusive.specs.Gradient.{widthAnswer}
-use Rattle.exclusive.proofs.Answers.{all-taken}
+use Rattle.exclusive_gradients.specs.Gradient.{widthAnswer}
+use Rattle.exclusive_gradients.proofs.Answers.{all-taken}
 use Rattle.diagram.specs.declared.drawing.Drawing.{Drawing}
 use Rattle.diagram.specs.Rows.{presenceWritten, areasWritten, slopesWritten}
 use Rattle.diagram.specs.Drawing.{rowsOf, slopesBy, slopesOf, widthOf}

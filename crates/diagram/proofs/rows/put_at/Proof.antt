@@ -6,8 +6,7 @@ use borrow.Author.Needs.{needs}
 use Rattle.diagram.proofs.rows.put_at.Statement.{statement}
 use Rattle.diagram.proofs.rows.put_at.Tie as tie
 
-returns-2 : tie.Need-returns-2
-returns-2 c = sym (set-out _ _ _ (omega arith))
-
 pub put-at-spec : {M : Type 1} → statement M
-put-at-spec = tie.close (tie.spec (λ c. search needs) (λ c. search needs) (λ c. search needs) (λ c. search needs) returns-2)
+put-at-spec =
+    tie.close (tie.spec (λ c. search needs) (λ c. search needs) (λ c. search needs) (λ c. search needs)
+    (λ c. sym (set-out _ _ _ (omega arith))))

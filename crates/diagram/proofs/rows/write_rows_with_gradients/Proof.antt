@@ -1,149 +1,156 @@
--- `rows::write_rows_with_gradients` meets its contract. The invariant: the rows below mask are written, in all three slices.
-use mathlib.Core.Path.{_≡_, refl, sym, ap, ap₂, _∙_}
-use mathlib.Core.List.{List}
-use Prim.Native.Nat.{ℕ, suc, _+_, _*_, _-_, _≤_, _<_}
+-- `rows::write_rows_with_gradients` meets its contract: gradients all +0, the rows of the sets, then row 0 and the other areas.
+use mathlib.Core.Path.{_≡_, sym, ap, _∙_}
+use mathlib.Core.List.{List, _++_}
+use Prim.Native.Nat.{ℕ, _*_, _^_, _≤_}
 use native.Mathlib.Nat.{mul-le-mul-right}
 use native.Mathlib.Omega.{arith}
-use borrow.Rule.Slice.PartMut.{midOf, putMid, mid-len}
-use lib.Ieee.{Float, nan}
-use lib.ListN.{length, getD, set, length-set, replicate}
+use lib.Ieee.{Float}
+use lib.ListN.{length, drop, replicate}
+use lib.Pow.{pow-pos}
+use lib.Seq.{length-take-le}
 use Rattle.lists.specs.Written.{written}
-use Rattle.lists.proofs.Writing.{written-none, write-next, length-written}
-use Rattle.masks.specs.Presence.{byte, stands}
+use Rattle.lists.proofs.Writing.{length-written}
+use Rattle.masks.specs.Mask.{shifted}
+use Rattle.masks.specs.Operations.{shifted-is}
+use Rattle.masks.specs.Presence.{stands}
 use Rattle.binary64.specs.Constants.{zero64}
+use Rattle.geometry.specs.declared.bounds.Bounds.{Bounds}
 use Rattle.clip.specs.Gradient.{WithGradient}
-use Rattle.exclusive.proofs.TableRows.{byRow, row-written}
-use Rattle.diagram.specs.declared.drawing.Drawing.{Drawing}
-use Rattle.diagram.specs.Rows.{isThere, areaAt, slopesAt}
-use Rattle.diagram.specs.Drawing.{rowsOf, slopesBy, boxAreaOf, setOnto, rowWith}
-use Rattle.sums.proofs.Bytes.{byte-own}
-use Rattle.diagram.proofs.Laying.{row-own}
+use Rattle.sums.specs.Gradients.{rowWith, rowsIn, areasTo, rowsTo}
+use Rattle.sums.proofs.Laid.{rows-in-all}
+use Rattle.diagram.specs.Drawing.{circlesOf, pointsOf, boxAreaOf, boxRowOf, setOnto}
+use Rattle.diagram.proofs.Laying.{areas-read, first-cleared, box-twice, rows-laid}
 use borrow.Author.Needs.{needs}
 use Rattle.diagram.proofs.rows.write_rows_with_gradients.Statement.{statement}
 use Rattle.diagram.proofs.rows.write_rows_with_gradients.Tie as tie
 
-abbrev Inv-loop : tie.InvT-loop
-Inv-loop drawing sets count width presence₀ areas₀ gradients₀ boxed mask₀ presence areas gradients mask =
-    (mask ≤ count) × (count ≤ 1024) × (count ≤ length presence₀) × (count ≤ length areas₀) × (count * width ≤ length gradients₀)
-    × (boxed ≡ drawing .boxed) × (length presence ≡ length presence₀) × (length areas ≡ length areas₀) × (length gradients ≡ length gradients₀)
-    × (presence ≡ written (λ S. byte (isThere (rowsOf drawing (stands sets)) S)) mask presence₀)
-    × (areas ≡ written (areaAt (slopesBy width drawing (stands sets) .rows)) mask areas₀)
-    × (gradients ≡ written (byRow width nan (slopesAt (slopesBy width drawing (stands sets)))) (mask * width) gradients₀)
+abbrev entry : tie.After-bounds → tie.Start
+entry c = c .before .before .before .before .before .before .before
 
-abbrev μ-loop : tie.MeasureT-loop
-μ-loop drawing sets count width presence₀ areas₀ gradients₀ boxed mask₀ presence areas gradients mask = count - mask
+abbrev bounded : tie.After-clear → tie.After-bounds
+bounded c = c .before .before
 
-loop-holds : tie.Need-loop-holds Inv-loop μ-loop
-loop-holds c =
-    let s = c .before .before .before in let p = s .pre in let a = s .args in
-    let z : 0 ≡ 0 * a .width = omega arith in
-    let G = byRow (a .width) nan (slopesAt (slopesBy (a .width) (a .drawing) (stands (a .sets .now)))) in (
-      omega arith,
-      p .0,
-      p .1,
-      p .2,
-      p .3,
-      refl,
-      refl,
-      refl,
-      refl,
-      written-none _ _,
-      written-none _ _,
-      written-none G (a .gradients .now) ∙ ap (λ (m : ℕ). written G m (a .gradients .now)) z,
-    )
+abbrev emptied : tie.After-write-gradients → tie.After-clear
+emptied c = c .before .before .before .before .before
 
--- the row has its place
-room : (c : tie.In-loop Inv-loop μ-loop) → let a = c .before .before .before .before .before .args in suc (c .before .loop .mask) * a .width ≤ length
-    (a .gradients .now)
-room c =
-    let i = c .before .loop .inv in let a = c .before .before .before .before .before .args in
-    omega (arith, mul-le-mul-right {m = suc (c .before .loop .mask)} {n = a .count} (a .width) (c .loop-test .taken), i .4)
+abbrev worked : tie.After-slice-known6 → tie.After-write-gradients
+worked c = c .before .before .before .before
 
-mul-start : tie.Need-mul-start Inv-loop μ-loop
-mul-start c = omega (arith, room c, c .before .loop .inv .8)
+-- what was handed in
+abbrev given : tie.After-write-gradients → tie.Start
+given c = entry (bounded (emptied c))
 
-add-end : tie.Need-add-end Inv-loop μ-loop
-add-end c = omega (arith, room c, c .before .loop .inv .8)
+-- the row of each set
+abbrev rowOf : tie.Start → ℕ → WithGradient
+rowOf s S = setOnto (s .args .drawing) S (replicate (s .args .width) zero64)
 
-mul-row-with-gradient : tie.Need-mul-row-with-gradient Inv-loop μ-loop
-mul-row-with-gradient c = omega (arith, room (c .before), c .before .before .loop .inv .8)
+-- the gradients handed in with all rows +0, as the code leaves them and as a list
+abbrev zeros : tie.After-clear → List Float
+zeros c = let a = entry (bounded c) .args in c .clear .last .0 ++ drop (shifted 64 (a .drawing .n) * a .width) (a .gradients .now)
 
-sub-row-with-gradient : tie.Need-sub-row-with-gradient Inv-loop μ-loop
-sub-row-with-gradient c = omega (arith, room (c .before), c .before .before .loop .inv .8)
+abbrev none : tie.Start → List Float
+none s = let a = s .args in written (λ i. zero64) (2 ^ a .drawing .n * a .width) (a .gradients .now)
 
-part-row-with-gradient-start : tie.Need-part-row-with-gradient-start Inv-loop μ-loop
-part-row-with-gradient-start c = omega (arith, room (c .before), c .before .before .loop .inv .8)
+-- what the pass leaves
+abbrev areasLeft : tie.After-write-gradients → List Float
+areasLeft c = c .write-gradients .last .1 .1 .1 .1 .1 .1 .1 .0
 
-part-row-with-gradient-end : tie.Need-part-row-with-gradient-end Inv-loop μ-loop
-part-row-with-gradient-end c = omega (arith, room (c .before), c .before .before .loop .inv .8)
+abbrev gradientsLeft : tie.After-write-gradients → List Float
+gradientsLeft c = c .write-gradients .last .1 .1 .1 .1 .1 .1 .1 .1 .0
 
-slice-write-areas : tie.Need-slice-write-areas Inv-loop μ-loop
-slice-write-areas c =
-    let m = c .before .before .before .before .before in let i = m .before .loop .inv in omega (arith, i .7, i .3, m .loop-test .taken)
+-- all numbers of the rows
+numbers : (c : tie.After-bounds) → let a = entry c .args in shifted 64 (a .drawing .n) * a .width ≡ 2 ^ a .drawing .n * a .width
+numbers c = let s = entry c in ap (λ (m : ℕ). m * s .args .width) (shifted-is 64 (s .args .drawing .n) (omega (arith, s .pre .0)))
 
-slice-write-presence : tie.Need-slice-write-presence Inv-loop μ-loop
-slice-write-presence c =
-    let m = c .before .before .before .before .before .before .before in let i = m .before .loop .inv in omega (arith, i .6, i .2, m .loop-test .taken)
+room : (c : tie.After-bounds) → let a = entry c .args in shifted 64 (a .drawing .n) * a .width ≤ length (a .gradients .now)
+room c = omega (arith, numbers c, entry c .pre .3)
 
-loop-less : tie.Need-loop-less Inv-loop μ-loop
-loop-less c = let m = c .before .before .before .before .before .before .before in omega (arith, m .loop-test .taken)
+zeros-none : (c : tie.After-clear) → zeros c ≡ none (entry (bounded c))
+zeros-none c =
+    let a = entry (bounded c) .args in
+    let l = a .gradients .now in
+    let m : ℕ = shifted 64 (a .drawing .n) * a .width in
+    ap (λ (t : List Float). t ++ drop m l) (c .clear .ensures) ∙ first-cleared m l (room (bounded c))
+    ∙ ap (λ (i : ℕ). written (λ j. zero64) i l) (numbers (bounded c))
 
-loop-again : tie.Need-loop-again Inv-loop μ-loop
-loop-again c =
-    let g = c .before .before .before in let r = g .before in let m = r .before .before .before in let l = m .before .loop in let i = l .inv in
-    let a = m .before .before .before .before .before .args in let d = a .drawing in let w = a .width in let sets = stands (a .sets .now) in
-    let t = m .loop-test .taken in let S = l .mask in
-    let G = slopesBy w d sets in
-    let wide : (S * w + w) - S * w ≡ w = omega arith in
-    let many : length (midOf (S * w) ((S * w + w) - S * w) (l .gradients)) ≡ w = mid-len (S * w) (S * w + w) (l .gradients) (omega
-    (arith, room m, i .8)) ∙ wide in
-    let both = r .row-with-gradient .ensures .0 ∙ ap (λ (k : ℕ). rowWith k d (getD (a .sets .now) S 0) S) many in
-    let area = ap (λ (z : WithGradient). z .sum) both ∙ row-own (d .boxed) sets (boxAreaOf d) (λ T. setOnto d T (replicate w zero64) .sum) zero64 S in
-    let row = ap (λ (z : WithGradient). z .grad) both ∙ row-own (d .boxed) sets (G .boxRow) (λ T. setOnto d T (replicate w zero64) .grad)
-    (replicate w zero64) S in
-    let b = c .row-byte .ensures ∙ byte-own (d .boxed) sets S in
-    let laid = ap₂ (λ (k : ℕ) (ys : List Float). putMid (S * w) k (l .gradients) ys) wide row
-    ∙ row-written w S nan (slopesAt G) (a .gradients .now) (l .gradients) (room m) (sym (ap length row) ∙ r .row-with-gradient .ensures .1 ∙ many) (i .11) in (
-      omega (arith, t),
-      i .1,
-      i .2,
-      i .3,
-      i .4,
-      i .5,
-      length-set (l .presence) S _ ∙ i .6,
-      length-set (l .areas) S _ ∙ i .7,
-      ap length laid ∙ length-written (byRow w nan (slopesAt G)) ((S + 1) * w) (a .gradients .now) (omega (arith, room m)),
-      ap (λ (p : List ℕ). set p S (c .row-byte .result)) (i .9)
-          ∙ write-next (λ T. byte (isThere (rowsOf d sets) T)) S (a .presence .now) _ 0 (omega (arith, i .2, t)) b,
-      ap (λ (p : List Float). set p S (r .row-with-gradient .result)) (i .10)
-          ∙ write-next (areaAt (G .rows)) S (a .areas .now) _ nan (omega (arith, i .3, t)) area,
-      laid,
-    )
+zeros-length : (c : tie.After-clear) → length (zeros c) ≡ length (entry (bounded c) .args .gradients .now)
+zeros-length c = ap length (zeros-none c) ∙ length-written (λ i. zero64) _ _ (entry (bounded c) .pre .3)
 
-same-length : tie.Need-same-length Inv-loop μ-loop
-same-length c = c .before .loop .inv .6
+left-length : (c : tie.After-write-gradients) → length (gradientsLeft c) ≡ length (given c .args .gradients .now)
+left-length c = c .write-gradients .kept .1 .1 .1 .1 .1 .1 .1 .1 .0 ∙ zeros-length (emptied c)
 
-same-length-2 : tie.Need-same-length-2 Inv-loop μ-loop
-same-length-2 c = c .before .loop .inv .7
+-- row 0 has its place
+first-room : (c : tie.After-write-gradients) → given c .args .width ≤ length (gradientsLeft c)
+first-room c =
+    let s = given c in
+    let n = s .args .drawing .n in
+    omega (arith, left-length c, s .pre .3, mul-le-mul-right {m = 1} {n = 2 ^ n} (s .args .width) (pow-pos n))
 
-same-length-3 : tie.Need-same-length-3 Inv-loop μ-loop
-same-length-3 c = c .before .loop .inv .8
+slice-aggregate-write-box-row : tie.Need-slice-aggregate-write-box-row
+slice-aggregate-write-box-row c = sym (length-take-le _ _ (first-room (worked (c .before))))
 
-returns : tie.Need-returns Inv-loop μ-loop
+-- every row has its place in both slices
+rows-all : (c : tie.After-write-gradients) → let a = given c .args in
+    rowsIn (a .drawing .n) (a .width) (a .areas .now) (zeros (emptied c)) ≡ 2 ^ a .drawing .n
+rows-all c =
+    let s = given c in
+    let a = s .args in
+    rows-in-all (a .drawing .n) (a .width) (a .areas .now) (zeros (emptied c)) (s .pre .0) (s .pre .2)
+    (omega (arith, zeros-length (emptied c), s .pre .3))
+
+areas-worked : (c : tie.After-write-gradients) → let s = given c in let a = s .args in
+    areasLeft c ≡ areasTo (stands (a .sets .now)) (rowOf s) (2 ^ a .drawing .n) (a .areas .now)
+areas-worked c =
+    let s = given c in
+    let a = s .args in
+    let d = a .drawing in
+    let w = a .width in
+    let l = a .areas .now in
+    let sets = stands (a .sets .now) in
+    c .write-gradients .ensures .0
+    ∙ ap (λ (box : Bounds). areasTo sets (rowWith (d .boxed) box (circlesOf d) (pointsOf d) w) (rowsIn (d .n) w l (zeros (emptied c))) l)
+    (bounded (emptied c) .bounds .ensures)
+    ∙ ap (λ (m : ℕ). areasTo sets (rowOf s) m l) (rows-all c)
+
+gradients-worked : (c : tie.After-write-gradients) → let s = given c in let a = s .args in
+    gradientsLeft c ≡ rowsTo (stands (a .sets .now)) (rowOf s) (a .width) (2 ^ a .drawing .n) (none s)
+gradients-worked c =
+    let s = given c in
+    let a = s .args in
+    let d = a .drawing in
+    let w = a .width in
+    let sets = stands (a .sets .now) in
+    let l = zeros (emptied c) in
+    c .write-gradients .ensures .1
+    ∙ ap (λ (box : Bounds). rowsTo sets (rowWith (d .boxed) box (circlesOf d) (pointsOf d) w) w (rowsIn (d .n) w (a .areas .now) l) l)
+    (bounded (emptied c) .bounds .ensures)
+    ∙ ap (λ (m : ℕ). rowsTo sets (rowOf s) w m l) (rows-all c)
+    ∙ ap (rowsTo sets (rowOf s) w (2 ^ d .n)) (zeros-none (emptied c))
+
+returns : tie.Need-returns
 returns c =
-    let l = c .before .loop in let i = l .inv in let a = c .before .before .before .before .before .args in
-    let G = slopesBy (a .width) (a .drawing) (stands (a .sets .now)) in
-    let e : l .mask ≡ a .count = omega (arith, i .0, c .loop-test .left) in (
-      i .9 ∙ ap (λ (m : ℕ). written (λ S. byte (isThere (rowsOf (a .drawing) (stands (a .sets .now))) S)) m (a .presence .now)) e,
+    let f = c .before .before .before .before in
+    let x = f .before .before .before .before .before in
+    let g = worked (x .before .before) in
+    let s = given g in
+    let a = s .args in
+    let d = a .drawing in
+    let w = a .width in
+    let sets = stands (a .sets .now) in
+    let m = 2 ^ d .n in
+    let wide = length-take-le w (gradientsLeft g) (first-room g) in
+    let first = x .write-box-row .ensures ∙ ap (λ (k : ℕ). boxRowOf k d) wide ∙ box-twice (d .boxed) _ _ in (
+      f .finish-rows .ensures .0,
       (
-        i .10 ∙ ap (λ (m : ℕ). written (areaAt (G .rows)) m (a .areas .now)) e,
-        i .11 ∙ ap (λ (m : ℕ). written (byRow (a .width) nan (slopesAt G)) (m * a .width) (a .gradients .now)) e,
+        f .finish-rows .ensures .1 ∙ areas-read (d .boxed) sets (boxAreaOf d) (λ S. rowOf s S .sum) m _ (a .areas .now) (areas-worked g),
+        rows-laid (d .boxed) sets (boxRowOf w d) (rowOf s) w m (a .gradients .now) (gradientsLeft g) (s .pre .3) (gradients-worked g) _
+            (pow-pos (d .n)) first (x .write-box-row .kept .1 .0 ∙ wide),
       ),
     )
 
 pub write-rows-with-gradients-spec : {M : Type 1} → statement M
 write-rows-with-gradients-spec =
-    tie.close (tie.spec Inv-loop μ-loop loop-holds mul-start add-end (λ c. search needs) mul-row-with-gradient sub-row-with-gradient
-    part-row-with-gradient-start part-row-with-gradient-end (λ c κs. search needs) (λ c. search needs) slice-write-areas
-    (λ c. search needs) (λ c κs. search needs) slice-write-presence (λ c. search needs) loop-less loop-again same-length same-length-2
-    same-length-3 returns)
+    tie.close (tie.spec (λ c κs. search needs) (λ c. search needs) (λ c. omega (arith, room c)) (λ c. room c)
+    (λ c. sym (length-take-le _ _ (room (c .before)))) (λ c κs. search needs) (λ c κs. search needs) (λ c. first-room (worked c))
+    slice-aggregate-write-box-row (λ c κs. search needs) (λ c κs. search needs) (λ c. search needs) (λ c. search needs) (λ c. search needs)
+    returns)

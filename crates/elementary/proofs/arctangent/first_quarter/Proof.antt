@@ -10,9 +10,6 @@ use Rattle.elementary.proofs.arctangent.first_quarter.Tie as tie
 tangent-requires : tie.Need-tangent-requires
 tangent-requires c κs = below-diagonal (c .before .pre) (c .if1 .taken)
 
-sub-result : tie.Need-sub-result
-sub-result c = omega arith
-
 returns : tie.Need-returns
 unfolding recipe.firstQuarter
 returns c = (rw (c .before .before .if1 .taken, c .arc .ensures .0, c .before .tangent .ensures) refl, omega arith)
@@ -26,4 +23,5 @@ returns-2 c = (rw (c .before .before .if1 .left, c .arc2 .ensures .0, c .before 
 
 pub first-quarter-spec : {M : Type 1} → statement M
 first-quarter-spec =
-    tie.close (tie.spec tangent-requires (λ c κs. search needs) sub-result returns tangent-requires-2 (λ c κs. search needs) returns-2)
+    tie.close (tie.spec tangent-requires (λ c κs. search needs) (λ c. omega arith) returns tangent-requires-2 (λ c κs. search needs)
+    returns-2)

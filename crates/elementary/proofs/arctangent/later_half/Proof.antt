@@ -6,36 +6,6 @@ use Rattle.elementary.proofs.fixed.Horner.{Value, constant, next}
 use Rattle.elementary.proofs.arctangent.later_half.Statement.{statement}
 use Rattle.elementary.proofs.arctangent.later_half.Tie as tie
 
-step-requires : tie.Need-step-requires
-step-requires c κs = lit≤ tt
-
-step-requires-2 : tie.Need-step-requires-2
-step-requires-2 c κs = le-trans (c .step .ensures .1) (lit≤ tt)
-
-step-requires-3 : tie.Need-step-requires-3
-step-requires-3 c κs = le-trans (c .step2 .ensures .1) (lit≤ tt)
-
-step-requires-4 : tie.Need-step-requires-4
-step-requires-4 c κs = le-trans (c .step3 .ensures .1) (lit≤ tt)
-
-step-requires-5 : tie.Need-step-requires-5
-step-requires-5 c κs = le-trans (c .step4 .ensures .1) (lit≤ tt)
-
-step-requires-6 : tie.Need-step-requires-6
-step-requires-6 c κs = le-trans (c .step5 .ensures .1) (lit≤ tt)
-
-step-requires-7 : tie.Need-step-requires-7
-step-requires-7 c κs = le-trans (c .step6 .ensures .1) (lit≤ tt)
-
-step-requires-8 : tie.Need-step-requires-8
-step-requires-8 c κs = le-trans (c .step7 .ensures .1) (lit≤ tt)
-
-step-requires-9 : tie.Need-step-requires-9
-step-requires-9 c κs = le-trans (c .step8 .ensures .1) (lit≤ tt)
-
-step-requires-10 : tie.Need-step-requires-10
-step-requires-10 c κs = le-trans (c .step9 .ensures .1) (lit≤ tt)
-
 returns : tie.Need-returns
 returns c =
     let v : Value middleArc laterArcs (c .before .before .before .before .before .before .before .before .before .before .args .z) (c .step10 .result) =
@@ -53,5 +23,8 @@ returns c =
 
 pub later-half-spec : {M : Type 1} → statement M
 later-half-spec =
-    tie.close (tie.spec step-requires step-requires-2 step-requires-3 step-requires-4 step-requires-5 step-requires-6 step-requires-7
-    step-requires-8 step-requires-9 step-requires-10 returns)
+    tie.close (tie.spec (λ c κs. lit≤ tt) (λ c κs. le-trans (c .step .ensures .1) (lit≤ tt))
+    (λ c κs. le-trans (c .step2 .ensures .1) (lit≤ tt)) (λ c κs. le-trans (c .step3 .ensures .1) (lit≤ tt))
+    (λ c κs. le-trans (c .step4 .ensures .1) (lit≤ tt)) (λ c κs. le-trans (c .step5 .ensures .1) (lit≤ tt))
+    (λ c κs. le-trans (c .step6 .ensures .1) (lit≤ tt)) (λ c κs. le-trans (c .step7 .ensures .1) (lit≤ tt))
+    (λ c κs. le-trans (c .step8 .ensures .1) (lit≤ tt)) (λ c κs. le-trans (c .step9 .ensures .1) (lit≤ tt)) returns)

@@ -6,9 +6,6 @@ use borrow.Author.Needs.{needs}
 use Rattle.elementary.proofs.arctangent.upper_half.Statement.{statement}
 use Rattle.elementary.proofs.arctangent.upper_half.Tie as tie
 
-sub-result : tie.Need-sub-result
-sub-result c = omega arith
-
 returns : tie.Need-returns
 unfolding recipe.upperHalf
 returns c = rw (← (c .before .is-sign-negative .ensures), c .if1 .taken, c .before .before .first-quarter .ensures .0) refl
@@ -18,4 +15,4 @@ unfolding recipe.upperHalf
 returns-2 c = rw (← (c .before .is-sign-negative .ensures), c .if1 .left, c .before .before .first-quarter .ensures .0) refl
 
 pub upper-half-spec : {M : Type 1} → statement M
-upper-half-spec = tie.close (tie.spec (λ c κs. search needs) (λ c κs. search needs) sub-result returns returns-2)
+upper-half-spec = tie.close (tie.spec (λ c κs. search needs) (λ c κs. search needs) (λ c. omega arith) returns returns-2)

@@ -5,9 +5,6 @@ use Rattle.elementary.proofs.root.Digits.{nearest-is}
 use Rattle.elementary.proofs.root.nearest.Statement.{statement}
 use Rattle.elementary.proofs.root.nearest.Tie as tie
 
-float-to-bits-digits : tie.Need-float-to-bits-digits
-float-to-bits-digits c = above-number _ (c .if1 .taken)
-
 returns : tie.Need-returns
 returns c =
     let s = c .before .before .before in
@@ -15,4 +12,5 @@ returns c =
 
 pub nearest-spec : {M : Type 1} → statement M
 nearest-spec =
-    tie.close (tie.spec float-to-bits-digits (λ c. search needs) (λ c κs. search needs) returns (λ c κs. search needs) (λ c. search needs))
+    tie.close (tie.spec (λ c. above-number _ (c .if1 .taken)) (λ c. search needs) (λ c κs. search needs) returns (λ c κs. search needs)
+    (λ c. search needs))

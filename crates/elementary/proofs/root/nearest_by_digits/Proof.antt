@@ -16,33 +16,6 @@ abbrev μ-loop : tie.MeasureT-loop
 short : (c : tie.At-loop Inv-loop μ-loop) → c .loop .root < 2 ^ 53
 short c = taken-short _ _ _ _ _ (c .loop .inv)
 
-loop-holds : tie.Need-loop-holds Inv-loop μ-loop
-loop-holds c = taken-none (c .args .m) (c .pre .1)
-
-mul-rest : tie.Need-mul-rest Inv-loop μ-loop
-mul-rest c = omega (arith, short (c .before))
-
-add-rest : tie.Need-add-rest Inv-loop μ-loop
-add-rest c = omega (arith, short (c .before))
-
-mul-square : tie.Need-mul-square Inv-loop μ-loop
-mul-square c = omega (arith, short (c .before))
-
-add-square : tie.Need-add-square Inv-loop μ-loop
-add-square c = omega (arith, short (c .before))
-
-mul-root : tie.Need-mul-root Inv-loop μ-loop
-mul-root c = omega (arith, short (c .before))
-
-add-root : tie.Need-add-root Inv-loop μ-loop
-add-root c = omega (arith, short (c .before .before))
-
-sub-left : tie.Need-sub-left Inv-loop μ-loop
-sub-left c = omega arith
-
-loop-less : tie.Need-loop-less Inv-loop μ-loop
-loop-less c = omega arith
-
 loop-again : tie.Need-loop-again Inv-loop μ-loop
 loop-again c =
     let l = c .before .before .loop in
@@ -50,9 +23,6 @@ loop-again c =
     ⊎-elim (λ w. rw (w .1, w .2) (taken-one _ (l .digits) (l .root) (l .rest) (l .left) (l .inv) more (w .0 .taken)))
     (λ w. rw (w .1, w .2) (taken-zero _ (l .digits) (l .root) (l .rest) (l .left) (l .inv) more (w .0 .left)))
     (c .if1 .came)
-
-add-result : tie.Need-add-result Inv-loop μ-loop
-add-result c = omega (arith, short (c .before .before))
 
 returns : tie.Need-returns Inv-loop μ-loop
 returns c =
@@ -68,5 +38,7 @@ returns-2 c =
 
 pub nearest-by-digits-spec : {M : Type 1} → statement M
 nearest-by-digits-spec =
-    tie.close (tie.spec Inv-loop μ-loop loop-holds mul-rest add-rest mul-square add-square mul-root add-root sub-left loop-less loop-again
-    add-result returns returns-2)
+    tie.close (tie.spec Inv-loop μ-loop (λ c. taken-none (c .args .m) (c .pre .1)) (λ c. omega (arith, short (c .before)))
+    (λ c. omega (arith, short (c .before))) (λ c. omega (arith, short (c .before))) (λ c. omega (arith, short (c .before)))
+    (λ c. omega (arith, short (c .before))) (λ c. omega (arith, short (c .before .before))) (λ c. omega arith) (λ c. omega arith) loop-again
+    (λ c. omega (arith, short (c .before .before))) returns returns-2)

@@ -15,12 +15,7 @@ made c t e =
     fixed-is _ _ _ (c .before .before .before .reduced .result) (c .before .before .quarter-sine .result) _
     (c .half-turned .ensures) (c .before .before .before .reduced .ensures .0) (c .before .before .quarter-sine .ensures) (c .before .nearest-u64-to-f64 .ensures) t e
 
-returns : tie.Need-returns
-returns c = made (c .before) true (c .if1 .taken)
-
-returns-2 : tie.Need-returns-2
-returns-2 c = made (c .before) false (c .if1 .left)
-
 pub fixed-sine-spec : {M : Type 1} → statement M
 fixed-sine-spec =
-    tie.close (tie.spec (λ c κs. search needs) (λ c κs. search needs) (λ c κs. search needs) (λ c κs. search needs) returns returns-2)
+    tie.close (tie.spec (λ c κs. search needs) (λ c κs. search needs) (λ c κs. search needs) (λ c κs. search needs)
+    (λ c. made (c .before) true (c .if1 .taken)) (λ c. made (c .before) false (c .if1 .left)))

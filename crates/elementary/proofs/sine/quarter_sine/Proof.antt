@@ -13,9 +13,7 @@ raw c = raw-is _ _ (c .before .horner .result) (c .before .before .mulhi .result
 returns : tie.Need-returns
 returns c = under-cap _ _ (raw (c .before)) (c .if1 .taken)
 
-returns-2 : tie.Need-returns-2
-returns-2 c = at-cap _ _ (raw (c .before)) (c .if1 .left)
-
 pub quarter-sine-spec : {M : Type 1} → statement M
 quarter-sine-spec =
-    tie.close (tie.spec (λ c. search needs) (λ c κs. search needs) (λ c κs. search needs) (λ c κs. search needs) returns returns-2)
+    tie.close (tie.spec (λ c. search needs) (λ c κs. search needs) (λ c κs. search needs) (λ c κs. search needs) returns
+    (λ c. at-cap _ _ (raw (c .before)) (c .if1 .left)))

@@ -51,9 +51,6 @@ loop-again c =
           (c .clamped .ensures ∙ ap (λ (x : Float). cond (stands (a .present .now) (l .s)) (clampToZero x) zero64) old),
     )
 
-same-length : tie.Need-same-length Inv-loop μ-loop
-same-length c = c .before .loop .inv .5
-
 returns : tie.Need-returns Inv-loop μ-loop
 returns c =
     let l = c .before .loop in let i = l .inv in let a = c .before .before .before .before .args in
@@ -63,4 +60,5 @@ returns c =
 pub clamp-rows-spec : {M : Type 1} → statement M
 clamp-rows-spec =
     tie.close (tie.spec Inv-loop μ-loop (λ c. search needs) loop-holds (λ c. search needs) (λ c. search needs) (λ c. search needs)
-    (λ c κs. search needs) (λ c. search needs) (λ c. search needs) (λ c. search needs) (λ c. search needs) loop-again same-length returns)
+    (λ c κs. search needs) (λ c. search needs) (λ c. search needs) (λ c. search needs) (λ c. search needs) loop-again
+    (λ c. c .before .loop .inv .5) returns)

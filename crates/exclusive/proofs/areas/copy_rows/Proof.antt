@@ -39,9 +39,6 @@ loop-again c =
           ∙ write-next (λ S. getD (a .areas .now) S nan) (l .s) (a .exclusives .now) v nan (omega (arith, i .1, i .3)) refl,
     )
 
-same-length : tie.Need-same-length Inv-loop μ-loop
-same-length c = c .before .loop .inv .5
-
 returns : tie.Need-returns Inv-loop μ-loop
 returns c =
     let l = c .before .loop in let i = l .inv in let a = c .before .before .args in
@@ -51,4 +48,4 @@ returns c =
 pub copy-rows-spec : {M : Type 1} → statement M
 copy-rows-spec =
     tie.close (tie.spec Inv-loop μ-loop (λ c. search needs) loop-holds (λ c. search needs) (λ c. search needs) (λ c. search needs)
-    (λ c. search needs) (λ c. search needs) (λ c. search needs) loop-again same-length returns)
+    (λ c. search needs) (λ c. search needs) (λ c. search needs) loop-again (λ c. c .before .loop .inv .5) returns)

@@ -111,18 +111,6 @@ module _ (c : tie.In-loop2 Inv-loop2 μ-loop2 Inv-loop μ-loop) where
   few : S < 1024
   few = row-lt _ S (c .before .loop2 .inv .0) small
 
-mul-areas : tie.Need-mul-areas Inv-loop2 μ-loop2 Inv-loop μ-loop
-mul-areas c = omega (arith, few c)
-
-slice-read-areas : tie.Need-slice-read-areas Inv-loop2 μ-loop2 Inv-loop μ-loop
-slice-read-areas c = inside (c .before)
-
-mul-areas-3 : tie.Need-mul-areas-3 Inv-loop2 μ-loop2 Inv-loop μ-loop
-mul-areas-3 c = omega (arith, few (c .before))
-
-slice-write-areas : tie.Need-slice-write-areas Inv-loop2 μ-loop2 Inv-loop μ-loop
-slice-write-areas c = inside (c .before)
-
 loop2-again : tie.Need-loop2-again Inv-loop2 μ-loop2 Inv-loop μ-loop
 loop2-again c =
     let t = c .before in let m = t .before .before .before .before .before .before .before .before in let l = t .before .loop2 in let j = l .inv in
@@ -153,5 +141,6 @@ returns c =
 pub subtract-levels-spec : {M : Type 1} → statement M
 subtract-levels-spec =
     tie.close (tie.spec Inv-loop2 μ-loop2 Inv-loop μ-loop (λ c κs. search needs) loop-holds (λ c κs. search needs) sum-level-requires
-    loop2-holds (λ c. search needs) loop-again (λ c. search needs) (λ c. search needs) (λ c. search needs) mul-areas slice-read-areas
-    (λ c. search needs) (λ c. search needs) mul-areas-3 slice-write-areas (λ c. search needs) loop2-again (λ c. search needs) returns)
+    loop2-holds (λ c. search needs) loop-again (λ c. search needs) (λ c. search needs) (λ c. search needs) (λ c. omega (arith, few c))
+    (λ c. inside (c .before)) (λ c. search needs) (λ c. search needs) (λ c. omega (arith, few (c .before))) (λ c. inside (c .before))
+    (λ c. search needs) loop2-again (λ c. search needs) returns)

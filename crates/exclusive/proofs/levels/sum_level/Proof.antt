@@ -39,12 +39,6 @@ inside c =
     subst (λ (t : ℕ). t < length (a .areas .now)) (getD-take (a .count) (a .order .now) (l .j) 0 (c .loop-test .taken))
     (every-at (λ T. T < length (a .areas .now)) (take (a .count) (a .order .now)) (l .j) 0 (omega (arith, i .5)) (i .4))
 
-mul-add-to-level : tie.Need-mul-add-to-level Inv-loop μ-loop
-mul-add-to-level c = omega (arith, inside (c .before))
-
-shared-slice-read-add-to-level : tie.Need-shared-slice-read-add-to-level Inv-loop μ-loop
-shared-slice-read-add-to-level c = inside (c .before .before)
-
 add-to-level-requires : tie.Need-add-to-level-requires Inv-loop μ-loop
 add-to-level-requires c κs =
     let i = c .before .before .before .before .loop .inv in (omega (arith, i .0, i .1), i .2, i .3)
@@ -71,5 +65,5 @@ returns c =
 
 pub sum-level-spec : {M : Type 1} → statement M
 sum-level-spec =
-    tie.close (tie.spec Inv-loop μ-loop loop-holds (λ c. search needs) (λ c. search needs) mul-add-to-level shared-slice-read-add-to-level
-    add-to-level-requires (λ c. search needs) (λ c. search needs) loop-again returns)
+    tie.close (tie.spec Inv-loop μ-loop loop-holds (λ c. search needs) (λ c. search needs) (λ c. omega (arith, inside (c .before)))
+    (λ c. inside (c .before .before)) add-to-level-requires (λ c. search needs) (λ c. search needs) loop-again returns)

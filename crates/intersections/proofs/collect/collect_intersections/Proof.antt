@@ -1,73 +1,97 @@
--- `collect::collect_intersections`: the points of the heads below i are pushed, and the count is exact (`Pushed`).
+-- `collect::collect_intersections`: held are the points of the heads below i (Rows), of head i with the heads below j (Row), and the
+-- first k points of heads i and j (Met).
 use borrow.Author.Needs.{needs}
-use mathlib.Core.Path.{_≡_, refl, ap, _∙_}
-use mathlib.Core.List.{List}
-use Prim.Native.Nat.{ℕ, _-_, _≤_}
+use mathlib.Core.Path.{_≡_, _∙_}
+use mathlib.Core.Logic.{⊎-elim}
+use Prim.Native.Nat.{_-_}
 use native.Mathlib.Omega.{arith}
-use lib.ListN.{length, take, length-take}
-use Rattle.intersections.specs.declared.points.Intersections.{Intersections}
-use Rattle.geometry.specs.declared.circle.Circle.{Circle}
+use lib.ListN.{length}
 use Rattle.lists.specs.Lists.{upTo}
-use Rattle.intersections.specs.Points.{laterPoints}
-use Rattle.intersections.specs.Counted.{pointList}
-use Rattle.intersections.proofs.Collecting.{rows-on, rows-end}
+use Rattle.lists.proofs.Arrays.{length-of-values}
+use Rattle.intersections.proofs.Collecting.{Rows, Row, Met, held-none, row-start, row-end, rows-end}
+use Rattle.intersections.proofs.Collecting.{met-start, met-one, met-full, met-end}
 use Rattle.intersections.proofs.collect.collect_intersections.Statement.{statement}
 use Rattle.intersections.proofs.collect.collect_intersections.Tie as tie
 
--- The meeting points of each head below i with the heads after it are pushed.
-record Pushed (circles : List Circle) (n i : ℕ) (list : Intersections) : Type 0 where
-  places : length circles ≡ 10
-  few : i ≤ 10
-  within : i ≤ n
-  points : pointList list ≡ take 90 (upTo (laterPoints (take n circles)) i)
-  exact : list .n ≡ length (pointList list)
+abbrev Inv-loop3 : tie.InvT-loop3
+Inv-loop3 n-sets circles n all₀ count₀ i first j pair met k₀ all count k = Met circles n i j (met .all) (met .n) k all count
+
+abbrev μ-loop3 : tie.MeasureT-loop3
+μ-loop3 n-sets circles n all₀ count₀ i first j pair met k₀ all count k = met .n - k
+
+abbrev Inv-loop2 : tie.InvT-loop2
+Inv-loop2 n-sets circles n all₀ count₀ i first j₀ all count j = Row circles n i j all count
+
+abbrev μ-loop2 : tie.MeasureT-loop2
+μ-loop2 n-sets circles n all₀ count₀ i first j₀ all count j = n - j
 
 abbrev Inv-loop : tie.InvT-loop
-Inv-loop circles n-sets list₀ i₀ list i = Pushed circles n-sets i list
+Inv-loop n-sets circles n all₀ count₀ i₀ all count i = Rows circles n i all count
 
 abbrev μ-loop : tie.MeasureT-loop
-μ-loop circles n-sets list₀ i₀ list i = 10 - i
+μ-loop n-sets circles n all₀ count₀ i₀ all count i = n - i
 
 -- there are ten circles
-ten : (c : tie.Start Inv-loop μ-loop) → length (c .args .circles) ≡ 10
+ten : (c : tie.Start Inv-loop3 μ-loop3 Inv-loop2 μ-loop2 Inv-loop μ-loop) → length (c .args .t1) ≡ 10
 ten c = search needs
 
-loop-holds : tie.Need-loop-holds Inv-loop μ-loop
+loop-holds : tie.Need-loop-holds Inv-loop3 μ-loop3 Inv-loop2 μ-loop2 Inv-loop μ-loop
 unfolding upTo
-loop-holds c = record { places = ten (c .before); few = omega arith; within = omega arith; points = refl; exact = refl }
-
-returns : tie.Need-returns Inv-loop μ-loop
-returns c = let l = c .before .before .loop in let a = c .before .before .before .before .args in
-    let many = length-take (a .n-sets) (a .circles) in
-    let listed = rows-end (take (a .n-sets) (a .circles)) (l .i) (pointList (l .list)) (omega (arith, many)) (omega (arith, many)) (l .inv .points) in
-    (listed, l .inv .exact ∙ ap length listed)
-
-push-later-requires : tie.Need-push-later-requires Inv-loop μ-loop
-push-later-requires c κs = let a = c .before .before .before .before .args in omega (arith, length-take (a .n-sets) (a .circles))
-
-add-i : tie.Need-add-i Inv-loop μ-loop
-add-i c = omega arith
-
-loop-less : tie.Need-loop-less Inv-loop μ-loop
-loop-less c = omega arith
-
-loop-again : tie.Need-loop-again Inv-loop μ-loop
-loop-again c = let l = c .before .before .before .loop in let a = c .before .before .before .before .before .args in
-    let more = c .push-later in
+loop-holds c =
     record {
-      places = l .inv .places;
-      few = omega arith;
+      ten = ten (c .before .before);
+      most = omega (arith, c .before .at-most-ten .ensures);
       within = omega arith;
-      points = rows-on 90 (take (a .n-sets) (a .circles)) (l .i) (pointList (l .list)) (pointList (more .result)) (l .inv .points) (more .ensures .0);
-      exact = more .ensures .1 (l .inv .exact);
+      held = held-none _;
     }
 
-returns-2 : tie.Need-returns-2 Inv-loop μ-loop
-returns-2 c = let l = c .before .loop in let a = c .before .before .before .args in
-    let many = length-take (a .n-sets) (a .circles) in
-    let listed = rows-end (take (a .n-sets) (a .circles)) (l .i) (pointList (l .list)) (omega (arith, many)) (omega (arith, many)) (l .inv .points) in
-    (listed, l .inv .exact ∙ ap length listed)
+loop2-holds : tie.Need-loop2-holds Inv-loop3 μ-loop3 Inv-loop2 μ-loop2 Inv-loop μ-loop
+loop2-holds c = row-start (c .before .before .loop .inv) (c .before .loop-test .taken)
+
+-- a pair's points have two places
+two : (c : tie.After-meeting-points Inv-loop3 μ-loop3 Inv-loop2 μ-loop2 Inv-loop μ-loop) → length (c .meeting-points .result .all) ≡ 2
+two c = search length-of-values
+
+loop3-holds : tie.Need-loop3-holds Inv-loop3 μ-loop3 Inv-loop2 μ-loop2 Inv-loop μ-loop
+loop3-holds c =
+    let row = c .before .before .before in
+    met-start (row .before .loop2 .inv) (row .loop2-test .taken) (two c) (c .meeting-points .ensures .1)
+
+-- the parents of a pair are among the first n
+with-adopters-requires : tie.Need-with-adopters-requires Inv-loop3 μ-loop3 Inv-loop2 μ-loop2 Inv-loop μ-loop
+with-adopters-requires c κs =
+    let m = c .before .before .loop3 .inv in
+    let made = c .before .before .before .before .new2 .ensures in
+    rw (made .0, made .1) (m .most, (omega (arith, m .after, m .below), omega (arith, m .after, m .below)))
+
+loop3-again : tie.Need-loop3-again Inv-loop3 μ-loop3 Inv-loop2 μ-loop2 Inv-loop μ-loop
+loop3-again c =
+    let test = c .before .before .before in
+    let made = test .before .before .before .new2 .ensures in
+    let m = test .before .loop3 .inv in
+    let this = rw (made .0, made .1) at (c .before .with-adopters .ensures) in
+    ⊎-elim
+    (λ w. rw (w .1, w .2) (met-one m (test .loop3-test .taken) this (w .0 .taken)))
+    (λ w. rw (w .1, w .2) (met-full m (test .loop3-test .taken) this (w .0 .left)))
+    (c .if1 .came)
+
+loop2-again : tie.Need-loop2-again Inv-loop3 μ-loop3 Inv-loop2 μ-loop2 Inv-loop μ-loop
+loop2-again c =
+    let pair = c .before .before in
+    met-end (c .before .loop3 .inv) (pair .meeting-points .ensures .0 ∙ pair .before .new2 .ensures .2) (c .loop3-test .left)
+
+loop-again : tie.Need-loop-again Inv-loop3 μ-loop3 Inv-loop2 μ-loop2 Inv-loop μ-loop
+loop-again c = row-end (c .before .loop2 .inv) (c .loop2-test .left)
+
+returns : tie.Need-returns Inv-loop3 μ-loop3 Inv-loop2 μ-loop2 Inv-loop μ-loop
+returns c =
+    let s = c .before .before .before in
+    rows-end (s .before .args .n-sets) (s .at-most-ten .ensures) (c .before .loop .inv) (c .loop-test .left)
 
 pub collect-intersections-spec : {M : Type 1} → statement M
 collect-intersections-spec =
-    tie.close (tie.spec Inv-loop μ-loop (λ c κs. search needs) loop-holds returns push-later-requires add-i loop-less loop-again returns-2)
+    tie.close (tie.spec Inv-loop3 μ-loop3 Inv-loop2 μ-loop2 Inv-loop μ-loop (λ c κs. search needs) (λ c κs. search needs) loop-holds
+    (λ c. search needs) (λ c. search needs) (λ c. search needs) loop2-holds (λ c. search needs) (λ c. search needs) (λ c κs. search needs)
+    (λ c κs. search needs) loop3-holds (λ c. search needs) (λ c. search needs) with-adopters-requires (λ c. search needs)
+    (λ c. search needs) (λ c. search needs) (λ c. search needs) (λ c. search needs) loop3-again (λ c. search needs) (λ c. search needs)
+    loop2-again (λ c. search needs) (λ c. search needs) loop-again returns)

@@ -27,26 +27,8 @@ loop-holds : tie.Need-loop-holds Inv-loop μ-loop
 loop-holds c =
     record { same = refl; added = record { long = search length-of-values; count = refl; most = omega arith; within = omega arith; sum = refl } }
 
-same-length : tie.Need-same-length Inv-loop μ-loop
-same-length c = c .before .before .loop .inv .same
-
 returns : tie.Need-returns Inv-loop μ-loop
 returns c = arcs-by-count (c .before .before .loop .inv .added) (omega arith)
-
-mul-add-slopes : tie.Need-mul-add-slopes Inv-loop μ-loop
-mul-add-slopes c = omega arith
-
-element-copy-out-add-slopes : tie.Need-element-copy-out-add-slopes Inv-loop μ-loop
-element-copy-out-add-slopes c = omega arith
-
-add-slopes-requires : tie.Need-add-slopes-requires Inv-loop μ-loop
-add-slopes-requires c κs = omega arith
-
-add-i : tie.Need-add-i Inv-loop μ-loop
-add-i c = omega arith
-
-loop-less : tie.Need-loop-less Inv-loop μ-loop
-loop-less c = omega arith
 
 loop-again : tie.Need-loop-again Inv-loop μ-loop
 loop-again c =
@@ -54,13 +36,10 @@ loop-again c =
     let slopes = c .before .before .add-slopes in
     record { same = slopes .kept .0 ∙ l .inv .same; added = arcs-next (l .inv .added) _ (omega arith) (omega arith) (slopes .ensures) }
 
-same-length-2 : tie.Need-same-length-2 Inv-loop μ-loop
-same-length-2 c = c .before .loop .inv .same
-
 returns-2 : tie.Need-returns-2 Inv-loop μ-loop
 returns-2 c = arcs-by-room (c .before .loop .inv .added) (omega arith)
 
 pub accumulate-region-overlap-gradient-spec : {M : Type 1} → statement M
 accumulate-region-overlap-gradient-spec =
-    tie.close (tie.spec Inv-loop μ-loop loop-holds same-length returns mul-add-slopes element-copy-out-add-slopes add-slopes-requires add-i
-    loop-less loop-again same-length-2 returns-2)
+    tie.close (tie.spec Inv-loop μ-loop loop-holds (λ c. c .before .before .loop .inv .same) returns (λ c. omega arith) (λ c. omega arith)
+    (λ c κs. omega arith) (λ c. omega arith) (λ c. omega arith) loop-again (λ c. c .before .loop .inv .same) returns-2)

@@ -30,24 +30,6 @@ loop-holds c =
 returns : tie.Need-returns Inv-loop μ-loop
 returns c = let inv = c .before .before .loop .inv .2 in (copied-by-count inv (omega arith), copied-many inv)
 
-mul-numbered : tie.Need-mul-numbered Inv-loop μ-loop
-mul-numbered c = omega arith
-
-element-copy-out-numbered : tie.Need-element-copy-out-numbered Inv-loop μ-loop
-element-copy-out-numbered c = omega arith
-
-mul-all : tie.Need-mul-all Inv-loop μ-loop
-mul-all c = omega arith
-
-array-set-from-all : tie.Need-array-set-from-all Inv-loop μ-loop
-array-set-from-all c = omega arith
-
-add-i : tie.Need-add-i Inv-loop μ-loop
-add-i c = omega arith
-
-loop-less : tie.Need-loop-less Inv-loop μ-loop
-loop-less c = omega arith
-
 loop-again : tie.Need-loop-again Inv-loop μ-loop
 loop-again c =
     let l = c .before .before .before .before .loop in
@@ -58,5 +40,5 @@ returns-2 c = let inv = c .before .loop .inv .2 in (copied-by-room inv (omega ar
 
 pub numbered-arcs-spec : {M : Type 1} → statement M
 numbered-arcs-spec =
-    tie.close (tie.spec Inv-loop μ-loop (λ c. search needs) loop-holds returns mul-numbered element-copy-out-numbered
-    (λ c κs. search needs) mul-all array-set-from-all add-i loop-less loop-again returns-2)
+    tie.close (tie.spec Inv-loop μ-loop (λ c. search needs) loop-holds returns (λ c. omega arith) (λ c. omega arith) (λ c κs. search needs)
+    (λ c. omega arith) (λ c. omega arith) (λ c. omega arith) (λ c. omega arith) loop-again returns-2)

@@ -71,9 +71,6 @@ loop-again c =
       ap length (p .ensures .0) ∙ length-put (l .out) _ _ ∙ i .6,
     )
 
-same-length : tie.Need-same-length Inv-loop μ-loop
-same-length c = c .before .loop .inv .6
-
 returns-2 : tie.Need-returns-2 Inv-loop μ-loop
 returns-2 c =
     let l = c .before .loop in
@@ -86,4 +83,4 @@ returns-2 c =
 pub print-rows-spec : {M : Type 1} → statement M
 print-rows-spec =
     tie.close (tie.spec Inv-loop μ-loop returns (λ c. search needs) loop-holds (λ c. search needs) put-level-requires (λ c. search needs)
-    (λ c. search needs) loop-again same-length returns-2)
+    (λ c. search needs) loop-again (λ c. c .before .loop .inv .6) returns-2)

@@ -54,9 +54,6 @@ loop-again c =
     ))
     (c .if1 .came)
 
-same-length : tie.Need-same-length Inv-loop μ-loop
-same-length c = c .before .loop .inv .4
-
 returns : tie.Need-returns Inv-loop μ-loop
 returns c =
     let l = c .before .loop in
@@ -68,4 +65,4 @@ returns c =
 pub put-level-spec : {M : Type 1} → statement M
 put-level-spec =
     tie.close (tie.spec Inv-loop μ-loop loop-holds (λ c κs. search needs) (λ c κs. search needs) (λ c κs. search needs) (λ c. search needs)
-    (λ c. search needs) loop-again same-length returns)
+    (λ c. search needs) loop-again (λ c. c .before .loop .inv .4) returns)

@@ -4,11 +4,7 @@ use borrow.Author.Needs.{needs}
 use Rattle.printing.proofs.text.glyph.Statement.{statement}
 use Rattle.printing.proofs.text.glyph.Tie as tie
 
-returns : tie.Need-returns
-returns c = glyph-low _ (c .if1 .taken)
-
-returns-2 : tie.Need-returns-2
-returns-2 c = glyph-high _ (c .if1 .left)
-
 pub glyph-spec : {M : Type 1} → statement M
-glyph-spec = tie.close (tie.spec (λ c. search needs) (λ c. search needs) (λ c. search needs) (λ c. search needs) returns returns-2)
+glyph-spec =
+    tie.close (tie.spec (λ c. search needs) (λ c. search needs) (λ c. search needs) (λ c. search needs) (λ c. glyph-low _ (c .if1 .taken))
+    (λ c. glyph-high _ (c .if1 .left)))

@@ -50,9 +50,6 @@ loop-again c =
       ap length (p .ensures) ∙ length-set (l .out) _ _ ∙ l .inv .4,
     )
 
-same-length : tie.Need-same-length Inv-loop μ-loop
-same-length c = c .before .loop .inv .4
-
 returns : tie.Need-returns Inv-loop μ-loop
 returns c =
     let l = c .before .loop in
@@ -63,4 +60,4 @@ returns c =
 pub put-digits-spec : {M : Type 1} → statement M
 put-digits-spec =
     tie.close (tie.spec Inv-loop μ-loop loop-holds div-glyph (λ c. search needs) glyph-requires (λ c κs. search needs) (λ c. search needs)
-    (λ c. search needs) (λ c. search needs) (λ c. search needs) loop-again same-length returns)
+    (λ c. search needs) (λ c. search needs) (λ c. search needs) loop-again (λ c. c .before .loop .inv .4) returns)

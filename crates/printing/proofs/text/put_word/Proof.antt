@@ -29,9 +29,6 @@ loop-again c =
       ap length (p .ensures) ∙ length-set (l .out) _ _ ∙ l .inv .2,
     )
 
-same-length : tie.Need-same-length Inv-loop μ-loop
-same-length c = c .before .loop .inv .2
-
 returns : tie.Need-returns Inv-loop μ-loop
 returns c =
     let l = c .before .loop in
@@ -42,4 +39,4 @@ returns c =
 pub put-word-spec : {M : Type 1} → statement M
 put-word-spec =
     tie.close (tie.spec Inv-loop μ-loop loop-holds (λ c. search needs) (λ c. search needs) (λ c κs. search needs) (λ c. search needs)
-    (λ c. search needs) loop-again (λ c. search needs) same-length returns)
+    (λ c. search needs) loop-again (λ c. search needs) (λ c. c .before .loop .inv .2) returns)

@@ -25,9 +25,6 @@ abbrev μ-loop : tie.MeasureT-loop
 μ-loop bytes presence₀ rows₀ exclusive-presence₀ exclusives₀ reader₀ plan₀ i₀ presence rows exclusive-presence exclusives reader plan i =
     length bytes - i
 
-loop-holds : tie.Need-loop-holds Inv-loop μ-loop
-loop-holds c = (omega arith, refl, refl, refl, refl, refl)
-
 add-i : tie.Need-add-i Inv-loop μ-loop
 add-i c =
     let at-hand = c .before .before .before .before .before .before .before .before in
@@ -58,18 +55,6 @@ loop-again c =
       h .kept .1 .1 .1 .1 .1 .1 .0 ∙ l .inv .5,
     )
 
-same-length : tie.Need-same-length Inv-loop μ-loop
-same-length c = c .before .loop .inv .2
-
-same-length-2 : tie.Need-same-length-2 Inv-loop μ-loop
-same-length-2 c = c .before .loop .inv .3
-
-same-length-3 : tie.Need-same-length-3 Inv-loop μ-loop
-same-length-3 c = c .before .loop .inv .4
-
-same-length-4 : tie.Need-same-length-4 Inv-loop μ-loop
-same-length-4 c = c .before .loop .inv .5
-
 returns : tie.Need-returns Inv-loop μ-loop
 returns c =
     let l = c .before .loop in
@@ -81,5 +66,6 @@ returns c =
 
 pub feed-spec : {M : Type 1} → statement M
 feed-spec =
-    tie.close (tie.spec Inv-loop μ-loop loop-holds (λ c. search needs) (λ c κs. search needs) (λ c κs. search needs) add-i
-    (λ c. search needs) loop-again same-length same-length-2 same-length-3 same-length-4 returns)
+    tie.close (tie.spec Inv-loop μ-loop (λ c. (omega arith, refl, refl, refl, refl, refl)) (λ c. search needs) (λ c κs. search needs)
+    (λ c κs. search needs) add-i (λ c. search needs) loop-again (λ c. c .before .loop .inv .2) (λ c. c .before .loop .inv .3)
+    (λ c. c .before .loop .inv .4) (λ c. c .before .loop .inv .5) returns)

@@ -12,19 +12,7 @@ within s width k h g l = let below = digits-lt h l in omega arith
 below : (c : tie.Then3) → let a = c .before .before .before .args in a .s * a .width + a .k < 34816
 below c = within _ _ _ (c .if3 .taken) (c .before .before .if1 .taken) (c .before .if2 .taken)
 
-mul-result : tie.Need-mul-result
-mul-result c = search (needs, below c)
-
-add-result : tie.Need-add-result
-add-result c = search (needs, below c)
-
-mul-result-2 : tie.Need-mul-result-2
-mul-result-2 c = search (needs, below c)
-
-element-copy-out-result : tie.Need-element-copy-out-result
-element-copy-out-result c = search (needs, below c)
-
 pub entry-spec : {M : Type 1} → statement M
 entry-spec =
-    tie.close (tie.spec mul-result add-result mul-result-2 element-copy-out-result (λ c. search needs) (λ c. search needs)
-    (λ c. search needs) (λ c. search needs))
+    tie.close (tie.spec (λ c. search (needs, below c)) (λ c. search (needs, below c)) (λ c. search (needs, below c))
+    (λ c. search (needs, below c)) (λ c. search needs) (λ c. search needs) (λ c. search needs) (λ c. search needs))

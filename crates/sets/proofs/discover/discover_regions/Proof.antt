@@ -13,50 +13,63 @@ use Rattle.sets.specs.Marked.{marked}
 use Rattle.masks.specs.Presence.{byte}
 use Rattle.sets.specs.Sets.{isSet, isPair}
 use Rattle.sets.specs.Regions.{isOneHead, isAdoptersOf, meetsAt, containsAt}
+use Rattle.sets.specs.Steps.{inMaskOf}
+use Rattle.sets.proofs.Marks.{marked-same}
+use Rattle.sets.proofs.Pairing.{containing-in, pairs-agree}
 use Rattle.sets.proofs.Assembled.{assembled}
 use Rattle.sets.proofs.Singles.{one-head-beyond}
 use Rattle.sets.proofs.discover.discover_regions.Statement.{statement}
 use borrow.Author.Needs.{needs}
 use Rattle.sets.proofs.discover.discover_regions.Tie as tie
 
-add-singles-requires : tie.Need-add-singles-requires
-add-singles-requires c κs = omega (arith, c .at-most-ten .ensures)
+-- at most ten heads
+few : (c : tie.After-at-most-ten) → c .at-most-ten .result ≤ 10
+few c = omega (arith, c .at-most-ten .ensures)
 
-add-adopters-requires : tie.Need-add-adopters-requires
-add-adopters-requires c κs = omega (arith, c .before .at-most-ten .ensures)
+abbrev counted : tie.After-add-pairs → tie.After-at-most-ten
+counted c = c .before .before .before .before .before .before .before
 
 add-pairs-requires : tie.Need-add-pairs-requires
-add-pairs-requires c κs = omega (arith, c .before .before .at-most-ten .ensures)
-
-add-parts-requires : tie.Need-add-parts-requires
-add-parts-requires c κs = omega (arith, c .before .before .before .at-most-ten .ensures)
-
-overlapping-heads-requires : tie.Need-overlapping-heads-requires
-overlapping-heads-requires c κs = omega (arith, c .before .before .before .before .before .at-most-ten .ensures)
-
-containing-heads-requires : tie.Need-containing-heads-requires
-containing-heads-requires c κs = omega (arith, c .before .before .before .before .before .before .at-most-ten .ensures)
+add-pairs-requires c κs = few (c .before .before .before .before .before .before)
 
 levels-requires : tie.Need-levels-requires
-levels-requires c κs = omega (arith, c .before .before .before .before .before .before .before .before .at-most-ten .ensures)
+levels-requires c κs = few (counted (c .before .before .before .before .before .before))
 
 joined-bytes-requires : tie.Need-joined-bytes-requires
-joined-bytes-requires c κs = omega (arith, c .before .before .before .before .before .before .before .before .before .before .at-most-ten .ensures)
+joined-bytes-requires c κs = few (counted (c .before .before .before .before .before .before .before .before))
 
 -- there are ten circles
 ten-circles : (c : tie.Start) → length (c .args .circles) ≡ 10
 ten-circles c = search needs
 
+-- the pairs from the masks are those of the circles and points
+pairs-are : (c : tie.After-add-pairs) → let a = counted c .before .args in let n = counted c .at-most-ten .result in c .add-pairs .result
+    ≡ marked (isPair n (meetsAt (pointList (a .points))) (containsAt (take n (a .circles))))
+    (c .before .before .before .before .before .add-adopters .result)
+pairs-are c =
+    let con = c .before .before .before in
+    let mee = con .before in
+    let a = counted c .before .args in
+    let n = counted c .at-most-ten .result in
+    let ten : n ≤ 10 = few (counted c) in
+    c .add-pairs .ensures
+    ∙ marked-same (isPair n (inMaskOf (mee .meeting-heads .result)) (λ i j. inMaskOf (con .containing-heads .result) j i))
+    (isPair n (meetsAt (pointList (a .points))) (containsAt (take n (a .circles)))) (mee .before .add-adopters .result)
+    (λ S h. pairs-agree n (inMaskOf (mee .meeting-heads .result)) (meetsAt (pointList (a .points)))
+    (λ i j. inMaskOf (con .containing-heads .result) j i) (containsAt (take n (a .circles)))
+    (λ i j k l. mee .meeting-heads .ensures i j (omega (arith, ten)) (omega (arith, ten)))
+    (λ i j k l. ap (λ (t : List ℕ). inMaskOf t j i) (con .containing-heads .ensures)
+    ∙ containing-in n (containsAt (take n (a .circles))) i j k l) S)
+
 returns : tie.Need-returns
 returns c =
     let lev = c .before .before in
-    let con = lev .before .before in
-    let ove = con .before in
+    let ove = lev .before .before .before .before in
     let par = ove .before .before in
     let pai = par .before in
-    let ado = pai .before in
-    let sin = ado .before in
-    let ten = sin .before in
+    let con = pai .before .before .before in
+    let ado = con .before .before in
+    let ten = ado .before .before in
     let a = ten .before .args in
     let n = ten .at-most-ten .result in
     let e = ten .at-most-ten .ensures in
@@ -64,8 +77,8 @@ returns c =
     (λ S h. one-head-beyond n S h)
     (pai .add-pairs .result) (par .add-parts .result) (ove .overlapping-heads .result) (con .containing-heads .result) (lev .levels .result)
     (c .joined-bytes .result)
-    (pai .add-pairs .ensures ∙ ap (marked (isPair n (meetsAt (pointList (a .points))) (containsAt (take n (a .circles)))))
-    (ado .add-adopters .ensures ∙ ap (marked _) (sin .add-singles .ensures)))
+    (pairs-are pai ∙ ap (marked (isPair n (meetsAt (pointList (a .points))) (containsAt (take n (a .circles)))))
+    (ado .add-adopters .ensures ∙ ap (marked _) (ado .before .add-singles .ensures)))
     (par .add-parts .ensures) (ove .overlapping-heads .ensures) (con .containing-heads .ensures) (lev .levels .ensures) (c .joined-bytes .ensures)
     ∙ ap₂ (λ (cs : List Circle) (m : ℕ). written
     (λ S. byte (isSet m (isOneHead m) (isAdoptersOf (pointList (a .points))) (meetsAt (pointList (a .points))) (containsAt cs) S)) (2 ^ m) (replicate 1024 0))
@@ -74,5 +87,6 @@ returns c =
 
 pub discover-regions-spec : {M : Type 1} → statement M
 discover-regions-spec =
-    tie.close (tie.spec (λ c κs. search needs) add-singles-requires add-adopters-requires add-pairs-requires add-parts-requires
-    overlapping-heads-requires containing-heads-requires levels-requires joined-bytes-requires returns)
+    tie.close (tie.spec (λ c κs. search needs) (λ c κs. few c) (λ c κs. few (c .before)) (λ c κs. search needs)
+    (λ c κs. few (c .before .before .before)) add-pairs-requires (λ c κs. few (counted c)) (λ c κs. few (counted (c .before .before)))
+    levels-requires joined-bytes-requires returns)

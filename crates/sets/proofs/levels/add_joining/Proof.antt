@@ -1,4 +1,4 @@
--- `levels::add_joining`: s with each head below i that it lacks is marked, where it joins.
+-- `levels::add_joining`: s with each head below i that it lacks is marked, where it joins; where 1 stands already, a mark changes nothing.
 use mathlib.Core.Path.{_≡_, refl, sym, ap, ap₂, _∙_, subst}
 use mathlib.Core.Bool.{Bool, true, false, not, _&&_}
 use mathlib.Core.List.{List}
@@ -16,7 +16,7 @@ use Rattle.sets.specs.Steps.{joins}
 use Rattle.lists.specs.Some.{some}
 use Rattle.lists.proofs.Somes.{some-zero}
 use Rattle.sets.proofs.Masks.{with-at, with-lt, has-at, lacks-at}
-use Rattle.sets.proofs.Marks.{marked-none, mark-if, mark-not}
+use Rattle.sets.proofs.Marks.{marked-none, mark-if, mark-not, mark-had}
 use Rattle.sets.proofs.Taken.{and-no}
 use Rattle.sets.proofs.levels.add_joining.Statement.{statement}
 use borrow.Author.Needs.{needs}
@@ -28,7 +28,8 @@ test found overlapping containing s n k =
 
 abbrev Inv-loop : tie.InvT-loop
 Inv-loop level₀ found overlapping containing s n i₀ level i =
-    (n ≤ 10) × (s < 2 ^ n) × (i ≤ n) × (level ≡ marked (λ T. some i (λ k. eqb T (withHead n s k) && test found overlapping containing s n k)) level₀)
+    (n ≤ 10) × (s < 2 ^ n) × (i ≤ n)
+    × (level ≡ marked (λ T. some i (λ k. eqb T (withHead n s k) && test found overlapping containing s n k)) level₀)
 
 abbrev μ-loop : tie.MeasureT-loop
 μ-loop level₀ found overlapping containing s n i₀ level i = n - i
@@ -36,17 +37,19 @@ abbrev μ-loop : tie.MeasureT-loop
 loop-holds : tie.Need-loop-holds Inv-loop μ-loop
 loop-holds c = let a = c .args in (c .pre .0, c .pre .1, omega arith, marked-none _ (a .level .now) (λ S k. some-zero _))
 
-joins-requires : tie.Need-joins-requires Inv-loop μ-loop
-joins-requires c κs =
+element-copy-out-if2 : tie.Need-element-copy-out-if2 Inv-loop μ-loop
+element-copy-out-if2 c =
     let l = c .before .before .loop in
     let a = c .before .before .before .args in
-    (l .inv .0, subst (λ (m : ℕ). m < 2 ^ a .n) (sym (with-at (a .n) (a .s) (l .i) (l .inv .0) (l .inv .1) (omega arith))) (gather-lt (a .n) _))
-
-element-write-level : tie.Need-element-write-level Inv-loop μ-loop
-element-write-level c =
-    let l = c .before .before .before .before .loop in
-    let a = c .before .before .before .before .before .args in
     with-lt (a .n) (a .s) (l .i) (l .inv .0) (l .inv .1) (omega arith)
+
+joins-requires : tie.Need-joins-requires Inv-loop μ-loop
+joins-requires c κs =
+    let l = c .before .before .before .before .loop in
+    let a = c .before .before .before .before .before .args in (
+      l .inv .0,
+      subst (λ (m : ℕ). m < 2 ^ a .n) (sym (with-at (a .n) (a .s) (l .i) (l .inv .0) (l .inv .1) (omega arith))) (gather-lt (a .n) _),
+    )
 
 loop-again : tie.Need-loop-again Inv-loop μ-loop
 loop-again c =
@@ -54,22 +57,27 @@ loop-again c =
     let a = c .before .before .before .args in
     let h : l .i < a .n = omega arith in
     let v : ℕ → ℕ = withHead (a .n) (a .s) in
-    let t : ℕ → Bool = test (a .found .now) (a .overlapping) (a .containing) (a .s) (a .n) in
-    let free : ℕ → Bool = joins (a .n) (stands (a .found .now)) (λ i. getD (a .overlapping) i 0) (λ i. getD (a .containing) i 0) in
+    let t : ℕ → Bool = test (a .found .now) (a .overlapping .now) (a .containing .now) (a .s) (a .n) in
+    let free : ℕ → Bool =
+    joins (a .n) (stands (a .found .now)) (λ i. getD (a .overlapping .now) i 0) (λ i. getD (a .containing .now) i 0) in
+    let before : List ℕ = marked (λ T. some (l .i) (λ k. eqb T (v k) && t k)) (a .level .now) in
     let at = with-at (a .n) (a .s) (l .i) (l .inv .0) (l .inv .1) h in (
       l .inv .0,
       l .inv .1,
       omega arith,
       ⊎-elim
-          (λ w. w .3 ∙ ap (λ (x : List ℕ). set x (bitOr (a .s) (shifted 64 (l .i))) 1) (l .inv .3)
-          ∙ ap (λ (m : ℕ). set (marked (λ T. some (l .i) (λ k. eqb T (v k) && t k)) (a .level .now)) m 1) at
+          (λ w. w .5 ∙ ap (λ (x : List ℕ). set x (bitOr (a .s) (shifted 64 (l .i))) 1) (l .inv .3) ∙ ap (λ (m : ℕ). set before m 1) at
           ∙ mark-if v t (l .i) (a .level .now)
-          (ap₂ _&&_ (ap not (lacks-at (a .s) (l .i) (omega arith) (w .0 .taken))) (ap free (sym at) ∙ sym (w .1 .ensures) ∙ w .2 .taken)))
+          (ap₂ _&&_ (ap not (lacks-at (a .s) (l .i) (omega arith) (w .0 .taken))) (ap free (sym at) ∙ sym (w .3 .ensures) ∙ w .4 .taken)))
           (⊎-elim
-          (λ w. w .3 ∙ l .inv .3 ∙ mark-not v t (l .i) (a .level .now)
-          (and-no (not (inSet (a .s) (l .i))) (free (v (l .i))) (ap free (sym at) ∙ sym (w .1 .ensures) ∙ w .2 .left)))
+          (λ w. w .5 ∙ l .inv .3 ∙ mark-not v t (l .i) (a .level .now)
+          (and-no (not (inSet (a .s) (l .i))) (free (v (l .i))) (ap free (sym at) ∙ sym (w .3 .ensures) ∙ w .4 .left)))
+          (⊎-elim
+          (λ w. w .3 ∙ l .inv .3 ∙ mark-had v t (l .i) (a .level .now)
+          (ap (λ (m : ℕ). getD before m 0) (sym at)
+          ∙ ap (λ (x : List ℕ). getD x (bitOr (a .s) (shifted 64 (l .i))) 0) (sym (l .inv .3)) ∙ w .2 .left))
           (λ w. w .1 ∙ l .inv .3 ∙ mark-not v t (l .i) (a .level .now)
-          (ap (λ (b : Bool). not b && free (v (l .i))) (has-at (a .s) (l .i) (omega arith) (w .0 .left)))))
+          (ap (λ (b : Bool). not b && free (v (l .i))) (has-at (a .s) (l .i) (omega arith) (w .0 .left))))))
           (c .if1 .came),
     )
 
@@ -79,9 +87,9 @@ returns c =
     let a = c .before .before .args in
     let e : l .i ≡ a .n = omega arith in
     l .inv .3 ∙ ap (λ (m : ℕ). marked (λ T. some m (λ k. eqb T (withHead (a .n) (a .s) k)
-    && test (a .found .now) (a .overlapping) (a .containing) (a .s) (a .n) k)) (a .level .now)) e
+    && test (a .found .now) (a .overlapping .now) (a .containing .now) (a .s) (a .n) k)) (a .level .now)) e
 
 pub add-joining-spec : {M : Type 1} → statement M
 add-joining-spec =
-    tie.close (tie.spec Inv-loop μ-loop loop-holds (λ c. search needs) (λ c. search needs) joins-requires (λ c. search needs)
-    element-write-level (λ c. search needs) (λ c. search needs) loop-again returns)
+    tie.close (tie.spec Inv-loop μ-loop loop-holds (λ c. search needs) (λ c. search needs) element-copy-out-if2 joins-requires
+    (λ c. element-copy-out-if2 (c .before .before .before .before)) (λ c. search needs) (λ c. search needs) loop-again returns)

@@ -20,27 +20,27 @@ abbrev test : List ℕ → ℕ → ℕ → ℕ → Bool
 test t s n k = not (inSet s k) || subset n (withoutHead n s k) (getD t k 0)
 
 abbrev Inv-loop : tie.InvT-loop
-Inv-loop s n t i₀ i = (i ≤ n) × (every i (test t s n) ≡ true)
+Inv-loop t s n i₀ i = (i ≤ n) × (every i (test t s n) ≡ true)
 
 abbrev μ-loop : tie.MeasureT-loop
-μ-loop s n t i₀ i = n - i
+μ-loop t s n i₀ i = n - i
 
 loop-holds : tie.Need-loop-holds Inv-loop μ-loop
-loop-holds c = let a = c .args in (search needs, every-zero (test (a .t1) (a .s) (a .n)))
+loop-holds c = let a = c .args in (search needs, every-zero (test (a .overlapping .now) (a .s) (a .n)))
 
 returns : tie.Need-returns Inv-loop μ-loop
 returns c =
-    let l = c .before .before .before .loop in
-    let a = c .before .before .before .before .args in
-    sym (every-none (a .n) (test (a .t1) (a .s) (a .n)) (l .i) (omega arith)
+    let l = c .before .before .before .before .loop in
+    let a = c .before .before .before .before .before .args in
+    sym (every-none (a .n) (test (a .overlapping .now) (a .s) (a .n)) (l .i) (omega arith)
     (sym (c .before .others-in-if .ensures) ∙ not-true (c .before .others-in-if .result) (c .if1 .taken)))
 
 loop-again : tie.Need-loop-again Inv-loop μ-loop
 loop-again c =
-    let l = c .before .before .before .loop in
-    let a = c .before .before .before .before .args in (
+    let l = c .before .before .before .before .loop in
+    let a = c .before .before .before .before .before .args in (
       omega arith,
-      every-next (l .i) (test (a .t1) (a .s) (a .n))
+      every-next (l .i) (test (a .overlapping .now) (a .s) (a .n))
           ∙ ap₂ _&&_ (l .inv .1) (sym (c .before .others-in-if .ensures) ∙ not-false (c .before .others-in-if .result) (c .if1 .left)),
     )
 
@@ -49,7 +49,7 @@ returns-2 c =
     let l = c .before .loop in
     let a = c .before .before .args in
     let e : l .i ≡ a .n = omega arith in
-    sym (ap (λ (k : ℕ). every k (test (a .t1) (a .s) (a .n))) (sym e) ∙ l .inv .1)
+    sym (ap (λ (k : ℕ). every k (test (a .overlapping .now) (a .s) (a .n))) (sym e) ∙ l .inv .1)
 
 pub all-pairs-spec : {M : Type 1} → statement M
 all-pairs-spec =

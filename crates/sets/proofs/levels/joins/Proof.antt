@@ -17,7 +17,7 @@ element-copy-out-if1 c = row-lt (c .args .n) (c .args .s) (c .pre .0) (c .pre .1
 returns : tie.Need-returns
 returns c =
     let a = c .before .before .args in
-    joins-by (a .n) (stands (a .found .now)) (λ i. getD (a .overlapping) i 0) (λ i. getD (a .containing) i 0) (a .s) (eq-eqb _ _ (c .if1 .taken)) refl refl
+    joins-by (a .n) (stands (a .found .now)) (λ i. getD (a .overlapping .now) i 0) (λ i. getD (a .containing .now) i 0) (a .s) (eq-eqb _ _ (c .if1 .taken)) refl refl
 
 returns-2 : tie.Need-returns-2
 unfolding allPairs
@@ -25,7 +25,7 @@ returns-2 c =
     let p = c .before in
     let q = p .before in
     let a = q .before .before .args in
-    joins-by (a .n) (stands (a .found .now)) (λ i. getD (a .overlapping) i 0) (λ i. getD (a .containing) i 0) (a .s) (ne-eqb _ _ (q .if1 .left))
+    joins-by (a .n) (stands (a .found .now)) (λ i. getD (a .overlapping .now) i 0) (λ i. getD (a .containing .now) i 0) (a .s) (ne-eqb _ _ (q .if1 .left))
     (sym (p .all-pairs .ensures) ∙ not-true (p .all-pairs .result) (c .if2 .taken)) refl
 
 returns-3 : tie.Need-returns-3
@@ -35,7 +35,7 @@ returns-3 c =
     let p = e .before in
     let q = p .before in
     let a = q .before .before .args in
-    joins-by (a .n) (stands (a .found .now)) (λ i. getD (a .overlapping) i 0) (λ i. getD (a .containing) i 0) (a .s) (ne-eqb _ _ (q .if1 .left))
+    joins-by (a .n) (stands (a .found .now)) (λ i. getD (a .overlapping .now) i 0) (λ i. getD (a .containing .now) i 0) (a .s) (ne-eqb _ _ (q .if1 .left))
     (sym (p .all-pairs .ensures) ∙ not-false (p .all-pairs .result) (e .if2 .left)) (sym (c .one-in-all .ensures))
 
 pub joins-spec : {M : Type 1} → statement M

@@ -58,8 +58,8 @@ loop-again c =
     let l = v .before .before .before .loop in
     let a = v .before .before .before .before .args in
     let f = stands (a .found .now) in
-    let o : ℕ → ℕ = λ i. getD (a .overlapping) i 0 in
-    let d : ℕ → ℕ = λ i. getD (a .containing) i 0 in
+    let o : ℕ → ℕ = λ i. getD (a .overlapping .now) i 0 in
+    let d : ℕ → ℕ = λ i. getD (a .containing .now) i 0 in
     let room : l .s < 2 ^ a .n = omega (arith, l .inv .1) in
     let row : l .s < 1024 = row-lt (a .n) (l .s) (l .inv .0) room in
     let was : eqb (getD (l .level) (l .s) 0) 1 ≡ levelBelow (a .n) f o d (l .s) (l .s) =
@@ -84,8 +84,8 @@ returns c =
     let l = c .before .loop in
     let a = c .before .before .args in
     let f = stands (a .found .now) in
-    let o : ℕ → ℕ = λ i. getD (a .overlapping) i 0 in
-    let d : ℕ → ℕ = λ i. getD (a .containing) i 0 in
+    let o : ℕ → ℕ = λ i. getD (a .overlapping .now) i 0 in
+    let d : ℕ → ℕ = λ i. getD (a .containing .now) i 0 in
     let e : l .s ≡ 2 ^ a .n = omega (arith, l .inv .1) in
     l .inv .3 ∙ ap (λ (m : ℕ). marked (levelBelow (a .n) f o d m) (zeros 1024)) e
     ∙ marks (levelBelow (a .n) f o d (2 ^ a .n)) (joined (a .n) f o d) (2 ^ a .n) (pow-mono {i = a .n} {j = 10} (l .inv .0))

@@ -58,12 +58,6 @@ returns c =
     let e : l .k ≡ a .t2 .n = omega arith in
     l .inv .6 ∙ ap (λ (m : ℕ). marked (λ S. ltb S (2 ^ a .n) && isAdoptersOf (take m (a .t2 .all)) S) (a .found)) e
 
-mul-q : tie.Need-mul-q Inv-loop μ-loop
-mul-q c = omega arith
-
-element-copy-out-q : tie.Need-element-copy-out-q Inv-loop μ-loop
-element-copy-out-q c = omega arith
-
 array-write-bytes : tie.Need-array-write-bytes Inv-loop μ-loop
 array-write-bytes c =
     let l = c .before .before .before .before .loop in let a = c .before .before .before .before .before .args in
@@ -95,5 +89,5 @@ returns-2 c =
 
 pub add-adopters-spec : {M : Type 1} → statement M
 add-adopters-spec =
-    tie.close (tie.spec Inv-loop μ-loop (λ c. search needs) loop-holds returns mul-q element-copy-out-q array-write-bytes
+    tie.close (tie.spec Inv-loop μ-loop (λ c. search needs) loop-holds returns (λ c. omega arith) (λ c. omega arith) array-write-bytes
     (λ c. search needs) (λ c. search needs) loop-again returns-2)

@@ -7,13 +7,12 @@ use Prim.Native.Nat.{ℕ, _+_, _-_, _≤_, _<_}
 use native.Mathlib.Omega.{arith}
 use lib.Bits.{bitOr}
 use lib.Dec.{eqb}
-use lib.ListN.{length, take, set}
+use lib.ListN.{set}
 use Rattle.masks.specs.Mask.{shifted}
-use Rattle.intersections.specs.Counted.{pointList}
 use Rattle.sets.specs.Marked.{marked}
 use Rattle.lists.specs.Some.{some}
-use Rattle.sets.specs.Sets.{pair}
-use Rattle.sets.specs.Regions.{meetsAt, containsAt}
+use Rattle.sets.specs.Sets.{pair, paired}
+use Rattle.sets.specs.Steps.{inMaskOf}
 use Rattle.sets.proofs.Masks.{pair-at, pair-lt}
 use Rattle.sets.proofs.Marks.{marked-none, mark-if, mark-not}
 use Rattle.lists.proofs.Somes.{some-zero, some-next}
@@ -21,13 +20,15 @@ use Rattle.sets.proofs.witnessed.add_pairs_of.Statement.{statement}
 use borrow.Author.Needs.{needs}
 use Rattle.sets.proofs.witnessed.add_pairs_of.Tie as tie
 
+abbrev test : List ℕ → List ℕ → ℕ → ℕ → Bool
+test meeting containing i k = paired (inMaskOf meeting) (λ a b. inMaskOf containing b a) i k
+
 abbrev Inv-loop : tie.InvT-loop
-Inv-loop found₀ circles points i n j₀ found j =
-    (n ≤ 10) × (i < n) × (j ≤ i) × (found ≡ marked
-    (λ S. some j (λ k. eqb S (pair n i k) && (meetsAt (pointList points) i k || (containsAt (take n circles) i k || containsAt (take n circles) k i)))) found₀)
+Inv-loop found₀ meeting containing i n j₀ found j =
+    (n ≤ 10) × (i < n) × (j ≤ i) × (found ≡ marked (λ S. some j (λ k. eqb S (pair n i k) && test meeting containing i k)) found₀)
 
 abbrev μ-loop : tie.MeasureT-loop
-μ-loop found₀ circles points i n j₀ found j = i - j
+μ-loop found₀ meeting containing i n j₀ found j = i - j
 
 loop-holds : tie.Need-loop-holds Inv-loop μ-loop
 loop-holds c =
@@ -35,13 +36,8 @@ loop-holds c =
       c .pre .0,
       c .pre .1,
       omega arith,
-      marked-none _ (a .found .now)
-          (λ S k. some-zero (λ k. eqb S (pair (a .n) (a .i) k) &&
-          (meetsAt (pointList (a .points)) (a .i) k || (containsAt (take (a .n) (a .circles)) (a .i) k || containsAt (take (a .n) (a .circles)) k (a .i))))),
+      marked-none _ (a .found .now) (λ S k. some-zero (λ k. eqb S (pair (a .n) (a .i) k) && test (a .meeting .now) (a .containing .now) (a .i) k)),
     )
-
-is-pair-requires : tie.Need-is-pair-requires Inv-loop μ-loop
-is-pair-requires c κs = (omega arith, (omega arith, omega arith))
 
 element-write-found : tie.Need-element-write-found Inv-loop μ-loop
 element-write-found c =
@@ -51,17 +47,16 @@ element-write-found c =
 loop-again : tie.Need-loop-again Inv-loop μ-loop
 loop-again c =
     let l = c .before .before .before .loop in let a = c .before .before .before .before .args in
-    let test : ℕ → Bool = λ k. meetsAt (pointList (a .points)) (a .i) k ||
-    (containsAt (take (a .n) (a .circles)) (a .i) k || containsAt (take (a .n) (a .circles)) k (a .i)) in
-    let p : ℕ → ℕ → Bool = λ S k. eqb S (pair (a .n) (a .i) k) && test k in (
+    let t : ℕ → Bool = test (a .meeting .now) (a .containing .now) (a .i) in
+    let p : ℕ → ℕ → Bool = λ S k. eqb S (pair (a .n) (a .i) k) && t k in (
       l .inv .0,
       l .inv .1,
       omega arith,
       ⊎-elim
           (λ w. w .1 ∙ ap (λ (t : List ℕ). set t (bitOr (shifted 64 (a .i)) (shifted 64 (l .j))) 1) (l .inv .3)
           ∙ ap (λ (v : ℕ). set (marked (λ S. some (l .j) (p S)) (a .found .now)) v 1) (pair-at (a .n) (a .i) (l .j) (l .inv .0) (l .inv .1) (omega arith))
-          ∙ mark-if (pair (a .n) (a .i)) test (l .j) (a .found .now) (sym (c .before .is-pair .ensures) ∙ w .0 .taken))
-          (λ w. w .1 ∙ l .inv .3 ∙ mark-not (pair (a .n) (a .i)) test (l .j) (a .found .now) (sym (c .before .is-pair .ensures) ∙ w .0 .left))
+          ∙ mark-if (pair (a .n) (a .i)) t (l .j) (a .found .now) (sym (c .before .is-pair .ensures) ∙ w .0 .taken))
+          (λ w. w .1 ∙ l .inv .3 ∙ mark-not (pair (a .n) (a .i)) t (l .j) (a .found .now) (sym (c .before .is-pair .ensures) ∙ w .0 .left))
           (c .if1 .came),
     )
 
@@ -69,11 +64,10 @@ returns : tie.Need-returns Inv-loop μ-loop
 returns c =
     let l = c .before .loop in let a = c .before .before .args in
     let e : l .j ≡ a .i = omega arith in
-    l .inv .3 ∙ ap (λ (m : ℕ). marked (λ S. some m
-    (λ k. eqb S (pair (a .n) (a .i) k) && (meetsAt (pointList (a .points)) (a .i) k ||
-    (containsAt (take (a .n) (a .circles)) (a .i) k || containsAt (take (a .n) (a .circles)) k (a .i))))) (a .found .now)) e
+    l .inv .3 ∙ ap (λ (m : ℕ). marked
+    (λ S. some m (λ k. eqb S (pair (a .n) (a .i) k) && test (a .meeting .now) (a .containing .now) (a .i) k)) (a .found .now)) e
 
 pub add-pairs-of-spec : {M : Type 1} → statement M
 add-pairs-of-spec =
-    tie.close (tie.spec Inv-loop μ-loop loop-holds is-pair-requires (λ c. search needs) (λ c. search needs) element-write-found
-    (λ c. search needs) (λ c. search needs) loop-again returns)
+    tie.close (tie.spec Inv-loop μ-loop loop-holds (λ c κs. (omega arith, omega arith)) (λ c. search needs) (λ c. search needs)
+    element-write-found (λ c. search needs) (λ c. search needs) loop-again returns)

@@ -12,15 +12,13 @@ use lib.Seq.{getD-take, take-all}
 use lib.Ieee.{Float, nan}
 use Rattle.lists.proofs.Arrays.{length-of-values}
 use mathlib.Core.Path.{subst}
-use mathlib.Core.List.{List}
-use Rattle.geometry.specs.declared.circle.Circle.{Circle}
-use Rattle.lists.specs.Written.{written}
 use Rattle.masks.specs.Presence.{stands}
 use Rattle.intersections.specs.Counted.{pointList}
 use Rattle.intersections.specs.Members.{membersOf}
-use Rattle.sums.specs.Rows.{areaOf, numberAt}
+use Rattle.sums.specs.Rows.{areaOf}
 use Rattle.sums.specs.Walk.{Few}
 use Rattle.sums.proofs.Counts.{count-few}
+use Rattle.sums.proofs.Passing.{written-alike}
 use Rattle.sums.proofs.Walking.{circles-many}
 use Rattle.sums.proofs.fast.write_fast.Statement.{statement}
 use Rattle.sums.proofs.fast.write_fast.Tie as tie
@@ -62,12 +60,11 @@ returns c =
     let s = n .before .before in
     let a = s .args in
     let points = pointList (a .points) in
-    let done : List Circle → ℕ → List Float =
-    λ cs k. written (numberAt (stands (a .wanted .now)) (λ S. areaOf (a .clipped) (a .bounds) (membersOf cs points S)) (a .areas .now)) k (a .areas .now) in
-    m .write-marked .ensures points (subst (λ cs. Few cs points) (sym (n .numbers-of .ensures)) (s .pre .1))
-    (λ j h i. f .fill-heads .ensures .1 .marks j (rw (circles-many _ (a .n-sets)) at h) i)
-    ∙ ap (λ cs. done cs (f .before .before .before .before .before .before .before .before .row-count .result)) (n .numbers-of .ensures)
-    ∙ ap (done (take (a .n-sets) (a .circles))) (f .before .before .before .before .before .before .before .before .row-count .ensures)
+    written-alike (λ cs S. areaOf (a .clipped) (a .bounds) (membersOf cs points S)) (stands (a .wanted .now)) (a .areas .now)
+    (m .write-marked .ensures points (subst (λ cs. Few cs points) (sym (n .numbers-of .ensures)) (s .pre .1))
+    (λ j h i. f .fill-heads .ensures .1 .marks j (rw (circles-many _ (a .n-sets)) at h) i))
+    (n .numbers-of .ensures)
+    (f .before .before .before .before .before .before .before .before .row-count .ensures)
 
 pub write-fast-spec : {M : Type 1} → statement M
 write-fast-spec =

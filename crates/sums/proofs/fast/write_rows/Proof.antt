@@ -89,9 +89,6 @@ loop-again c =
     ))
     (c .if1 .came)
 
-same-length : tie.Need-same-length Inv-loop μ-loop
-same-length c = c .before .loop .inv .2
-
 returns : tie.Need-returns Inv-loop μ-loop
 returns c =
     let l = c .before .loop in
@@ -102,4 +99,4 @@ returns c =
 pub write-rows-spec : {M : Type 1} → statement M
 write-rows-spec =
     tie.close (tie.spec Inv-loop μ-loop loop-holds element-copy-out-if1 fast-row-requires (λ c. search needs) slice-write-areas
-    (λ c. search needs) (λ c. search needs) loop-again same-length returns)
+    (λ c. search needs) (λ c. search needs) loop-again (λ c. c .before .loop .inv .2) returns)

@@ -66,9 +66,6 @@ loop-again c =
           (c .row-byte .ensures ∙ byte-own (a .has-box) (stands (a .sets .now)) (l .mask))),
     )
 
-same-length : tie.Need-same-length Inv-loop μ-loop
-same-length c = same (c .before)
-
 returns : tie.Need-returns Inv-loop μ-loop
 returns c =
     let l = c .before .loop in
@@ -79,4 +76,4 @@ returns c =
 pub write-presence-spec : {M : Type 1} → statement M
 write-presence-spec =
     tie.close (tie.spec Inv-loop μ-loop (λ c κs. search needs) loop-holds element-copy-out-row-byte (λ c κs. search needs)
-    slice-write-presence add-mask loop-less loop-again same-length returns)
+    slice-write-presence add-mask loop-less loop-again (λ c. same (c .before)) returns)

@@ -1,7 +1,5 @@
 -- `row::open_row`: the arcs that the walk lists.
-use mathlib.Core.Path.{_≡_}
-use Rattle.sums.specs.Walk.{circlesIn}
-use Rattle.sums.proofs.Valuing.{terms-known, ready-roomy, row-open}
+use Rattle.sums.proofs.Valuing.{three-known, ready-roomy, row-open}
 use Rattle.sums.proofs.row.open_row.Statement.{statement}
 use Rattle.sums.proofs.row.open_row.Tie as tie
 
@@ -16,8 +14,7 @@ add-terms-requires c κs =
     let listing = w .walk .ensures .1 in
     let roomy = ready-roomy (a .c .now) (a .n-sets) (a .mask) (a .counts .now) (a .owners .now) (a .phi .now) (a .lets .now) (s .pre .1 .0) in (
       (s .pre .0 .0, (w .walk .ensures .0, listing .long)),
-      terms-known (a .n-sets) (a .mask) (circlesIn (a .c .now) (a .n-sets)) (a .counts .now) (a .phi .now) (a .xs .now) (a .ys .now) (a .rs .now) (s .pre .0 .0) roomy
-          (s .pre .1 .1) listing,
+      three-known (a .n-sets) (a .mask) (s .pre .0 .0) roomy (s .pre .1 .1) listing,
     )
 
 returns : tie.Need-returns

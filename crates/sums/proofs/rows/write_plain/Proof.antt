@@ -83,9 +83,6 @@ loop-again c =
           (c .if1 .came),
     )
 
-same-length : tie.Need-same-length Inv-loop μ-loop
-same-length c = same (c .before)
-
 returns : tie.Need-returns Inv-loop μ-loop
 returns c =
     let l = c .before .loop in
@@ -96,4 +93,4 @@ returns c =
 pub write-plain-spec : {M : Type 1} → statement M
 write-plain-spec =
     tie.close (tie.spec Inv-loop μ-loop (λ c κs. search needs) loop-holds element-copy-out-if1 (λ c κs. search needs) mul-areas
-    slice-write-areas add-mask loop-less loop-again same-length returns)
+    slice-write-areas add-mask loop-less loop-again (λ c. same (c .before)) returns)

@@ -1,35 +1,23 @@
 -- `terms::fill_terms`: the places below p that are asked for hold the terms of their arcs.
 use borrow.Author.Needs.{needs}
-use mathlib.Core.Path.{_≡_, refl, sym, ap, _∙_}
-use mathlib.Core.Bool.{true, false, true≢false}
-use mathlib.Core.Logic.{⊎-elim}
-use Prim.Native.Nat.{ℕ, _+_, _-_, _*_, _^_, _/_, _%_, _≤_, _<_}
+use mathlib.Core.Path.{sym, ap, _∙_}
+use Prim.Native.Nat.{_-_}
 use native.Mathlib.Omega.{arith}
-use borrow.Author.Tests.{eq-eqb, ne-eqb, lt-ltb, le-ltb, not-true, not-false}
-use lib.Dec.{eqb, ltb}
-use lib.ListN.{length, take, getD, set, length-take, length-set}
-use lib.Seq.{getD-take, take-all}
-use lib.Ieee.{Float, nan}
-use Rattle.lists.proofs.Arrays.{length-of-values}
 use Rattle.sums.specs.Walk.{circleIn, circlesIn}
-use Rattle.sums.specs.Values.{termX, termY, termR, termOf, standing}
-use Rattle.sums.proofs.Filling.{HeldTo, held-none, held-put, held-jump}
-use Rattle.sums.proofs.Valuing.{term-is, standing-below, standing-readable}
+use Rattle.sums.specs.Values.{termX, termY, termR}
+use Rattle.sums.proofs.Valuing.{standing-below, standing-readable, ThreeTo, three-starts, three-past, three-put, three-all}
 use Rattle.sums.proofs.terms.fill_terms.Statement.{statement}
 use Rattle.sums.proofs.terms.fill_terms.Tie as tie
 
 abbrev Inv-loop : tie.InvT-loop
 Inv-loop c n-sets needed counts phi xs₀ ys₀ rs₀ p₀ xs ys rs p =
-    (length xs ≡ 330) × (length ys ≡ 330) × (length rs ≡ 330) × (p ≤ 330)
-    × HeldTo (λ q. standing needed counts q ≡ true) (termOf termX (circlesIn c n-sets) counts phi) nan xs p
-    × HeldTo (λ q. standing needed counts q ≡ true) (termOf termY (circlesIn c n-sets) counts phi) nan ys p
-    × HeldTo (λ q. standing needed counts q ≡ true) (termOf termR (circlesIn c n-sets) counts phi) nan rs p
+    ThreeTo termX termY termR 330 needed (circlesIn c n-sets) counts phi xs ys rs p
 
 abbrev μ-loop : tie.MeasureT-loop
 μ-loop c n-sets needed counts phi xs₀ ys₀ rs₀ p₀ xs ys rs p = 330 - p
 
 loop-holds : tie.Need-loop-holds Inv-loop μ-loop
-loop-holds c = (c .pre .1 .0, c .pre .1 .1 .0, c .pre .1 .1 .1, omega arith, held-none _, held-none _, held-none _)
+loop-holds c = let long = c .pre .1 in three-starts (long .0) (long .1 .0) (long .1 .1)
 
 circle-at-requires : tie.Need-circle-at-requires Inv-loop μ-loop
 circle-at-requires c κs =
@@ -65,18 +53,9 @@ loop-again c =
     let l = d .before .loop in
     let is = sym (i .is-standing .ensures) ∙ h .before .if1 .taken in
     let head = standing-below (a .n-sets) (a .needed) (a .counts .now) (s .pre .0 .1 .0) (s .pre .0 .1 .1) (l .p) (d .loop-test .taken) is in
-    let circle = k .before .circle-at .ensures ∙ ap (circleIn (a .c .now)) (h .head-of .ensures) in (
-      simp length-set (l .inv .0),
-      simp length-set (l .inv .1),
-      simp length-set (l .inv .2),
-      omega arith,
-      held-put _ (omega arith) (c .before .before .term-x .ensures
-          ∙ term-is termX (a .c .now) (a .n-sets) (a .counts .now) (a .phi .now) (l .p) head circle (k .arc-at .ensures)) (l .inv .4),
-      held-put _ (omega arith) (c .before .term-y .ensures
-          ∙ term-is termY (a .c .now) (a .n-sets) (a .counts .now) (a .phi .now) (l .p) head circle (k .arc-at .ensures)) (l .inv .5),
-      held-put _ (omega arith) (c .term-r .ensures
-          ∙ term-is termR (a .c .now) (a .n-sets) (a .counts .now) (a .phi .now) (l .p) head circle (k .arc-at .ensures)) (l .inv .6),
-    )
+    let circle = k .before .circle-at .ensures ∙ ap (circleIn (a .c .now)) (h .head-of .ensures) in
+    three-put (a .c .now) (a .n-sets) (l .inv) (omega arith) (d .loop-test .taken) head circle (k .arc-at .ensures)
+    (c .before .before .term-x .ensures) (c .before .term-y .ensures) (c .term-r .ensures)
 
 loop-less-2 : tie.Need-loop-less-2 Inv-loop μ-loop
 loop-less-2 c = omega (arith, c .past .ensures .0 .0, c .past .ensures .0 .1)
@@ -84,28 +63,13 @@ loop-less-2 c = omega (arith, c .past .ensures .0 .0, c .past .ensures .0 .1)
 loop-again-2 : tie.Need-loop-again-2 Inv-loop μ-loop
 loop-again-2 c =
     let i = c .before .before in
-    let l = i .before .before .loop in
-    let a = i .before .before .before .args in
-    let none : (q : ℕ) → l .p ≤ q → q < _ → standing (a .needed) (a .counts .now) q ≡ true → ⊥ =
-    λ q h k is. true≢false (sym is ∙ c .past .ensures .1 (a .needed) (a .counts .now) (sym (i .is-standing .ensures) ∙ c .before .if1 .left) q h k) in (
-      l .inv .0,
-      l .inv .1,
-      l .inv .2,
-      omega (arith, c .past .ensures .0 .1),
-      held-jump none (l .inv .4),
-      held-jump none (l .inv .5),
-      held-jump none (l .inv .6),
-    )
+    let d = i .before .before in
+    let a = d .before .args in
+    let next = c .past .ensures in
+    three-past (d .loop .inv) (next .0 .1) (next .1 (a .needed) (a .counts .now) (sym (i .is-standing .ensures) ∙ c .before .if1 .left))
 
 returns : tie.Need-returns Inv-loop μ-loop
-returns c =
-    let l = c .before .loop in
-    let e : l .p ≡ 330 = omega arith in
-    record {
-      x = record { here = (rw e at (l .inv .4)) .at };
-      y = record { here = (rw e at (l .inv .5)) .at };
-      r = record { here = (rw e at (l .inv .6)) .at };
-    }
+returns c = three-all (omega arith) (c .before .loop .inv)
 
 pub fill-terms-spec : {M : Type 1} → statement M
 fill-terms-spec =

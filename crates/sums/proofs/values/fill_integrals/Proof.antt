@@ -32,9 +32,6 @@ Inv-loop c n-sets bounds needed counts phi value₀ p₀ value p =
 abbrev μ-loop : tie.MeasureT-loop
 μ-loop c n-sets bounds needed counts phi value₀ p₀ value p = 330 - p
 
-loop-holds : tie.Need-loop-holds Inv-loop μ-loop
-loop-holds c = (c .pre .1, omega arith, held-none _)
-
 integral-of-requires : tie.Need-integral-of-requires Inv-loop μ-loop
 integral-of-requires c κs =
     let i = c .before in
@@ -77,5 +74,6 @@ returns c =
 
 pub fill-integrals-spec : {M : Type 1} → statement M
 fill-integrals-spec =
-    tie.close (tie.spec Inv-loop μ-loop loop-holds (λ c κs. search needs) integral-of-requires (λ c. search needs) (λ c. search needs)
-    (λ c. search needs) (λ c. search needs) loop-again (λ c κs. search needs) loop-less-2 loop-again-2 returns)
+    tie.close (tie.spec Inv-loop μ-loop (λ c. (c .pre .1, omega arith, held-none _)) (λ c κs. search needs) integral-of-requires
+    (λ c. search needs) (λ c. search needs) (λ c. search needs) (λ c. search needs) loop-again (λ c κs. search needs) loop-less-2
+    loop-again-2 returns)

@@ -31,9 +31,6 @@ with-box c =
 some : (c : tie.Start) → 0 < length (c .args .rows .now)
 some c = let k = pow-pos (c .args .plan .n) in omega (arith, c .pre .0 .numbers)
 
-slice-write-rows : tie.Need-slice-write-rows
-slice-write-rows c = some (entry c)
-
 -- room for the rows of the plan made ready
 room : (c : tie.After-area) → Room (entry c .args .ready .n) (with-box c)
 room c =
@@ -68,5 +65,5 @@ returns c =
 
 pub write-afresh-spec : {M : Type 1} → statement M
 write-afresh-spec =
-    tie.close (tie.spec (λ c κs. search needs) (λ c κs. search needs) slice-write-rows write-tables-requires (λ c. search needs)
+    tie.close (tie.spec (λ c κs. search needs) (λ c κs. search needs) (λ c. some (entry c)) write-tables-requires (λ c. search needs)
     same-length-2 (λ c. search needs) (λ c. search needs) returns)

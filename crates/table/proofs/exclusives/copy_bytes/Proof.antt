@@ -14,9 +14,6 @@ Inv-loop from to₀ count i₀ to i = (i ≤ count) × (to ≡ written (λ S. ge
 abbrev μ-loop : tie.MeasureT-loop
 μ-loop from to₀ count i₀ to i = count - i
 
-loop-holds : tie.Need-loop-holds Inv-loop μ-loop
-loop-holds c = (omega arith, written-none _ _)
-
 -- the length stays
 to-length : (c : tie.At-loop Inv-loop μ-loop) → length (c .loop .to) ≡ length (c .before .args .to .now)
 to-length c =
@@ -32,9 +29,6 @@ loop-again c =
     let a = c .before .before .before .args in
     (omega arith, rw (l .inv .1) (write-next (λ S. getD (a .from .now) S 0) (l .i) (a .to .now) _ 0 (omega arith) refl))
 
-same-length : tie.Need-same-length Inv-loop μ-loop
-same-length c = to-length (c .before)
-
 returns : tie.Need-returns Inv-loop μ-loop
 returns c =
     let l = c .before .loop in
@@ -43,5 +37,5 @@ returns c =
 
 pub copy-bytes-spec : {M : Type 1} → statement M
 copy-bytes-spec =
-    tie.close (tie.spec Inv-loop μ-loop loop-holds (λ c. search needs) slice-write-to (λ c. search needs) (λ c. search needs) loop-again
-    same-length returns)
+    tie.close (tie.spec Inv-loop μ-loop (λ c. (omega arith, written-none _ _)) (λ c. search needs) slice-write-to (λ c. search needs)
+    (λ c. search needs) loop-again (λ c. to-length (c .before)) returns)

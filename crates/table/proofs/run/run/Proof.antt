@@ -125,21 +125,6 @@ loop-again c =
       },
     )
 
-same-length : tie.Need-same-length Inv-loop μ-loop
-same-length c = c .before .loop .inv .2 .many
-
-same-length-2 : tie.Need-same-length-2 Inv-loop μ-loop
-same-length-2 c = c .before .loop .inv .2 .lengths .bytes
-
-same-length-3 : tie.Need-same-length-3 Inv-loop μ-loop
-same-length-3 c = c .before .loop .inv .2 .lengths .numbers
-
-same-length-4 : tie.Need-same-length-4 Inv-loop μ-loop
-same-length-4 c = c .before .loop .inv .2 .lengths .others
-
-same-length-5 : tie.Need-same-length-5 Inv-loop μ-loop
-same-length-5 c = c .before .loop .inv .2 .lengths .areas
-
 returns : tie.Need-returns Inv-loop μ-loop
 returns c =
     let l = c .before .loop in
@@ -160,5 +145,6 @@ returns c =
 pub run-spec : {M : Type 1} → statement M
 run-spec =
     tie.close (tie.spec Inv-loop μ-loop (λ c κs. search needs) (λ c κs. search needs) (λ c κs. search needs) (λ c κs. search needs)
-    loop-holds edit-at-requires (λ c κs. search needs) (λ c κs. search needs) slice-write-answers add-i loop-less loop-again same-length
-    same-length-2 same-length-3 same-length-4 same-length-5 returns)
+    loop-holds edit-at-requires (λ c κs. search needs) (λ c κs. search needs) slice-write-answers add-i loop-less loop-again
+    (λ c. c .before .loop .inv .2 .many) (λ c. c .before .loop .inv .2 .lengths .bytes) (λ c. c .before .loop .inv .2 .lengths .numbers)
+    (λ c. c .before .loop .inv .2 .lengths .others) (λ c. c .before .loop .inv .2 .lengths .areas) returns)
