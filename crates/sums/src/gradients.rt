@@ -46,7 +46,7 @@ pub fn clear(numbers: &mut [f64])
 
 // The area of the set `mask`, in the box or without it, as it comes with its gradient, which is added to grad by head: from the arcs of its
 // outline, made once.
-pub fn set_onto(
+fn set_onto(
     clipped: bool,
     circles: [Circle; 10],
     points: Intersections,
