@@ -16,11 +16,13 @@ use Rattle.intersections.specs.declared.points.Intersections.{Intersections}
 use Rattle.intersections.specs.Counted.{pointList}
 use Rattle.intersections.specs.Members.{noPoint}
 use Rattle.boundary.specs.Outline.{probe}
-use Rattle.sums.specs.Marks.{marksFrom, hasParent, marksAt}
+use Rattle.boundary.specs.Marks.{marksFrom, Kept}
+use Rattle.sums.specs.Marks.{hasParent, marksAt}
+use Rattle.boundary.proofs.Sorting.{kept-self, kept-then}
 use Rattle.sums.specs.Walk.{circlesIn, letters, Marked}
-use Rattle.sums.specs.Filled.{Kept, Long}
+use Rattle.sums.specs.Filled.{Long}
 use Rattle.sums.proofs.Carrying.{Sorted, laid-start, mark-is, sorted-room, sorted-with, sorted-without, sorted-end}
-use Rattle.sums.proofs.Laying.{kept-self, kept-then, long-in, long-out, marked-none, marked-in, marked-out}
+use Rattle.sums.proofs.Laying.{long-in, long-out, marked-none, marked-in, marked-out}
 use Rattle.sums.proofs.Walking.{circles-many, circle-of}
 use Rattle.sums.proofs.fill.fill_heads.Statement.{statement}
 use Rattle.sums.proofs.fill.fill_heads.Tie as tie
@@ -28,10 +30,10 @@ use Rattle.sums.proofs.fill.fill_heads.Reads as reads
 use Rattle.sums.proofs.fill.fill_heads.Lts as lts
 use Rattle.boundary.proofs.angles.angle_about.Reads as angle-about-reads
 use Rattle.boundary.proofs.angles.probe.Reads as probe-reads
+use Rattle.boundary.proofs.sort.insert_marked.Reads as insert-marked-reads
 use Rattle.sums.proofs.fill.at_most_ninety.Reads as at-most-ninety-reads
 use Rattle.sums.proofs.fill.fill_lets.Reads as fill-lets-reads
 use Rattle.sums.proofs.fill.has_parent.Reads as has-parent-reads
-use Rattle.sums.proofs.fill.insert_at.Reads as insert-at-reads
 use Rattle.sums.proofs.fill.letters.Reads as letters-reads
 use Rattle.sums.proofs.walk.circle_at.Reads as circle-at-reads
 
