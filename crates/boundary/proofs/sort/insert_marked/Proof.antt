@@ -1,9 +1,8 @@
 -- `sort::insert_marked` meets its contract. The invariant: what stands below i, the mark in hand and the rest are the marks with x
 -- (Carried), and the places outside stay.
-use borrow.Author.Needs.{needs}
 use mathlib.Core.Path.{_≡_, refl, _∙_}
 use mathlib.Core.List.{List}
-use Prim.Native.Nat.{ℕ, _+_, _-_, _≤_, _<_}
+use Prim.Native.Nat.{ℕ, _+_, _-_, _<_}
 use native.Mathlib.Omega.{arith}
 use lib.ListN.{length, drop, length-set}
 use lib.Seq.{drop-set-lt}
@@ -81,8 +80,8 @@ returns-4 c =
     let a = start (c .before .before .before .before) .args in
     let i = l .inv in (
       (λ h.
-      carry-end (a .phi .now) (a .adopters .now) (a .at) (a .n) (a .x) (a .who) (l .phi) (l .adopters) (l .i) (l .carry) (l .carried)
-      (omega (arith, i .fits, i .phi-kept .many)) (omega (arith, i .room, i .adopters-kept .many)) (i .whole) (omega arith)),
+          carry-end (a .phi .now) (a .adopters .now) (a .at) (a .n) (a .x) (a .who) (l .phi) (l .adopters) (l .i) (l .carry) (l .carried)
+          (omega (arith, i .fits, i .phi-kept .many)) (omega (arith, i .room, i .adopters-kept .many)) (i .whole) (omega arith)),
       (
         (
           kept-set (a .at) nan _ (l .phi) (a .at + a .n) (l .carry) (omega arith) (i .phi-kept),

@@ -137,7 +137,7 @@ loop2-again c =
     let parent = told ∙ w .0 .taken in
     let few = sorted-room circle j (pointList p) (l .i) (l .count) done (laid-below (l .inv) t) (l .inv .sorted) parent in
     let room : j * 32 + l .count < min (length (l .phi)) (length (l .adopters)) =
-        omega (arith, few, l .inv .head, l .inv .phi-long, l .inv .adopters-long) in
+    omega (arith, few, l .inv .head, l .inv .phi-long, l .inv .adopters-long) in
     record {
       places = l .inv .places;
       all = l .inv .all;
