@@ -1,4 +1,5 @@
 pub mod Sort
+pub mod Marks
 pub mod Outline
 pub mod Gaps
 pub mod Set

@@ -17,26 +17,14 @@ use Rattle.intersections.specs.declared.points.IntersectionPoint.{IntersectionP
 use Rattle.intersections.specs.Members.{circleAt}
 use Rattle.boundary.specs.Outline.{probe}
 use Rattle.boundary.proofs.Gaps.{next-below}
-use Rattle.sums.specs.Marks.{mark, marksFrom, marksAt}
+use Rattle.boundary.proofs.Sorting.{kept-self, kept-set}
+use Rattle.boundary.specs.Marks.{mark, marksFrom, Kept}
+use Rattle.sums.specs.Marks.{marksAt}
 use Rattle.sums.specs.Walk.{marksIn, letters, gapLetters, HeadReady, Marked}
-use Rattle.sums.specs.Filled.{Kept, Filled, Long}
+use Rattle.sums.specs.Filled.{Filled, Long}
 use Rattle.sums.proofs.Ranks.{lt-or-eq}
 
--- ---- places that stay
-
-module _ {A : Type 0} (at : ℕ) (d : A) where
-  pub kept-self : (l : List A) → Kept at d l l
-  kept-self l = record { many = refl; low = λ i h. refl }
-
-  pub kept-set : (before l : List A) (p : ℕ) (x : A) → at ≤ p → Kept at d before l → Kept at d before (set l p x)
-  kept-set before l p x h k =
-      record {
-        many = length-set l p x ∙ k .many;
-        low = λ i b. getD-set-other l p i x d (λ e. omega (arith, e, b, h)) ∙ k .low i b;
-      }
-
-  pub kept-then : (a b c : List A) → Kept at d a b → Kept at d b c → Kept at d a c
-  kept-then a b c k l = record { many = l .many ∙ k .many; low = λ i h. l .low i h ∙ k .low i h }
+-- ---- place by place
 
 module _ {A : Type 0} (at : ℕ) (f : ℕ → A) (d : A) (before : List A) where
   pub filled-none : Filled at 0 f d before before

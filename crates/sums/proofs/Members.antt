@@ -24,7 +24,8 @@ use Rattle.intersections.proofs.Gathering.{single-heads}
 use Rattle.boundary.specs.Outline.{anglesOf, arcsAt, fullCircle, outlineFrom, outline}
 use Rattle.boundary.specs.Set.{numbered}
 use Rattle.outline.proofs.Walking.{circles-of-members, members-many}
-use Rattle.sums.specs.Marks.{Mark, marksAt, anglesIn}
+use Rattle.boundary.specs.Marks.{Mark}
+use Rattle.sums.specs.Marks.{marksAt, anglesIn}
 use Rattle.sums.specs.Walk.{rank, Few, marksIn, headIn, partIn, headsIn, arcsBy, Ready, Marked}
 use Rattle.sums.proofs.Sorting.{angles-in}
 use Rattle.sums.proofs.Ranks.{heads-with, heads-without}

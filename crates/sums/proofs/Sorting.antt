@@ -14,12 +14,14 @@ use Rattle.lists.specs.Lists.{keep}
 use Rattle.geometry.specs.declared.circle.Circle.{Circle}
 use Rattle.intersections.specs.declared.points.IntersectionPoint.{IntersectionPoint}
 use Rattle.lists.specs.Every.{Every, every-both, every-keep}
-use Rattle.boundary.specs.Sort.{insert, sortOnto, sorted}
+use Rattle.boundary.specs.Sort.{sortOnto, sorted}
 use Rattle.boundary.specs.Outline.{angleAbout}
 use Rattle.intersections.specs.Members.{countedFor, pointsFor}
 use Rattle.elementary.proofs.arctangent.Promise.{atan2-promise}
 use Rattle.lists.proofs.Lists.{keep-length}
-use Rattle.sums.specs.Marks.{Mark, insertMark, sortMarksOnto, sortMarks, hasParent, markOf, marksAt, adoptedBy, anglesIn}
+use Rattle.boundary.proofs.Sorting.{map-insert}
+use Rattle.boundary.specs.Marks.{Mark, insertMark}
+use Rattle.sums.specs.Marks.{sortMarksOnto, sortMarks, hasParent, markOf, marksAt, adoptedBy, anglesIn}
 
 -- an angle about a centre is finite, whatever the circle and the point
 pub angle-finite : (c : Circle) (q : IntersectionPoint) → Finite (angleAbout c (q .point))
@@ -116,17 +118,6 @@ module _ (p : Mark → Bool) where
   keep-sort l h = keep-sortOnto [] l tt h tt
 
 -- the angles of sorted marks are the angles sorted
-map-insert : (x : Mark) (l : List Mark) → map (λ m. m .phi) (insertMark x l) ≡ insert (x .phi) (map (λ m. m .phi) l)
-unfolding insertMark insert
-map-insert x [] = refl
-map-insert x (y ∷ l) = by (lt (x .phi) (y .phi)) (map-insert x l)
-  where
-    by : (b : Bool) → map (λ m. m .phi) (insertMark x l) ≡ insert (x .phi) (map (λ m. m .phi) l)
-        → map (λ m. m .phi) (cond b (x ∷ y ∷ l) (y ∷ insertMark x l))
-        ≡ cond b (x .phi ∷ y .phi ∷ map (λ m. m .phi) l) (y .phi ∷ insert (x .phi) (map (λ m. m .phi) l))
-    by true r = refl
-    by false r = ap (λ t. y .phi ∷ t) r
-
 map-sortOnto : (done l : List Mark) → map (λ m. m .phi) (sortMarksOnto done l) ≡ sortOnto (map (λ m. m .phi) done) (map (λ m. m .phi) l)
 unfolding sortMarksOnto sortOnto
 map-sortOnto done [] = refl

@@ -26,7 +26,8 @@ use Rattle.geometry.specs.declared.circle.Circle.{Circle}
 use Rattle.intersections.specs.Members.{noCircle, circleAt}
 use Rattle.boundary.specs.declared.arcs.BoundaryArc.{BoundaryArc}
 use Rattle.boundary.specs.Outline.{gap, between, fullCircle, probe}
-use Rattle.sums.specs.Marks.{Mark, mark, noMark, marksFrom, adoptedBy, anglesIn}
+use Rattle.boundary.specs.Marks.{Mark, mark, noMark, marksFrom}
+use Rattle.sums.specs.Marks.{adoptedBy, anglesIn}
 use Rattle.sums.specs.Walk.{circleIn, circlesIn, letters, ownedIn, gapLetters, isArc, gapIn, wholeIn, gapsIn, headIn, partIn, headsIn, arcsBy}
 use Rattle.sums.specs.Walk.{marksIn, NextIn, nextPlace, gapArc, arcAt, arcsOf, Angled, Placed, Listing}
 use Rattle.sums.proofs.Ranks.{lt-or-eq, owned-by-mask}

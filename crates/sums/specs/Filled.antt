@@ -4,11 +4,7 @@ use mathlib.Core.Path.{_≡_}
 use mathlib.Core.List.{List}
 use lib.ListN.{length, getD}
 use lib.Ieee.{Float}
-
--- the places before `at` stay
-pub record Kept {A : Type 0} (at : ℕ) (d : A) (before after : List A) : Type 0 where
-  pub many : length after ≡ length before
-  pub low : (i : ℕ) → i < at → getD after i d ≡ getD before i d
+use Rattle.boundary.specs.Marks.{Kept}
 
 -- n places from `at` on hold f; those before stay
 pub record Filled {A : Type 0} (at n : ℕ) (f : ℕ → A) (d : A) (before after : List A) : Type 0 where

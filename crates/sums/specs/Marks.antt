@@ -1,39 +1,15 @@
 -- The meeting points of a head, each by its angle and its adopters, in order of the angle.
-use Prim.Native.Nat.{ℕ, _+_}
-use mathlib.Core.Bool.{Bool, _||_, cond}
+use Prim.Native.Nat.{ℕ}
+use mathlib.Core.Bool.{Bool, _||_}
 use mathlib.Core.List.{List, [], _∷_, map}
 use lib.Dec.{eqb}
-use lib.Ieee.{Float, nan}
-use lib.ListN.{getD}
+use lib.Ieee.{Float}
 use Rattle.masks.specs.Mask.{subset}
 use Rattle.lists.specs.Lists.{keep}
-use Rattle.lists.specs.Written.{tab}
-use Rattle.binary64.specs.Floats.{_<ᶠ_}
 use Rattle.geometry.specs.declared.circle.Circle.{Circle}
 use Rattle.intersections.specs.declared.points.IntersectionPoint.{IntersectionPoint}
 use Rattle.boundary.specs.Outline.{angleAbout}
-
--- the angle of a meeting point, and its adopters
-pub record Mark : Type 0 where
-  pub phi : Float
-  pub adopters : ℕ
-
-abbrev pub mark : Float → ℕ → Mark
-mark phi adopters = record { phi = phi; adopters = adopters }
-
--- what stands for a mark that a list does not have
-abbrev pub noMark : Mark
-noMark = mark nan 0
-
--- the marks that two arrays hold, from a place on
-unfoldable pub marksFrom : List Float → List ℕ → ℕ → ℕ → List Mark
-unfolding tab
-marksFrom phi adopters at n = tab (λ i. mark (getD phi (at + i) nan) (getD adopters (at + i) 0)) n
-
--- x before the first of a greater angle
-unfoldable pub insertMark : Mark → List Mark → List Mark
-insertMark x [] = x ∷ []
-insertMark x (y ∷ ys) = cond (x .phi <ᶠ y .phi) (x ∷ y ∷ ys) (y ∷ insertMark x ys)
+use Rattle.boundary.specs.Marks.{Mark, mark, insertMark}
 
 -- one after another of the list, put into those before it
 unfoldable pub sortMarksOnto : List Mark → List Mark → List Mark

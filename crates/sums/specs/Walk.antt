@@ -19,7 +19,8 @@ use Rattle.intersections.specs.declared.points.IntersectionPoint.{IntersectionP
 use Rattle.intersections.specs.Members.{headsOf, circleAt, pointsHeld}
 use Rattle.boundary.specs.declared.arcs.BoundaryArc.{BoundaryArc}
 use Rattle.boundary.specs.Outline.{lets, gap, collapsed, pointAt, probe, between, fullCircle}
-use Rattle.sums.specs.Marks.{Mark, marksFrom, hasParent, marksAt, anglesIn}
+use Rattle.boundary.specs.Marks.{Mark, marksFrom}
+use Rattle.sums.specs.Marks.{hasParent, marksAt, anglesIn}
 
 -- ---- circles and marks, as arrays hold them
 

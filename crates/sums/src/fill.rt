@@ -7,6 +7,7 @@ use boundary::angles::gap;
 use boundary::angles::point_at;
 use boundary::angles::probe;
 use boundary::ownership::lets;
+use boundary::sort::insert_marked;
 use geometry::circle::Circle;
 use geometry::point::Point;
 use intersections::points::IntersectionPoint;
@@ -17,12 +18,10 @@ ghost use Prim.Native.Nat.{_+_, _*_, _%_, _<_, _≤_, min};
 ghost use lib.ListN.{length, getD};
 ghost use lib.Ieee.{nan};
 ghost use Rattle.lists.specs.Lists.{keep};
-ghost use Rattle.lists.specs.Written.{tab};
 ghost use Rattle.intersections.specs.Counted.{pointList};
-ghost use Rattle.boundary.specs.Sort.{place};
-ghost use Rattle.sums.specs.Marks.{mark, marksFrom, insertMark, hasParent};
+ghost use Rattle.sums.specs.Marks.{hasParent};
 ghost use Rattle.sums.specs.Walk.{circlesIn, letters, gapLetters, Few, fewPoints, Marked};
-ghost use Rattle.sums.specs.Filled.{Filled, Kept, Long};
+ghost use Rattle.sums.specs.Filled.{Filled, Long};
 
 // The heads that let head j have the point p of its edge.
 fn letters(c: &[f64; 30], n_sets: usize, j: usize, p: Point) -> usize
@@ -51,53 +50,6 @@ fn gap_letters(c: &[f64; 30], n_sets: usize, j: usize, phi_a: f64, phi_b: f64) -
     }
     let circle = circle_at(c, j);
     letters(c, n_sets, j, point_at(circle, phi_a + delta * 0.5))
-}
-
-// How many of n angles stand before the first that is greater than x.
-fn place_at(phi: &[f64; 320], at: usize, n: usize, x: f64) -> usize
-    requires { ⌜ at + n ≤ 320 ⌝ }
-    ensures { λ r. ⌜ r ≡ place x (tab (λ i. getD (now (phi .entry)) (at + i) nan) n) ⌝ }
-{
-    let mut i: usize = 0;
-    while i < n {
-        if x < phi[at + i] {
-            return i;
-        }
-        i += 1;
-    }
-    i
-}
-
-// An angle and its point's adopters put in among n, before the first of a greater angle.
-fn insert_at(
-    phi: &mut [f64; 320],
-    adopters: &mut [usize; 320],
-    at: usize,
-    n: usize,
-    x: f64,
-    who: usize,
-)
-    requires { ⌜ (at + 32 ≤ 320) × ((n < 32) × ((length (now phi) ≡ 320) × (length (now adopters) ≡ 320))) ⌝ }
-    ensures { λ r. ⌜ marksFrom (now (phi .exit)) (now (adopters .exit)) at (n + 1)
-        ≡ insertMark (mark x who) (marksFrom (now (phi .entry)) (now (adopters .entry)) at n) ⌝ }
-    ensures { λ r. ⌜ Kept at nan (now (phi .entry)) (now (phi .exit)) × Kept at 0 (now (adopters .entry)) (now (adopters .exit)) ⌝ }
-{
-    let mut i = place_at(phi, at, n, x);
-    let mut carry = x;
-    let mut carried = who;
-    while i < n {
-        let p = at + i;
-        let next = phi[p];
-        let after = adopters[p];
-        phi[p] = carry;
-        adopters[p] = carried;
-        carry = next;
-        carried = after;
-        i += 1;
-    }
-    let last = at + n;
-    phi[last] = carry;
-    adopters[last] = carried;
 }
 
 fn has_parent(j: usize, q: IntersectionPoint) -> bool
@@ -192,7 +144,7 @@ pub(crate) fn fill_heads(
                 let q = points.all[i];
                 if has_parent(j, q) {
                     let angle = angle_about(circle, q.point);
-                    insert_at(phi, adopters, j * 32, count, angle, q.adopters);
+                    insert_marked(phi, adopters, j * 32, count, angle, q.adopters);
                     count += 1;
                 }
                 i += 1;

@@ -4,7 +4,7 @@ use borrow.Author.Tests.{eq-eqb, ne-eqb}
 use mathlib.Core.Path.{_≡_, refl, sym, ap, _∙_}
 use mathlib.Core.List.{List}
 use mathlib.Core.Logic.{⊎-elim}
-use Prim.Native.Nat.{ℕ, min, _-_, _*_, _≤_, _<_}
+use Prim.Native.Nat.{ℕ, min, _+_, _-_, _*_, _≤_, _<_}
 use native.Mathlib.Omega.{arith}
 use lib.Ieee.{Float, nan}
 use lib.ListN.{length, length-take}
@@ -16,11 +16,13 @@ use Rattle.intersections.specs.declared.points.Intersections.{Intersections}
 use Rattle.intersections.specs.Counted.{pointList}
 use Rattle.intersections.specs.Members.{noPoint}
 use Rattle.boundary.specs.Outline.{probe}
-use Rattle.sums.specs.Marks.{marksFrom, hasParent, marksAt}
+use Rattle.boundary.specs.Marks.{marksFrom, Kept}
+use Rattle.sums.specs.Marks.{hasParent, marksAt}
+use Rattle.boundary.proofs.Sorting.{kept-self, kept-then}
 use Rattle.sums.specs.Walk.{circlesIn, letters, Marked}
-use Rattle.sums.specs.Filled.{Kept, Long}
+use Rattle.sums.specs.Filled.{Long}
 use Rattle.sums.proofs.Carrying.{Sorted, laid-start, mark-is, sorted-room, sorted-with, sorted-without, sorted-end}
-use Rattle.sums.proofs.Laying.{kept-self, kept-then, long-in, long-out, marked-none, marked-in, marked-out}
+use Rattle.sums.proofs.Laying.{long-in, long-out, marked-none, marked-in, marked-out}
 use Rattle.sums.proofs.Walking.{circles-many, circle-of}
 use Rattle.sums.proofs.fill.fill_heads.Statement.{statement}
 use Rattle.sums.proofs.fill.fill_heads.Tie as tie
@@ -28,10 +30,10 @@ use Rattle.sums.proofs.fill.fill_heads.Reads as reads
 use Rattle.sums.proofs.fill.fill_heads.Lts as lts
 use Rattle.boundary.proofs.angles.angle_about.Reads as angle-about-reads
 use Rattle.boundary.proofs.angles.probe.Reads as probe-reads
+use Rattle.boundary.proofs.sort.insert_marked.Reads as insert-marked-reads
 use Rattle.sums.proofs.fill.at_most_ninety.Reads as at-most-ninety-reads
 use Rattle.sums.proofs.fill.fill_lets.Reads as fill-lets-reads
 use Rattle.sums.proofs.fill.has_parent.Reads as has-parent-reads
-use Rattle.sums.proofs.fill.insert_at.Reads as insert-at-reads
 use Rattle.sums.proofs.fill.letters.Reads as letters-reads
 use Rattle.sums.proofs.walk.circle_at.Reads as circle-at-reads
 
@@ -117,25 +119,6 @@ loop2-holds c =
       sorted = laid-start (c .circle-at .result) (l .j) (pointList (a .t3)) (l .phi) (l .adopters) (l .j * 32) few;
     }
 
-insert-at-requires : tie.Need-insert-at-requires Inv-loop2 μ-loop2 Inv-loop μ-loop
-insert-at-requires c κs =
-    let t = c .before .before .before in
-    let d = t .before .before .before in
-    let l = d .before .loop2 in
-    let o = d .before .before .before .before .before in
-    let j = o .loop .j in
-    let p = o .before .before .args .t3 in
-    let done = marksFrom (l .phi) (l .adopters) (j * 32) (l .count) in
-    let same = getD-take (p .n) (p .all) (l .i) noPoint (omega (arith, d .loop2-test .taken, l .inv .all)) in (
-      omega (arith, l .inv .head),
-      (
-        sorted-room (d .before .before .circle-at .result) j (pointList p) (l .i) (l .count) done
-            (laid-below (l .inv) (d .loop2-test .taken)) (l .inv .sorted)
-            (ap (hasParent j) same ∙ sym (t .before .has-parent .ensures) ∙ t .if2 .taken),
-        (l .inv .phi-long, l .inv .adopters-long),
-      ),
-    )
-
 loop2-again : tie.Need-loop2-again Inv-loop2 μ-loop2 Inv-loop μ-loop
 loop2-again c =
     let d = c .before .before .before in
@@ -151,19 +134,23 @@ loop2-again c =
     ⊎-elim
     (λ w.
     let f = w .4 .ensures in
+    let parent = told ∙ w .0 .taken in
+    let few = sorted-room circle j (pointList p) (l .i) (l .count) done (laid-below (l .inv) t) (l .inv .sorted) parent in
+    let room : j * 32 + l .count < min (length (l .phi)) (length (l .adopters)) =
+    omega (arith, few, l .inv .head, l .inv .phi-long, l .inv .adopters-long) in
     record {
       places = l .inv .places;
       all = l .inv .all;
       within = omega (arith, t);
       head = l .inv .head;
-      phi-long = rw (w .5) (f .1 .0 .many ∙ l .inv .phi-long);
-      adopters-long = rw (w .6) (f .1 .1 .many ∙ l .inv .adopters-long);
-      phi-kept = rw (w .5) (kept-then (j * 32) nan _ _ _ (l .inv .phi-kept) (f .1 .0));
-      adopters-kept = rw (w .6) (kept-then (j * 32) 0 _ _ _ (l .inv .adopters-kept) (f .1 .1));
+      phi-long = rw (w .5) (f .1 .0 .0 .many ∙ l .inv .phi-long);
+      adopters-long = rw (w .6) (f .1 .0 .1 .many ∙ l .inv .adopters-long);
+      phi-kept = rw (w .5) (kept-then (j * 32) nan _ _ _ (l .inv .phi-kept) (f .1 .0 .0));
+      adopters-kept = rw (w .6) (kept-then (j * 32) 0 _ _ _ (l .inv .adopters-kept) (f .1 .0 .1));
       sorted =
           rw (w .5, w .6, w .7)
-          (sorted-with circle j (pointList p) (l .i) (l .count) done (laid-below (l .inv) t) (l .inv .sorted) (told ∙ w .0 .taken) _ _ _
-          (mark-is circle _ _ _ (w .1 .ensures) same) refl (f .0));
+          (sorted-with circle j (pointList p) (l .i) (l .count) done (laid-below (l .inv) t) (l .inv .sorted) parent _ _ _
+          (mark-is circle _ _ _ (w .1 .ensures) same) refl (f .0 room));
     })
     (λ w.
     record {
@@ -258,6 +245,6 @@ pub fill-heads-spec : {M : Type 1} → statement M
 fill-heads-spec =
     tie.close (tie.spec Inv-loop2 μ-loop2 Inv-loop μ-loop (λ c κs. search needs) loop-holds (λ c. search needs) (λ c κs. search needs)
     loop2-holds (λ c. search needs) (λ c. search needs) (λ c κs. search needs) (λ c κs. search needs) (λ c. search needs)
-    insert-at-requires (λ c. search needs) (λ c. search needs) (λ c. search needs) loop2-again fill-lets-requires (λ c κs. search needs)
+    (λ c κs. search needs) (λ c. search needs) (λ c. search needs) (λ c. search needs) loop2-again fill-lets-requires (λ c κs. search needs)
     (λ c κs. search needs) (λ c. search needs) (λ c. search needs) (λ c. search needs) (λ c. search needs) (λ c. search needs)
     (λ c. search needs) loop-again returns)
