@@ -4,7 +4,7 @@ use mathlib.Core.Path.{sym, ap, _∙_}
 use Prim.Native.Nat.{_-_}
 use native.Mathlib.Omega.{arith}
 use Rattle.sums.specs.Walk.{circleIn, circlesIn}
-use Rattle.sums.specs.Values.{termX, termY, termR}
+use Rattle.outline.specs.Terms.{termX, termY, termR}
 use Rattle.sums.proofs.Valuing.{standing-below, standing-readable, ThreeTo, three-starts, three-past, three-put, three-all}
 use Rattle.sums.proofs.terms.fill_terms.Statement.{statement}
 use Rattle.sums.proofs.terms.fill_terms.Tie as tie

@@ -1,8 +1,8 @@
 -- `terms::term_y` meets its contract.
 use borrow.Author.Needs.{needs}
-use Rattle.sums.specs.Values.{termY}
-use Rattle.sums.proofs.terms.term_y.Statement.{statement}
-use Rattle.sums.proofs.terms.term_y.Tie as tie
+use Rattle.outline.specs.Terms.{termY}
+use Rattle.outline.proofs.terms.term_y.Statement.{statement}
+use Rattle.outline.proofs.terms.term_y.Tie as tie
 
 pub term-y-spec : {M : Type 1} → statement M
 unfolding termY

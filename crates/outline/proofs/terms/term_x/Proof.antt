@@ -1,8 +1,8 @@
 -- `terms::term_x` meets its contract.
 use borrow.Author.Needs.{needs}
-use Rattle.sums.specs.Values.{termX}
-use Rattle.sums.proofs.terms.term_x.Statement.{statement}
-use Rattle.sums.proofs.terms.term_x.Tie as tie
+use Rattle.outline.specs.Terms.{termX}
+use Rattle.outline.proofs.terms.term_x.Statement.{statement}
+use Rattle.outline.proofs.terms.term_x.Tie as tie
 
 pub term-x-spec : {M : Type 1} → statement M
 unfolding termX
