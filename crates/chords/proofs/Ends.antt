@@ -48,16 +48,19 @@ module _ (box : Bounds) (circles : List Circle) (n needed : ℕ) (below : needed
   unfolding highOf
   high-first e l i = rw (getD-take n circles l noCircle (head-below needed n l below i))
 
-  pub filled-chorded : (reach : List ℕ) (low high : List Float) → length reach ≡ 4 → length low ≡ 40 → length high ≡ 40
-      → Chorded box (take n circles) needed (reachWritten box (take n circles) reach)
-      (endsWritten (lowOf box circles) needed (chordPlaces low high) low) (endsWritten (highOf box circles) needed (chordPlaces low high) high)
-  filled-chorded reach low high four forty forty' =
+  -- what `fill_chords` leaves in arrays of full length
+  pub filled-chorded : {reach reach' : List ℕ} {low low' high high' : List Float} → length reach ≡ 4 → length low ≡ 40 → length high ≡ 40
+      → reach' ≡ reachWritten box (take n circles) reach
+      → low' ≡ endsWritten (lowOf box circles) needed (chordPlaces low high) low
+      → high' ≡ endsWritten (highOf box circles) needed (chordPlaces low high) high
+      → Chorded box (take n circles) needed reach' low' high'
+  filled-chorded {reach} {reach'} {low} {low'} {high} {high'} four forty forty' er el eh =
       record {
-        reaches = λ e h. written-before (reachOf box (take n circles)) _ e reach 0 (omega (arith, four, h));
+        reaches = λ e h. ap (λ l. getD l e 0) er ∙ written-before (reachOf box (take n circles)) _ e reach 0 (omega (arith, four, h));
         lows = λ p h i.
-            written-before (endAt (lowOf box circles) needed low) _ p low nan (omega (arith, forty, forty', h))
+            ap (λ l. getD l p nan) el ∙ written-before (endAt (lowOf box circles) needed low) _ p low nan (omega (arith, forty, forty', h))
             ∙ end-in (lowOf box circles) needed low p i ∙ low-first (p / 10) (p % 10) i;
         highs = λ p h i.
-            written-before (endAt (highOf box circles) needed high) _ p high nan (omega (arith, forty, forty', h))
+            ap (λ l. getD l p nan) eh ∙ written-before (endAt (highOf box circles) needed high) _ p high nan (omega (arith, forty, forty', h))
             ∙ end-in (highOf box circles) needed high p i ∙ high-first (p / 10) (p % 10) i;
       }

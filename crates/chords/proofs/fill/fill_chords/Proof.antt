@@ -31,10 +31,19 @@ loop-again c =
       rw (l .inv .3) (write-next _ (l .edge) _ _ 0 (omega (arith, m .loop-test .taken, l .inv .1)) (c .reach-of .ensures)),
     )
 
+abbrev filled : tie.After-loop Inv-loop μ-loop → tie.After-fill-ends Inv-loop μ-loop
+filled c = c .before .before .before .before .before .before .before
+
 returns : tie.Need-returns Inv-loop μ-loop
-returns c = ?
+returns c =
+    let l = c .before .loop in
+    let f = filled c in
+    let a = f .before .before .before .before .before .before .args in
+    let all : l .edge ≡ min 4 (length (a .reach .now)) = omega (arith, l .inv .0, l .inv .1, c .loop-test .left) in
+    (l .inv .3 ∙ ap (λ (m : ℕ). written (reachOf (a .bounds) (take (a .n-sets) (a .circles))) m (a .reach .now)) all, f .fill-ends .ensures)
 
 pub fill-chords-spec : {M : Type 1} → statement M
 fill-chords-spec =
     tie.close (tie.spec Inv-loop μ-loop (λ c κs. search needs) (λ c κs. search needs) loop-holds (λ c κs. search needs) (λ c. search needs)
-    (λ c. search needs) (λ c. search needs) (λ c. search needs) loop-again ? ? ? returns)
+    (λ c. search needs) (λ c. search needs) (λ c. search needs) loop-again (λ c. c .before .loop .inv .2)
+    (λ c. filled c .fill-ends .kept .1 .1 .1 .0) (λ c. filled c .fill-ends .kept .1 .1 .1 .1 .0) returns)
