@@ -49,12 +49,12 @@ module _ (box : Bounds) (circles : List Circle) (n needed : ℕ) (below : needed
   high-first e l i = rw (getD-take n circles l noCircle (head-below needed n l below i))
 
   -- what `fill_chords` leaves in arrays of full length
-  pub filled-chorded : {reach reach' : List ℕ} {low low' high high' : List Float} → length reach ≡ 4 → length low ≡ 40 → length high ≡ 40
+  pub filled-chorded : (reach : List ℕ) (low high : List Float) {reach' : List ℕ} {low' high' : List Float} → length reach ≡ 4 → length low ≡ 40 → length high ≡ 40
       → reach' ≡ reachWritten box (take n circles) reach
       → low' ≡ endsWritten (lowOf box circles) needed (chordPlaces low high) low
       → high' ≡ endsWritten (highOf box circles) needed (chordPlaces low high) high
       → Chorded box (take n circles) needed reach' low' high'
-  filled-chorded {reach} {reach'} {low} {low'} {high} {high'} four forty forty' er el eh =
+  filled-chorded reach low high four forty forty' er el eh =
       record {
         reaches = λ e h. ap (λ l. getD l e 0) er ∙ written-before (reachOf box (take n circles)) _ e reach 0 (omega (arith, four, h));
         lows = λ p h i.
