@@ -7,7 +7,6 @@ pub mod Carrying
 pub mod Owning
 pub mod Walking
 pub mod Laying
-pub mod Spans
 pub mod Filling
 pub mod Valuing
 pub mod Passing

@@ -1,5 +1,4 @@
 // The areas of the rows that a pass works out with their gradients, in lent slices. Rests on specs/Gradients.antt.
-use crate::chords::fill_chords;
 use crate::fast::numbers_of;
 use crate::fast::wanted_heads;
 use crate::fill::few;
@@ -10,6 +9,7 @@ use crate::rows::row_count;
 use crate::shares::fill_parts;
 use crate::terms::fill_slopes;
 use crate::terms::fill_terms;
+use chords::fill::fill_chords;
 use clip::gradient::area_and_gradient_from_clipped_arcs;
 use geometry::bounds::Bounds;
 use geometry::circle::Circle;

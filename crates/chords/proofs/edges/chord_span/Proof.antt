@@ -1,36 +1,29 @@
--- `chords::chord_span`: the ends after the heads below l.
+-- `edges::chord_span`: the ends after the heads below l.
 use borrow.Author.Needs.{needs}
-use mathlib.Core.Path.{_≡_, refl, sym, ap, _∙_}
-use mathlib.Core.Bool.{true, false, cond, not, _&&_, _||_}
-use mathlib.Core.List.{List, [], _∷_, _++_, map}
+use mathlib.Core.Path.{_≡_, sym, _∙_}
 use mathlib.Core.Logic.{⊎-elim}
-use Prim.Native.Nat.{ℕ, zero, suc, _+_, _-_, _*_, _^_, _/_, _%_, _≤_, _<_}
+use Prim.Native.Nat.{ℕ, _+_, _-_, _≤_}
 use native.Mathlib.Omega.{arith}
-use native.Mathlib.Numerals.{add-one}
-use borrow.Author.Tests.{eq-eqb, ne-eqb, lt-ltb, le-ltb, not-true, not-false}
-use lib.Dec.{eqb, ltb}
-use lib.ListN.{length, drop, take, getD, set, length-take, length-set, length-drop}
-use lib.Seq.{getD-take, take-all}
+use borrow.Author.Tests.{eq-eqb, ne-eqb}
+use lib.ListN.{getD}
 use lib.Ieee.{Float, nan}
-use Rattle.lists.proofs.Arrays.{length-of-values}
-use Rattle.masks.specs.Mask.{inSet}
 use Rattle.masks.specs.Operations.{in-by-shift}
-use Rattle.sums.proofs.Spans.{EndsTo, ends-start, ends-in, ends-out, span-open, span-missed}
-use Rattle.sums.proofs.chords.chord_span.Statement.{statement}
-use Rattle.sums.proofs.chords.chord_span.Tie as tie
+use Rattle.chords.proofs.Spans.{EndsTo, ends-start, ends-in, ends-out, span-open, span-missed}
+use Rattle.chords.proofs.edges.chord_span.Statement.{statement}
+use Rattle.chords.proofs.edges.chord_span.Tie as tie
 
 abbrev Inv-loop : tie.InvT-loop
-Inv-loop mask n-sets from to reach at low high lo₀ hi₀ l₀ lo hi l = (l ≤ n-sets) × EndsTo (λ i. getD low (at + i) nan) (λ i. getD high (at + i) nan) mask from to lo hi l
+Inv-loop mask n from to reach at low high lo₀ hi₀ l₀ lo hi l = (l ≤ n) × EndsTo (λ i. getD low (at + i) nan) (λ i. getD high (at + i) nan) mask from to lo hi l
 
 abbrev μ-loop : tie.MeasureT-loop
-μ-loop mask n-sets from to reach at low high lo₀ hi₀ l₀ lo hi l = n-sets - l
+μ-loop mask n from to reach at low high lo₀ hi₀ l₀ lo hi l = n - l
 
 returns : tie.Need-returns Inv-loop μ-loop
 returns c =
     let s = c .before in
     let a = s .args in
     span-missed (λ i. getD (a .low .now) (a .at + i) nan) (λ i. getD (a .high .now) (a .at + i) nan) (a .mask) (a .from) (a .to)
-    (a .n-sets) (a .reach) (s .pre .1 .0) (c .if1 .taken)
+    (a .n) (a .reach) (s .fits .mask .fits) (c .if1 .taken)
 
 loop-again : tie.Need-loop-again Inv-loop μ-loop
 loop-again c =
@@ -53,9 +46,9 @@ returns-2 c =
     let d = c .before .before in
     let s = d .before .before in
     let a = s .args in
-    let e : d .loop .l ≡ a .n-sets = omega arith in
+    let e : d .loop .l ≡ a .n = omega arith in
     c .open-between .ensures
-    ∙ span-open (λ i. getD (a .low .now) (a .at + i) nan) (λ i. getD (a .high .now) (a .at + i) nan) (a .mask) (a .from) (a .to) (rw e at (d .loop .inv .1)) (a .reach) (s .pre .1 .0)
+    ∙ span-open (λ i. getD (a .low .now) (a .at + i) nan) (λ i. getD (a .high .now) (a .at + i) nan) (a .mask) (a .from) (a .to) (rw e at (d .loop .inv .1)) (a .reach) (s .fits .mask .fits)
     (d .before .if1 .left)
 
 pub chord-span-spec : {M : Type 1} → statement M

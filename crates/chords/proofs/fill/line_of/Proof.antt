@@ -1,8 +1,8 @@
--- `chords::line_of`: each way out by the tests that led there.
+-- `fill::line_of`: each way out by the tests that led there.
 use borrow.Author.Tests.{eq-eqb, ne-eqb}
-use Rattle.sums.specs.Chords.{lineOf}
-use Rattle.sums.proofs.chords.line_of.Statement.{statement}
-use Rattle.sums.proofs.chords.line_of.Tie as tie
+use Rattle.chords.specs.Chords.{lineOf}
+use Rattle.chords.proofs.fill.line_of.Statement.{statement}
+use Rattle.chords.proofs.fill.line_of.Tie as tie
 
 returns : tie.Need-returns
 unfolding lineOf

@@ -2,13 +2,15 @@
 use mathlib.Core.Path.{_≡_, refl, sym, ap, _∙_}
 use mathlib.Core.Bool.{Bool, true, false, not, _&&_, _||_, cond}
 use mathlib.Core.List.{List, [], _∷_, _++_, map, map-append, map-map}
-use Prim.Native.Nat.{ℕ, zero, suc, _+_, _*_, _/_, _%_, _<_, _≤_, _^_}
+use Prim.Native.Nat.{ℕ, zero, suc, min, _+_, _*_, _/_, _%_, _<_, _≤_, _^_}
+use native.Mathlib.Nat.{lt-of-lt-of-le}
 use native.Mathlib.Numerals.{add-one}
 use native.Mathlib.Omega.{arith}
 use borrow.Author.Tests.{eq-eqb, ne-eqb}
 use lib.Bits.{bitAnd}
 use lib.ListN.{length, getD}
-use lib.Ieee.{Float, nan, neg}
+use lib.Pow.{pow-mono}
+use lib.Ieee.{Float, nan}
 use Rattle.masks.specs.Mask.{inSet, every, subset, gather, Subset}
 use Rattle.masks.specs.Gather.{in-gather}
 use Rattle.masks.specs.Subset.{and-test, subset-head}
@@ -20,10 +22,10 @@ use Rattle.intersections.specs.Members.{headsOf, circleAt}
 use Rattle.intersections.proofs.Masks.{every-cong}
 use Rattle.inside.specs.Span.{Interval, misses, missed, halfChord, raised, lowered, lowEnd, highEnd, open-between, horizontalSpan, verticalSpan, seen}
 use Rattle.inside.proofs.Spanning.{seen-level, seen-upright}
-use Rattle.clip.specs.Area.{addSpan, addEdges}
-use Rattle.clip.specs.Gradient.{WithGradient, addSpanWithGradient, bottomEdge, rightEdge, topEdge, leftEdge, addEdgesWithGradient}
-use Rattle.sums.proofs.Ranks.{heads-with, heads-without}
-use Rattle.sums.specs.Chords.{uprightEdge, lineOf, reachOf, lowOf, highOf, lowTo, highTo, spanFrom, Chorded}
+use Rattle.clip.specs.Area.{addEdges}
+use Rattle.clip.specs.Gradient.{WithGradient, addEdgesWithGradient}
+use Rattle.chords.specs.Chords.{uprightEdge, lineOf, reachOf, lowOf, highOf, lowTo, highTo, spanFrom, edgeFrom, edgesFrom, edgesWithGradientFrom, Chorded}
+use Rattle.chords.proofs.Heads.{heads-with, heads-without}
 
 module _ (y : Float) where
   missed-append : (a b : List Circle) → missed y (a ++ b) ≡ (missed y a || missed y b)
@@ -133,8 +135,8 @@ module _ (y : Float) where
 
 -- ---- the span of an edge, from what the arrays hold
 
-module _ (box : Bounds) (circles : List Circle) (S : ℕ) (reach : List ℕ) (low high : List Float)
-    (few : length circles ≤ 10) (held : Chorded box circles S reach low high) where
+module _ (box : Bounds) (circles : List Circle) (n S : ℕ) (reach : List ℕ) (low high : List Float)
+    (many : length circles ≡ n) (few : n ≤ 10) (below : S < 2 ^ n) (held : Chorded box circles S reach low high) where
   abbrev own : List Circle
   own = map (circleAt circles) (headsOf (length circles) S)
 
@@ -161,19 +163,23 @@ module _ (box : Bounds) (circles : List Circle) (S : ℕ) (reach : List ℕ) (lo
         (every-cong (length circles) _ _
         (λ i k. ap (λ b. not (inSet S i) || b) (sym (in-gather (length circles) (λ l. not (misses y (circ l))) i k))))
 
+    -- the heads of S are below n, so that the test is the same at any greater width
+    wider : (U : ℕ) → subset (length circles) S U ≡ subset 64 S U
+    wider U = sym (and-test (length circles) S U (rw many below)) ∙ and-test 64 S U (lt-of-lt-of-le below (pow-mono {i = n} {j = 64} (omega (arith, few))))
+
     low-is : (l : ℕ) → l < length circles → inSet S l ≡ true → lows l ≡ circ l .center .x -ᶠ halfChord y (circ l)
     unfolding lowOf
     low-is l h i =
-        let q : (e * 10 + l) / 10 ≡ e = omega arith in
-        let r : (e * 10 + l) % 10 ≡ l = omega arith in
-        rw (q, r) at (held .lows (e * 10 + l) (omega arith) (rw r i))
+        let q : (e * 10 + l) / 10 ≡ e = omega (arith, many, few) in
+        let r : (e * 10 + l) % 10 ≡ l = omega (arith, many, few) in
+        rw (q, r) at (held .lows (e * 10 + l) (omega (arith, many, few)) (rw r i))
 
     high-is : (l : ℕ) → l < length circles → inSet S l ≡ true → highs l ≡ circ l .center .x +ᶠ halfChord y (circ l)
     unfolding highOf
     high-is l h i =
-        let q : (e * 10 + l) / 10 ≡ e = omega arith in
-        let r : (e * 10 + l) % 10 ≡ l = omega arith in
-        rw (q, r) at (held .highs (e * 10 + l) (omega arith) (rw r i))
+        let q : (e * 10 + l) / 10 ≡ e = omega (arith, many, few) in
+        let r : (e * 10 + l) % 10 ≡ l = omega (arith, many, few) in
+        rw (q, r) at (held .highs (e * 10 + l) (omega (arith, many, few)) (rw r i))
 
     chosen : (m : Bool) (a b : List Interval) → cond m a b ≡ cond (not m) b a
     chosen true a b = refl
@@ -187,66 +193,42 @@ module _ (box : Bounds) (circles : List Circle) (S : ℕ) (reach : List ℕ) (lo
         (chosen (missed y (map circ (headsOf (length circles) S))) [] _
         ∙ rw (
           missed-heads y circ S (length circles),
-          reach-is,
+          reach-is ∙ wider (getD reach e 0),
           low-heads y circ S lows from (length circles) low-is,
           high-heads y circ S highs to (length circles) high-is,
         ))
 
-  -- the four of them, added one after another
-  module _ (n : ℕ) (many : length circles ≡ n) (total : Float) {bottom right top left : Float}
-      (eb : bottom ≡ addSpan (neg (box .«y_min»)) total
-      (spanFrom n (getD reach 0 0) (λ l. getD low (0 + l) nan) (λ l. getD high (0 + l) nan) S (box .«x_min») (box .«x_max»)))
-      (er : right ≡ addSpan (box .«x_max») bottom
-      (spanFrom n (getD reach 1 0) (λ l. getD low (10 + l) nan) (λ l. getD high (10 + l) nan) S (box .«y_min») (box .«y_max»)))
-      (et : top ≡ addSpan (box .«y_max») right
-      (spanFrom n (getD reach 2 0) (λ l. getD low (20 + l) nan) (λ l. getD high (20 + l) nan) S (box .«x_min») (box .«x_max»)))
-      (el : left ≡ addSpan (neg (box .«x_min»)) top
-      (spanFrom n (getD reach 3 0) (λ l. getD low (30 + l) nan) (λ l. getD high (30 + l) nan) S (box .«y_min») (box .«y_max»))) where
-    pub edges-are : left ≡ addEdges box own total
-    unfolding addEdges uprightEdge lineOf
-    edges-are =
-        el
-        ∙ rw (
-          sym many,
-          sym (span-is 3 (omega arith) (box .«y_min») (box .«y_max»)) ∙ seen-upright (box .«x_min») (box .«y_min») (box .«y_max») own,
-          et,
-          sym many,
-          sym (span-is 2 (omega arith) (box .«x_min») (box .«x_max»)) ∙ ap (horizontalSpan (box .«y_max») (box .«x_min») (box .«x_max»)) (seen-level own),
-          er,
-          sym many,
-          sym (span-is 1 (omega arith) (box .«y_min») (box .«y_max»)) ∙ seen-upright (box .«x_max») (box .«y_min») (box .«y_max») own,
-          eb,
-          sym many,
-          sym (span-is 0 (omega arith) (box .«x_min») (box .«x_max»)) ∙ ap (horizontalSpan (box .«y_min») (box .«x_min») (box .«x_max»)) (seen-level own),
-        )
+  -- the four edges
+  bottom : edgeFrom (length circles) reach low high S 0 (box .«x_min») (box .«x_max») ≡ horizontalSpan (box .«y_min») (box .«x_min») (box .«x_max») own
+  unfolding uprightEdge lineOf
+  bottom =
+      sym (span-is 0 (omega arith) (box .«x_min») (box .«x_max»)) ∙ ap (horizontalSpan (box .«y_min») (box .«x_min») (box .«x_max»)) (seen-level own)
 
-  -- the same with a gradient
-  module _ (n : ℕ) (many : length circles ≡ n) (at : ℕ) (s : WithGradient) {bottom right top left : WithGradient}
-      (eb : bottom ≡ addSpanWithGradient (bottomEdge box) at s
-      (spanFrom n (getD reach 0 0) (λ l. getD low (0 + l) nan) (λ l. getD high (0 + l) nan) S (box .«x_min») (box .«x_max»)))
-      (er : right ≡ addSpanWithGradient (rightEdge box) at bottom
-      (spanFrom n (getD reach 1 0) (λ l. getD low (10 + l) nan) (λ l. getD high (10 + l) nan) S (box .«y_min») (box .«y_max»)))
-      (et : top ≡ addSpanWithGradient (topEdge box) at right
-      (spanFrom n (getD reach 2 0) (λ l. getD low (20 + l) nan) (λ l. getD high (20 + l) nan) S (box .«x_min») (box .«x_max»)))
-      (el : left ≡ addSpanWithGradient (leftEdge box) at top
-      (spanFrom n (getD reach 3 0) (λ l. getD low (30 + l) nan) (λ l. getD high (30 + l) nan) S (box .«y_min») (box .«y_max»))) where
-    pub edges-with-are : left ≡ addEdgesWithGradient box own at s
-    unfolding addEdgesWithGradient uprightEdge lineOf
-    edges-with-are =
-        el
-        ∙ rw (
-          sym many,
-          sym (span-is 3 (omega arith) (box .«y_min») (box .«y_max»)) ∙ seen-upright (box .«x_min») (box .«y_min») (box .«y_max») own,
-          et,
-          sym many,
-          sym (span-is 2 (omega arith) (box .«x_min») (box .«x_max»)) ∙ ap (horizontalSpan (box .«y_max») (box .«x_min») (box .«x_max»)) (seen-level own),
-          er,
-          sym many,
-          sym (span-is 1 (omega arith) (box .«y_min») (box .«y_max»)) ∙ seen-upright (box .«x_max») (box .«y_min») (box .«y_max») own,
-          eb,
-          sym many,
-          sym (span-is 0 (omega arith) (box .«x_min») (box .«x_max»)) ∙ ap (horizontalSpan (box .«y_min») (box .«x_min») (box .«x_max»)) (seen-level own),
-        )
+  right : edgeFrom (length circles) reach low high S 1 (box .«y_min») (box .«y_max») ≡ verticalSpan (box .«x_max») (box .«y_min») (box .«y_max») own
+  unfolding uprightEdge lineOf
+  right = sym (span-is 1 (omega arith) (box .«y_min») (box .«y_max»)) ∙ seen-upright (box .«x_max») (box .«y_min») (box .«y_max») own
+
+  top : edgeFrom (length circles) reach low high S 2 (box .«x_min») (box .«x_max») ≡ horizontalSpan (box .«y_max») (box .«x_min») (box .«x_max») own
+  unfolding uprightEdge lineOf
+  top =
+      sym (span-is 2 (omega arith) (box .«x_min») (box .«x_max»)) ∙ ap (horizontalSpan (box .«y_max») (box .«x_min») (box .«x_max»)) (seen-level own)
+
+  left : edgeFrom (length circles) reach low high S 3 (box .«y_min») (box .«y_max») ≡ verticalSpan (box .«x_min») (box .«y_min») (box .«y_max») own
+  unfolding uprightEdge lineOf
+  left = sym (span-is 3 (omega arith) (box .«y_min») (box .«y_max»)) ∙ seen-upright (box .«x_min») (box .«y_min») (box .«y_max») own
+
+  -- all of the n heads count
+  count : min n 10 ≡ length circles
+  count = omega (arith, many, few)
+
+  -- the four spans added one after another, and with a gradient
+  pub edges-are : (total : Float) → edgesFrom box (min n 10) reach low high S total ≡ addEdges box own total
+  unfolding edgesFrom addEdges
+  edges-are total = rw (count, bottom, right, top, left)
+
+  pub edges-with-are : (s : WithGradient) → edgesWithGradientFrom box (min n 10) reach low high S s ≡ addEdgesWithGradient box own (n * 3) s
+  unfolding edgesWithGradientFrom addEdgesWithGradient
+  edges-with-are s = rw (count, bottom, right, top, left, sym many)
 
 -- ---- for the loop over the heads
 
@@ -270,26 +252,13 @@ module _ (low high : ℕ → Float) (S : ℕ) (from to : Float) where
     ends-out e = record { lo-is = so-far .lo-is ∙ rw (add-one l, e); hi-is = so-far .hi-is ∙ rw (add-one l, e) }
 
     -- the span
-    pub span-open : (reach : ℕ) → S < 2 ^ l → bitAnd S reach ≡ S → open-between lo hi ≡ spanFrom l reach low high S from to
+    pub span-open : (reach : ℕ) → S < 2 ^ 64 → bitAnd S reach ≡ S → open-between lo hi ≡ spanFrom l reach low high S from to
     unfolding spanFrom
-    span-open reach below all = rw (sym (and-test l S reach below) ∙ eq-eqb (bitAnd S reach) S all, sym (so-far .lo-is), sym (so-far .hi-is))
+    span-open reach fits all = rw (sym (and-test 64 S reach fits) ∙ eq-eqb (bitAnd S reach) S all, sym (so-far .lo-is), sym (so-far .hi-is))
 
-  pub span-missed : (n reach : ℕ) → S < 2 ^ n → (bitAnd S reach ≡ S → ⊥) → [] ≡ spanFrom n reach low high S from to
+  pub span-missed : (n reach : ℕ) → S < 2 ^ 64 → (bitAnd S reach ≡ S → ⊥) → [] ≡ spanFrom n reach low high S from to
   unfolding spanFrom
-  span-missed n reach below e = rw (sym (and-test n S reach below) ∙ ne-eqb (bitAnd S reach) S e)
-
--- ---- for the loops that fill
-
--- one chord's ends, as code finds them
-module _ (box : Bounds) (circles : List Circle) (e l : ℕ) {upright : Bool} {own c : Circle} {at half : Float}
-    (eu : upright ≡ uprightEdge e) (eo : own ≡ circleAt circles l) (ec : c ≡ seen upright own) (ea : at ≡ lineOf box e) (eh : half ≡ halfChord at c) where
-  pub low-end : c .center .x -ᶠ half ≡ lowOf box circles e l
-  unfolding lowOf
-  low-end = rw (eh, ea, ec, eu, eo)
-
-  pub high-end : c .center .x +ᶠ half ≡ highOf box circles e l
-  unfolding highOf
-  high-end = rw (eh, ea, ec, eu, eo)
+  span-missed n reach fits e = rw (sym (and-test 64 S reach fits) ∙ ne-eqb (bitAnd S reach) S e)
 
 -- fewer heads are asked for
 pub chorded-less : {box : Bounds} {circles : List Circle} {needed : ℕ} {reach : List ℕ} {low high : List Float} (S : ℕ) → Subset S needed

@@ -1,0 +1,3 @@
+pub mod Heads
+pub mod Spans
+pub mod Ends
