@@ -6,7 +6,7 @@ use mathlib.Core.Path.{_≡_}
 use mathlib.Core.List.{List, []}
 use lib.Dec.{eqb}
 use lib.ListN.{length, getD}
-use lib.Ieee.{Float, nan, neg}
+use lib.Ieee.{Float, nan}
 use Rattle.lists.specs.Written.{written}
 use Rattle.masks.specs.Mask.{inSet, subset, gather}
 use Rattle.binary64.specs.Floats.{_+ᶠ_, _-ᶠ_}
@@ -14,8 +14,6 @@ use Rattle.geometry.specs.declared.bounds.Bounds.{Bounds}
 use Rattle.geometry.specs.declared.circle.Circle.{Circle}
 use Rattle.intersections.specs.Members.{circleAt}
 use Rattle.inside.specs.Span.{Interval, misses, halfChord, raised, lowered, open-between, seen}
-use Rattle.clip.specs.Area.{addSpan}
-use Rattle.clip.specs.Gradient.{WithGradient, addSpanWithGradient, bottomEdge, rightEdge, topEdge, leftEdge}
 
 -- the vertical edges
 unfoldable pub uprightEdge : ℕ → Bool
@@ -76,22 +74,6 @@ spanFrom n reach low high S from to = cond (subset 64 S reach) (open-between (lo
 -- of edge e, from the slices
 abbrev pub edgeFrom : ℕ → List ℕ → List Float → List Float → ℕ → ℕ → Float → Float → List Interval
 edgeFrom n reach low high S e = spanFrom n (getD reach e 0) (λ l. getD low (e * 10 + l) nan) (λ l. getD high (e * 10 + l) nan) S
-
--- the four of them for a set of the first n heads, counterclockwise from the bottom, added
-unfoldable pub edgesFrom : Bounds → ℕ → List ℕ → List Float → List Float → ℕ → Float → Float
-edgesFrom box n reach low high S total =
-    let bottom = addSpan (neg (box .«y_min»)) total (edgeFrom n reach low high S 0 (box .«x_min») (box .«x_max»)) in
-    let right = addSpan (box .«x_max») bottom (edgeFrom n reach low high S 1 (box .«y_min») (box .«y_max»)) in
-    let top = addSpan (box .«y_max») right (edgeFrom n reach low high S 2 (box .«x_min») (box .«x_max»)) in
-    addSpan (neg (box .«x_min»)) top (edgeFrom n reach low high S 3 (box .«y_min») (box .«y_max»))
-
--- the same with the box's entries of a gradient, after three a head
-unfoldable pub edgesWithGradientFrom : Bounds → ℕ → List ℕ → List Float → List Float → ℕ → WithGradient → WithGradient
-edgesWithGradientFrom box n reach low high S s =
-    let bottom = addSpanWithGradient (bottomEdge box) (n * 3) s (edgeFrom n reach low high S 0 (box .«x_min») (box .«x_max»)) in
-    let right = addSpanWithGradient (rightEdge box) (n * 3) bottom (edgeFrom n reach low high S 1 (box .«y_min») (box .«y_max»)) in
-    let top = addSpanWithGradient (topEdge box) (n * 3) right (edgeFrom n reach low high S 2 (box .«x_min») (box .«x_max»)) in
-    addSpanWithGradient (leftEdge box) (n * 3) top (edgeFrom n reach low high S 3 (box .«y_min») (box .«y_max»))
 
 -- What the arrays hold for the heads of `needed`: 10 places an edge.
 pub record Chorded (box : Bounds) (circles : List Circle) (needed : ℕ) (reach : List ℕ) (low high : List Float) : Type 0 where

@@ -23,7 +23,7 @@ use Rattle.sums.specs.Walk.{circleIn, circlesIn, Ready}
 use Rattle.sums.specs.Rows.{numberAt}
 use Rattle.sums.specs.Fast.{numberOf, OfWanted, Worth}
 use Rattle.sums.proofs.Filling.{HeldTo}
-use Rattle.chords.proofs.Spans.{chorded-less}
+use Rattle.chords.proofs.Spanning.{chorded-less}
 use Rattle.sums.proofs.Valuing.{valued-less, three-less}
 
 -- ---- three numbers a circle

@@ -38,7 +38,7 @@ use Rattle.sums.specs.Values.{headOf, termOf, addTerms, Roomy, standing,
 use Rattle.sums.specs.Slopes.{addThreeAt, slopeX, slopeY, slopeR, addSlopesAt, addPartsAt, sharesFrom, PartsHeld, PartsValued, PartsKnown}
 use Rattle.sums.specs.Gradients.{WorthWith}
 use Rattle.sums.proofs.Walking.{circles-many, circle-of}
-use Rattle.chords.proofs.Spans.{chorded-less}
+use Rattle.chords.proofs.Spanning.{chorded-less}
 use Rattle.sums.proofs.Valuing.{arc-head, head-placed, placed-readable, placed-standing, standing-more, three-less, sum-by-arcs, sum-open, said, heads-in}
 
 -- ---- sums over numbers are sums over their arcs

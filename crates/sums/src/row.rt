@@ -1,12 +1,12 @@
 // The area of a set, and with its gradient, from what is worked out once a head: its arcs listed, what each adds looked up, and in the box the
 // spans of the edges. Rests on specs/Gradients.antt.
+use crate::edges::add_edges;
+use crate::edges::add_edges_with_gradient;
 use crate::shares::add_parts;
 use crate::terms::add_slopes;
 use crate::terms::add_terms;
 use crate::values::add_integrals;
 use crate::walk::walk;
-use chords::edges::add_edges;
-use chords::edges::add_edges_with_gradient;
 use clip::area::empty_box;
 use geometry::bounds::Bounds;
 ghost use mathlib.Core.Path.{_≡_};

@@ -11,7 +11,7 @@ use lib.ListN.{length, take, getD, set, length-take, length-set}
 use lib.Seq.{getD-take, take-all}
 use lib.Ieee.{Float, nan}
 use Rattle.lists.proofs.Arrays.{length-of-values}
-use Rattle.chords.proofs.Spans.{edges-are}
+use Rattle.sums.proofs.Edging.{edges-are}
 use Rattle.sums.specs.Walk.{circlesIn}
 use Rattle.sums.proofs.Walking.{circles-many}
 use Rattle.sums.proofs.Valuing.{all-known, area-of-none, ready-roomy, row-in-box}

@@ -7,7 +7,7 @@ use lib.ListN.{length}
 use Rattle.intersections.specs.Members.{headsOf, circleAt}
 use Rattle.boundary.specs.Set.{regionArcs}
 use Rattle.clip.proofs.Rows.{gradient-of-nothing}
-use Rattle.chords.proofs.Spans.{edges-with-are}
+use Rattle.sums.proofs.Edging.{edges-with-are}
 use Rattle.sums.specs.Walk.{circlesIn}
 use Rattle.sums.proofs.Walking.{circles-many}
 use Rattle.sums.proofs.Valuing.{ready-roomy}

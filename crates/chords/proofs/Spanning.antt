@@ -2,7 +2,7 @@
 use mathlib.Core.Path.{_≡_, refl, sym, ap, _∙_}
 use mathlib.Core.Bool.{Bool, true, false, not, _&&_, _||_, cond}
 use mathlib.Core.List.{List, [], _∷_, _++_, map, map-append, map-map}
-use Prim.Native.Nat.{ℕ, zero, suc, min, _+_, _*_, _/_, _%_, _<_, _≤_, _^_}
+use Prim.Native.Nat.{ℕ, zero, suc, _+_, _*_, _/_, _%_, _<_, _≤_, _^_}
 use native.Mathlib.Nat.{lt-of-lt-of-le}
 use native.Mathlib.Numerals.{add-one}
 use native.Mathlib.Omega.{arith}
@@ -22,9 +22,7 @@ use Rattle.intersections.specs.Members.{headsOf, circleAt}
 use Rattle.intersections.proofs.Masks.{every-cong}
 use Rattle.inside.specs.Span.{Interval, misses, missed, halfChord, raised, lowered, lowEnd, highEnd, open-between, horizontalSpan, verticalSpan, seen}
 use Rattle.inside.proofs.Spanning.{seen-level, seen-upright}
-use Rattle.clip.specs.Area.{addEdges}
-use Rattle.clip.specs.Gradient.{WithGradient, addEdgesWithGradient}
-use Rattle.chords.specs.Chords.{uprightEdge, lineOf, reachOf, lowOf, highOf, lowTo, highTo, spanFrom, edgeFrom, edgesFrom, edgesWithGradientFrom, Chorded}
+use Rattle.chords.specs.Chords.{uprightEdge, lineOf, reachOf, lowOf, highOf, lowTo, highTo, spanFrom, edgeFrom, Chorded}
 use Rattle.chords.proofs.Heads.{heads-with, heads-without}
 
 module _ (y : Float) where
@@ -199,36 +197,23 @@ module _ (box : Bounds) (circles : List Circle) (n S : ℕ) (reach : List ℕ) (
         ))
 
   -- the four edges
-  bottom : edgeFrom (length circles) reach low high S 0 (box .«x_min») (box .«x_max») ≡ horizontalSpan (box .«y_min») (box .«x_min») (box .«x_max») own
+  pub bottom : edgeFrom (length circles) reach low high S 0 (box .«x_min») (box .«x_max») ≡ horizontalSpan (box .«y_min») (box .«x_min») (box .«x_max») own
   unfolding uprightEdge lineOf
   bottom =
       sym (span-is 0 (omega arith) (box .«x_min») (box .«x_max»)) ∙ ap (horizontalSpan (box .«y_min») (box .«x_min») (box .«x_max»)) (seen-level own)
 
-  right : edgeFrom (length circles) reach low high S 1 (box .«y_min») (box .«y_max») ≡ verticalSpan (box .«x_max») (box .«y_min») (box .«y_max») own
+  pub right : edgeFrom (length circles) reach low high S 1 (box .«y_min») (box .«y_max») ≡ verticalSpan (box .«x_max») (box .«y_min») (box .«y_max») own
   unfolding uprightEdge lineOf
   right = sym (span-is 1 (omega arith) (box .«y_min») (box .«y_max»)) ∙ seen-upright (box .«x_max») (box .«y_min») (box .«y_max») own
 
-  top : edgeFrom (length circles) reach low high S 2 (box .«x_min») (box .«x_max») ≡ horizontalSpan (box .«y_max») (box .«x_min») (box .«x_max») own
+  pub top : edgeFrom (length circles) reach low high S 2 (box .«x_min») (box .«x_max») ≡ horizontalSpan (box .«y_max») (box .«x_min») (box .«x_max») own
   unfolding uprightEdge lineOf
   top =
       sym (span-is 2 (omega arith) (box .«x_min») (box .«x_max»)) ∙ ap (horizontalSpan (box .«y_max») (box .«x_min») (box .«x_max»)) (seen-level own)
 
-  left : edgeFrom (length circles) reach low high S 3 (box .«y_min») (box .«y_max») ≡ verticalSpan (box .«x_min») (box .«y_min») (box .«y_max») own
+  pub left : edgeFrom (length circles) reach low high S 3 (box .«y_min») (box .«y_max») ≡ verticalSpan (box .«x_min») (box .«y_min») (box .«y_max») own
   unfolding uprightEdge lineOf
   left = sym (span-is 3 (omega arith) (box .«y_min») (box .«y_max»)) ∙ seen-upright (box .«x_min») (box .«y_min») (box .«y_max») own
-
-  -- all of the n heads count
-  count : min n 10 ≡ length circles
-  count = omega (arith, many, few)
-
-  -- the four spans added one after another, and with a gradient
-  pub edges-are : (total : Float) → edgesFrom box (min n 10) reach low high S total ≡ addEdges box own total
-  unfolding edgesFrom addEdges
-  edges-are total = rw (count, bottom, right, top, left)
-
-  pub edges-with-are : (s : WithGradient) → edgesWithGradientFrom box (min n 10) reach low high S s ≡ addEdgesWithGradient box own (n * 3) s
-  unfolding edgesWithGradientFrom addEdgesWithGradient
-  edges-with-are s = rw (count, bottom, right, top, left, sym many)
 
 -- ---- for the loop over the heads
 
