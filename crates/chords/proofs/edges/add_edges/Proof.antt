@@ -1,6 +1,6 @@
 -- `edges::add_edges`: the four spans one after another.
 use borrow.Author.Needs.{needs}
-use mathlib.Core.Path.{_≡_, _∙_}
+use mathlib.Core.Path.{_∙_}
 use native.Mathlib.Omega.{arith}
 use Rattle.chords.specs.Chords.{edgesFrom}
 use Rattle.chords.proofs.edges.add_edges.Statement.{statement}

@@ -1,7 +1,7 @@
 -- `edges::add_edges_with_gradient`: the four spans one after another.
 use borrow.Author.Needs.{needs}
 use mathlib.Core.Path.{_≡_, _∙_}
-use Prim.Native.Nat.{ℕ, min, _*_}
+use Prim.Native.Nat.{min, _*_}
 use native.Mathlib.Omega.{arith}
 use Rattle.chords.specs.Chords.{edgesWithGradientFrom}
 use Rattle.chords.proofs.edges.add_edges_with_gradient.Statement.{statement}
