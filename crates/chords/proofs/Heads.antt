@@ -1,7 +1,7 @@
 -- The heads of a set below n + 1: those below n, and n if it is one of them.
 use mathlib.Core.Path.{_≡_, refl, _∙_}
 use mathlib.Core.Bool.{true, false, cond}
-use mathlib.Core.List.{List, [], _∷_, _++_, append-nil}
+use mathlib.Core.List.{[], _∷_, _++_, append-nil}
 use Prim.Native.Nat.{ℕ, suc}
 use Rattle.masks.specs.Mask.{inSet}
 use Rattle.lists.specs.Lists.{upTo}

@@ -11,10 +11,10 @@ use lib.Bits.{bitAnd}
 use lib.ListN.{length, getD}
 use lib.Pow.{pow-mono}
 use lib.Ieee.{Float, nan}
-use Rattle.masks.specs.Mask.{inSet, every, subset, gather, Subset}
+use Rattle.masks.specs.Mask.{inSet, every, subset, Subset}
 use Rattle.masks.specs.Gather.{in-gather}
 use Rattle.masks.specs.Subset.{and-test, subset-head}
-use Rattle.binary64.specs.Floats.{_+ᶠ_, _-ᶠ_, _*ᶠ_, _<ᶠ_}
+use Rattle.binary64.specs.Floats.{_+ᶠ_, _-ᶠ_}
 use Rattle.geometry.specs.declared.bounds.Bounds.{Bounds}
 use Rattle.geometry.specs.declared.circle.Circle.{Circle}
 use Rattle.lists.specs.Lists.{upTo}

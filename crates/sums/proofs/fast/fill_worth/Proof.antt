@@ -1,16 +1,7 @@
 -- `fast::fill_worth`: what each of the two ways fills.
 use borrow.Author.Needs.{needs}
-use mathlib.Core.Path.{_≡_, refl, sym, ap, _∙_}
+use mathlib.Core.Path.{sym, _∙_}
 use mathlib.Core.Bool.{true, false, true≢false}
-use mathlib.Core.Logic.{⊎-elim}
-use Prim.Native.Nat.{ℕ, _+_, _-_, _*_, _^_, _/_, _%_, _≤_, _<_}
-use native.Mathlib.Omega.{arith}
-use borrow.Author.Tests.{eq-eqb, ne-eqb, lt-ltb, le-ltb, not-true, not-false}
-use lib.Dec.{eqb, ltb}
-use lib.ListN.{length, take, getD, set, length-take, length-set}
-use lib.Seq.{getD-take, take-all}
-use lib.Ieee.{Float, nan}
-use Rattle.lists.proofs.Arrays.{length-of-values}
 use Rattle.chords.proofs.Ends.{filled-chorded}
 use Rattle.sums.proofs.fast.fill_worth.Statement.{statement}
 use Rattle.sums.proofs.fast.fill_worth.Tie as tie

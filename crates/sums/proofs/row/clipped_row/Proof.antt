@@ -1,16 +1,6 @@
 -- `row::clipped_row`: the arcs that the walk lists, then the edges.
 use borrow.Author.Needs.{needs}
-use mathlib.Core.Path.{_≡_, refl, sym, ap, _∙_}
-use mathlib.Core.Bool.{true, false, true≢false}
-use mathlib.Core.Logic.{⊎-elim}
-use Prim.Native.Nat.{ℕ, _+_, _-_, _*_, _^_, _/_, _%_, _≤_, _<_}
-use native.Mathlib.Omega.{arith}
-use borrow.Author.Tests.{eq-eqb, ne-eqb, lt-ltb, le-ltb, not-true, not-false}
-use lib.Dec.{eqb, ltb}
-use lib.ListN.{length, take, getD, set, length-take, length-set}
-use lib.Seq.{getD-take, take-all}
-use lib.Ieee.{Float, nan}
-use Rattle.lists.proofs.Arrays.{length-of-values}
+use mathlib.Core.Path.{sym, _∙_}
 use Rattle.sums.proofs.Edging.{edges-are}
 use Rattle.sums.specs.Walk.{circlesIn}
 use Rattle.sums.proofs.Walking.{circles-many}
