@@ -11,6 +11,7 @@ use lib.ListN.{length}
 use lib.Ieee.{Float}
 use Rattle.lists.proofs.Writing.{length-tab, getD-tab}
 use Rattle.intersections.specs.Members.{noCircle, circleAt}
+use Rattle.boundary.proofs.Gaps.{next-below}
 use Rattle.gaps.specs.Gaps.{circleIn, circlesIn, nextOf}
 
 -- ---- the circles of three numbers each
@@ -49,3 +50,6 @@ next-is a n h = by (ltb (a + 1) n) refl
     by false q =
         let e : a + 1 ≡ n = omega (arith, h, ltb-false (a + 1) n q) in
         next-round a n (ltb-false (a + 1) n q) ∙ rw e (sym (mod-self n))
+
+pub next-less : (a n : ℕ) → a < n → nextOf a n < n
+next-less a n h = rw (next-is a n h) (next-below a n h)

@@ -22,7 +22,7 @@ use Rattle.boundary.specs.Marks.{mark, marksFrom, Kept}
 use Rattle.sums.specs.Marks.{marksAt}
 use Rattle.sums.specs.Walk.{marksIn, letters, gapLetters, HeadReady, Marked}
 use Rattle.sums.specs.Filled.{Filled, Long}
-use Rattle.sums.proofs.Ranks.{lt-or-eq}
+use Rattle.gaps.proofs.Owning.{lt-or-eq}
 
 -- ---- place by place
 

@@ -40,6 +40,10 @@ within c =
       omega (arith, c .if3 .left),
     )
 
+-- the gap goes to the next angle
+neighbours : (c : tie.Then4) → let a = c .before .before .before .before .before .before .args in a .b ≡ nextOf (a .a) (a .n)
+neighbours c = omega (arith, c .if4 .taken, c .before .next .ensures)
+
 returns-4 : tie.Need-returns-4
 returns-4 c =
     let t = c .before .before in
@@ -48,7 +52,7 @@ returns-4 c =
     let a = s .args in
     let w = within d in
     neighbours-arc (circlesIn (a .c .now) (min (a .n-sets) 10)) (a .phi .now) (a .lets .now) (a .mask) (a .j) (a .n) (a .a) (a .b) (w .0) (w .1) (w .2)
-    (t .if4 .taken ∙ t .before .next .ensures) (sym (and-test 64 (a .mask) _ (s .fits .mask .fits)) ∙ eq-eqb _ _ (c .if5 .taken))
+    (neighbours t) (sym (and-test 64 (a .mask) _ (s .fits .mask .fits)) ∙ eq-eqb _ _ (c .if5 .taken))
 
 returns-5 : tie.Need-returns-5
 returns-5 c =
@@ -58,7 +62,7 @@ returns-5 c =
     let a = s .args in
     let w = within d in
     neighbours-none (circlesIn (a .c .now) (min (a .n-sets) 10)) (a .phi .now) (a .lets .now) (a .mask) (a .j) (a .n) (a .a) (a .b) (w .0) (w .1) (w .2)
-    (t .if4 .taken ∙ t .before .next .ensures) (sym (and-test 64 (a .mask) _ (s .fits .mask .fits)) ∙ ne-eqb _ _ (c .if5 .left))
+    (neighbours t) (sym (and-test 64 (a .mask) _ (s .fits .mask .fits)) ∙ ne-eqb _ _ (c .if5 .left))
 
 -- the gap worked out, of two that are no neighbours
 worked : (c : tie.After-is-arc) → let a = c .before .before .before .before .before .before .before .before .before .args in

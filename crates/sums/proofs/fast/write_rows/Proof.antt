@@ -20,7 +20,8 @@ use Rattle.masks.specs.Presence.{stands}
 use Rattle.intersections.specs.declared.points.IntersectionPoint.{IntersectionPoint}
 use Rattle.intersections.specs.Members.{membersOf}
 use Rattle.sums.specs.Rows.{areaOf, numberAt}
-use Rattle.sums.specs.Walk.{circlesIn, Few}
+use Rattle.gaps.specs.Gaps.{circlesIn}
+use Rattle.sums.specs.Walk.{Few}
 use Rattle.sums.specs.Values.{MarksOf}
 use Rattle.sums.specs.Fast.{OfWanted}
 use Rattle.sums.proofs.fast.write_rows.Statement.{statement}
