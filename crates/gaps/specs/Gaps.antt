@@ -48,9 +48,9 @@ isArc circles S j a b = not (collapsed (gap a b)) && ownedIn circles S j (midpoi
 unfoldable pub nextOf : ℕ → ℕ → ℕ
 nextOf a n = cond (ltb (a + 1) n) (a + 1) 0
 
--- what stands for no arc: past the number of every arc, 330 + 320 * 320
+-- what stands for no arc: past the number of every arc
 abbrev pub noArc : ℕ
-noArc = 102730
+noArc = 330 + 320 * 320
 
 module _ (circles : List Circle) (phi : List Float) (lets : List ℕ) (S j n a b : ℕ) where
   -- between neighbours: the place of the angle that it begins at, if all heads of S are among those held to let head j have the gap

@@ -12,7 +12,7 @@ ghost use Prim.Native.Nat.{_<_, _≤_, min};
 ghost use Rattle.gaps.specs.Gaps.{circlesIn, ownedIn, isArc, gapNumber};
 
 // What stands for no arc: past the number of every arc.
-pub const NO_ARC: usize = 102730;
+pub const NO_ARC: usize = 330 + 320 * 320;
 
 // Every head of the set lets head j have the point p.
 fn owned_in(c: &[f64; 30], n_sets: usize, mask: usize, j: usize, p: Point) -> bool

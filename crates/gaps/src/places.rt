@@ -5,6 +5,7 @@ ghost use mathlib.Core.Path.{_≡_};
 ghost use Prim.Native.Nat.{min};
 ghost use Rattle.gaps.specs.Gaps.{circleIn, nextOf};
 
+// Head l, or the last of ten if it is past that.
 fn at_most_nine(l: usize) -> usize
     ensures { λ r. ⌜ r ≡ min l 9 ⌝ }
 {
@@ -26,7 +27,7 @@ pub fn circle_at(c: &[f64; 30], l: usize) -> Circle
     }
 }
 
-// The next place of n, round a circle.
+// The next place of n, round a circle: the first after the last, and after one past that.
 pub fn next(a: usize, n: usize) -> usize
     ensures { λ r. ⌜ r ≡ nextOf a n ⌝ }
 {

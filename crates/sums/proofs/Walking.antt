@@ -28,13 +28,13 @@ use Rattle.intersections.specs.Members.{circleAt}
 use Rattle.boundary.specs.declared.arcs.BoundaryArc.{BoundaryArc}
 use Rattle.boundary.specs.Outline.{gap, between, fullCircle, probe}
 use Rattle.boundary.specs.Marks.{Mark, mark, noMark, marksFrom}
-use Rattle.sums.specs.Marks.{adoptedBy, anglesIn}
 use Rattle.gaps.specs.Gaps.{ownedIn, isArc, nextOf, noArc, gapNumber}
-use Rattle.sums.specs.Walk.{letters, gapLetters, gapIn, wholeIn, gapsIn, headIn, partIn, headsIn, arcsBy}
-use Rattle.sums.specs.Walk.{marksIn, NextIn, nextPlace, gapArc, arcAt, arcsOf, Angled, Placed, Listing}
 use Rattle.gaps.proofs.Circles.{next-is}
 use Rattle.gaps.proofs.Numbering.{by-cases}
 use Rattle.gaps.proofs.Owning.{lt-or-eq}
+use Rattle.sums.specs.Marks.{adoptedBy, anglesIn}
+use Rattle.sums.specs.Walk.{letters, gapLetters, gapIn, wholeIn, gapsIn, headIn, partIn, headsIn, arcsBy}
+use Rattle.sums.specs.Walk.{marksIn, NextIn, nextPlace, gapArc, arcAt, arcsOf, Angled, Placed, Listing}
 use Rattle.sums.proofs.Ranks.{owned-by-mask}
 use Rattle.sums.proofs.Owning.{arc-by-mask}
 

@@ -19,8 +19,8 @@ ghost use lib.ListN.{length, getD};
 ghost use lib.Ieee.{nan};
 ghost use Rattle.lists.specs.Lists.{keep};
 ghost use Rattle.intersections.specs.Counted.{pointList};
-ghost use Rattle.sums.specs.Marks.{hasParent};
 ghost use Rattle.gaps.specs.Gaps.{circlesIn};
+ghost use Rattle.sums.specs.Marks.{hasParent};
 ghost use Rattle.sums.specs.Walk.{letters, gapLetters, Few, fewPoints, Marked};
 ghost use Rattle.sums.specs.Filled.{Filled, Long};
 

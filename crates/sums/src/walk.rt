@@ -8,8 +8,8 @@ ghost use Prim.Native.Nat.{_+_, _*_, _%_, _^_, _<_, _≤_};
 ghost use lib.ListN.{length, getD};
 ghost use lib.Ieee.{nan};
 ghost use Rattle.masks.specs.Mask.{inSet};
-ghost use Rattle.sums.specs.Marks.{anglesIn};
 ghost use Rattle.gaps.specs.Gaps.{circlesIn};
+ghost use Rattle.sums.specs.Marks.{anglesIn};
 ghost use Rattle.sums.specs.Walk.{marksIn, gapLetters, gapIn, headIn, arcsBy};
 ghost use Rattle.sums.specs.Walk.{NextIn, arcsOf, Listing, HeadReady, Ready};
 

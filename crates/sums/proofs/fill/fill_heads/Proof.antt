@@ -17,14 +17,14 @@ use Rattle.intersections.specs.Counted.{pointList}
 use Rattle.intersections.specs.Members.{noPoint}
 use Rattle.boundary.specs.Outline.{probe}
 use Rattle.boundary.specs.Marks.{marksFrom, Kept}
+use Rattle.gaps.specs.Gaps.{circlesIn}
+use Rattle.gaps.proofs.Circles.{circles-many, circle-held}
 use Rattle.sums.specs.Marks.{hasParent, marksAt}
 use Rattle.boundary.proofs.Sorting.{kept-self, kept-then}
-use Rattle.gaps.specs.Gaps.{circlesIn}
 use Rattle.sums.specs.Walk.{letters, Marked}
 use Rattle.sums.specs.Filled.{Long}
 use Rattle.sums.proofs.Carrying.{Sorted, laid-start, mark-is, sorted-room, sorted-with, sorted-without, sorted-end}
 use Rattle.sums.proofs.Laying.{long-in, long-out, marked-none, marked-in, marked-out}
-use Rattle.gaps.proofs.Circles.{circles-many, circle-held}
 use Rattle.sums.proofs.fill.fill_heads.Statement.{statement}
 use Rattle.sums.proofs.fill.fill_heads.Tie as tie
 use Rattle.sums.proofs.fill.fill_heads.Reads as reads

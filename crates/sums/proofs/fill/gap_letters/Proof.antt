@@ -1,7 +1,7 @@
 use mathlib.Core.Path.{sym, _∙_}
 use Rattle.gaps.specs.Gaps.{circlesIn}
-use Rattle.sums.proofs.Owning.{nobody-lets, these-let}
 use Rattle.gaps.proofs.Circles.{circle-held}
+use Rattle.sums.proofs.Owning.{nobody-lets, these-let}
 use borrow.Author.Needs.{needs}
 use Rattle.sums.proofs.fill.gap_letters.Statement.{statement}
 use Rattle.sums.proofs.fill.gap_letters.Tie as tie

@@ -8,8 +8,8 @@ use Rattle.intersections.specs.Members.{circleAt}
 use Rattle.intersections.proofs.Adopting.{gather-with, gather-without}
 use Rattle.boundary.specs.Outline.{lets}
 use Rattle.gaps.specs.Gaps.{circlesIn}
-use Rattle.sums.proofs.Owning.{gather-start, letters-are}
 use Rattle.gaps.proofs.Circles.{circles-many, circle-held}
+use Rattle.sums.proofs.Owning.{gather-start, letters-are}
 use borrow.Author.Needs.{needs}
 use Rattle.sums.proofs.fill.letters.Statement.{statement}
 use Rattle.sums.proofs.fill.letters.Tie as tie

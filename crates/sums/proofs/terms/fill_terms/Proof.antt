@@ -1,6 +1,6 @@
 -- `terms::fill_terms`: the places below p that are asked for hold the terms of their arcs.
 use borrow.Author.Needs.{needs}
-use mathlib.Core.Path.{sym, ap, _∙_}
+use mathlib.Core.Path.{sym, _∙_}
 use Prim.Native.Nat.{_-_}
 use native.Mathlib.Omega.{arith}
 use Rattle.gaps.specs.Gaps.{circlesIn}
