@@ -19,8 +19,9 @@ ghost use Rattle.masks.specs.Presence.{stands};
 ghost use Rattle.intersections.specs.declared.points.IntersectionPoint.{IntersectionPoint};
 ghost use Rattle.intersections.specs.Counted.{pointList};
 ghost use Rattle.intersections.specs.Members.{membersOf};
+ghost use Rattle.gaps.specs.Gaps.{circlesIn};
 ghost use Rattle.sums.specs.Rows.{areaOf, numberAt, areasWritten};
-ghost use Rattle.sums.specs.Walk.{circlesIn, Few, Ready};
+ghost use Rattle.sums.specs.Walk.{Few, Ready};
 ghost use Rattle.sums.specs.Values.{Roomy, MarksOf};
 ghost use Rattle.sums.specs.Fast.{numberOf, OfWanted, Worth, RowReady};
 

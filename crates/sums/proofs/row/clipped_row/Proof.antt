@@ -1,9 +1,9 @@
 -- `row::clipped_row`: the arcs that the walk lists, then the edges.
 use borrow.Author.Needs.{needs}
 use mathlib.Core.Path.{sym, _∙_}
+use Rattle.gaps.specs.Gaps.{circlesIn}
+use Rattle.gaps.proofs.Circles.{circles-many}
 use Rattle.sums.proofs.Edging.{edges-are}
-use Rattle.sums.specs.Walk.{circlesIn}
-use Rattle.sums.proofs.Walking.{circles-many}
 use Rattle.sums.proofs.Valuing.{all-known, area-of-none, ready-roomy, row-in-box}
 use Rattle.sums.proofs.row.clipped_row.Statement.{statement}
 use Rattle.sums.proofs.row.clipped_row.Tie as tie

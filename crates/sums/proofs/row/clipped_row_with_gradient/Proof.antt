@@ -7,9 +7,9 @@ use lib.ListN.{length}
 use Rattle.intersections.specs.Members.{headsOf, circleAt}
 use Rattle.boundary.specs.Set.{regionArcs}
 use Rattle.clip.proofs.Rows.{gradient-of-nothing}
+use Rattle.gaps.specs.Gaps.{circlesIn}
+use Rattle.gaps.proofs.Circles.{circles-many}
 use Rattle.sums.proofs.Edging.{edges-with-are}
-use Rattle.sums.specs.Walk.{circlesIn}
-use Rattle.sums.proofs.Walking.{circles-many}
 use Rattle.sums.proofs.Valuing.{ready-roomy}
 use Rattle.sums.proofs.Sloping.{parts-known, every-first, row-in-box-with}
 use Rattle.sums.proofs.row.clipped_row_with_gradient.Statement.{statement}

@@ -11,7 +11,7 @@ use lib.ListN.{length, take, getD, set, length-take, length-set}
 use lib.Seq.{getD-take, take-all}
 use lib.Ieee.{Float, nan}
 use Rattle.lists.proofs.Arrays.{length-of-values}
-use Rattle.sums.specs.Walk.{circleIn}
+use Rattle.gaps.proofs.Circles.{circle-first}
 use Rattle.outline.specs.Terms.{termX, termY, termR}
 use Rattle.sums.proofs.Valuing.{term-is}
 use Rattle.sums.proofs.terms.add_arc.Statement.{statement}
@@ -24,11 +24,6 @@ returns c =
     let known = s .pre .1 in
     c .add-three .ensures ∙ rw (known .x .held (d .if1 .taken), known .y .held (d .if1 .taken), known .r .held (d .if1 .taken))
 
-circle-at-requires : tie.Need-circle-at-requires
-circle-at-requires c κs =
-    let s = c .before .before in
-    omega (arith, c .head-of .ensures, s .pre .1 .x .below, s .pre .0)
-
 arc-at-requires : tie.Need-arc-at-requires
 arc-at-requires c κs = c .before .before .before .pre .1 .x .readable
 
@@ -40,7 +35,7 @@ returns-2 c =
     let s = h .before .before in
     let a = s .args in
     let head = s .pre .1 .x .below in
-    let circle = k .before .circle-at .ensures ∙ ap (circleIn (a .c .now)) (h .head-of .ensures) in
+    let circle = k .before .circle-at .ensures ∙ circle-first (a .c .now) (h .head-of .ensures) (omega (arith, head, s .pre .0)) in
     c .add-three2 .ensures
     ∙ rw (
       d .before .before .term-x .ensures ∙ term-is termX (a .c .now) (a .n-sets) (a .counts .now) (a .phi .now) (a .place) head circle (k .arc-at .ensures),
@@ -51,5 +46,5 @@ returns-2 c =
 pub add-arc-spec : {M : Type 1} → statement M
 add-arc-spec =
     tie.close (tie.spec (λ c. search needs) (λ c. search needs) (λ c. search needs) (λ c. search needs) (λ c. search needs)
-    (λ c. search needs) (λ c κs. search needs) returns (λ c κs. search needs) circle-at-requires arc-at-requires (λ c κs. search needs)
+    (λ c. search needs) (λ c κs. search needs) returns (λ c κs. search needs) (λ c κs. search needs) arc-at-requires (λ c κs. search needs)
     (λ c κs. search needs) (λ c κs. search needs) (λ c κs. search needs) returns-2)

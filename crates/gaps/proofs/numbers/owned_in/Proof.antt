@@ -9,15 +9,11 @@ use Rattle.masks.specs.Mask.{inSet, every}
 use Rattle.masks.specs.Operations.{in-by-shift}
 use Rattle.boundary.specs.Outline.{lets}
 use Rattle.intersections.specs.Members.{circleAt}
-use Rattle.sums.specs.Walk.{circlesIn}
-use Rattle.sums.proofs.Owning.{true-or, not-in, every-suc, owned-all-of, owned-fails}
-use Rattle.sums.proofs.Walking.{circles-many, circle-of}
-use Rattle.sums.proofs.walk.owned_in.Statement.{statement}
-use Rattle.sums.proofs.walk.owned_in.Tie as tie
-use Rattle.sums.proofs.walk.owned_in.Reads as reads
-use Rattle.sums.proofs.walk.owned_in.Lts as lts
-use Rattle.boundary.proofs.ownership.lets.Reads as lets-reads
-use Rattle.sums.proofs.walk.circle_at.Reads as circle-at-reads
+use Rattle.gaps.specs.Gaps.{circlesIn}
+use Rattle.gaps.proofs.Owning.{true-or, not-in, every-suc, owned-all-of, owned-fails}
+use Rattle.gaps.proofs.Circles.{circles-many, circle-held}
+use Rattle.gaps.proofs.numbers.owned_in.Statement.{statement}
+use Rattle.gaps.proofs.numbers.owned_in.Tie as tie
 
 abbrev Inv-loop : tie.InvT-loop
 Inv-loop c n-sets mask j p l₀ l = (l ≤ n-sets) × (every l (λ i. not (inSet mask i) || lets j p i (circleAt (circlesIn c n-sets) i)) ≡ true)
@@ -25,12 +21,10 @@ Inv-loop c n-sets mask j p l₀ l = (l ≤ n-sets) × (every l (λ i. not (inSet
 abbrev μ-loop : tie.MeasureT-loop
 μ-loop c n-sets mask j p l₀ l = n-sets - l
 
--- src/walk.rt:45:5
 loop-holds : tie.Need-loop-holds Inv-loop μ-loop
 unfolding every
 loop-holds c = (omega arith, refl)
 
--- src/walk.rt:48:17
 returns : tie.Need-returns Inv-loop μ-loop
 returns c =
     let d = c .before .before .before .before .before in
@@ -39,10 +33,9 @@ returns c =
     let below : l < a .n-sets = omega arith in
     owned-fails (circlesIn (a .c .now) (a .n-sets)) (a .mask) (a .j) (a .p) l (omega (arith, circles-many (a .c .now) (a .n-sets)))
     (sym (in-by-shift (a .mask) l) ∙ eq-eqb _ _ (c .before .before .before .if1 .taken))
-    (ap (lets (a .j) (a .p) l) (circle-of (a .c .now) (a .n-sets) l below ∙ sym (c .before .before .circle-at .ensures)) ∙ sym (c .before .lets .ensures)
+    (ap (lets (a .j) (a .p) l) (sym (c .before .before .circle-at .ensures ∙ circle-held (a .c .now) (a .n-sets) l below (d .before .pre))) ∙ sym (c .before .lets .ensures)
     ∙ not-true _ (c .if2 .taken))
 
--- src/walk.rt:45:5
 loop-again : tie.Need-loop-again Inv-loop μ-loop
 loop-again c =
     let d = c .before .before in
@@ -55,7 +48,7 @@ loop-again c =
       omega arith,
       every-suc f l (d .loop .inv .1)
           (true-or (not (inSet (a .mask) l)) (lets (a .j) (a .p) l (circleAt (circlesIn (a .c .now) (a .n-sets)) l))
-          (ap (lets (a .j) (a .p) l) (circle-of (a .c .now) (a .n-sets) l below ∙ sym (w .1 .ensures)) ∙ sym (w .2 .ensures) ∙ not-false _ (w .3 .left))),
+          (ap (lets (a .j) (a .p) l) (sym (w .1 .ensures ∙ circle-held (a .c .now) (a .n-sets) l below (d .before .pre))) ∙ sym (w .2 .ensures) ∙ not-false _ (w .3 .left))),
     ))
     (λ w. (
       omega arith,
@@ -65,7 +58,6 @@ loop-again c =
     ))
     (c .if1 .came)
 
--- src/walk.rt:40:1
 returns-2 : tie.Need-returns-2 Inv-loop μ-loop
 returns-2 c =
     let d = c .before in
