@@ -1,11 +1,13 @@
 // The area that arcs enclose: of a list of arcs, and of a set. Rests on specs/Area.antt.
+use crate::terms::add_three;
+use crate::terms::term_r;
+use crate::terms::term_x;
+use crate::terms::term_y;
 use boundary::arcs::Arcs;
 use boundary::arcs::BoundaryArc;
 use boundary::arcs::Outline;
 use boundary::walk::outline_from;
 use boundary::walk::outline_of;
-use elementary::sine::cos;
-use elementary::sine::sin;
 use geometry::circle::Circle;
 use intersections::members::members_of;
 use intersections::points::Intersections;
@@ -21,12 +23,7 @@ ghost use Rattle.boundary.specs.Counted.{arcList, outlineList};
 fn arc_terms(total: f64, c: Circle, arc: BoundaryArc) -> f64
     ensures { λ r. ⌜ r ≡ arcTerms total c arc ⌝ }
 {
-    let r = c.radius;
-    let phi_a = arc.phi_start;
-    let phi_b = phi_a + arc.delta_phi;
-    let with_x = total + c.center.x * r * (sin(phi_b) - sin(phi_a));
-    let with_y = with_x + c.center.y * r * (cos(phi_a) - cos(phi_b));
-    with_y + r * r * arc.delta_phi
+    add_three(total, term_x(c, arc), term_y(c, arc), term_r(c, arc))
 }
 
 // An arc added to a sum; one of no circle adds nothing.

@@ -20,9 +20,9 @@ use Rattle.intersections.specs.declared.points.IntersectionPoint.{IntersectionP
 use Rattle.intersections.specs.Members.{noPoint, pointsHeld, countedFor}
 use Rattle.intersections.specs.Points.{collected}
 use Rattle.intersections.specs.Counts.{counted-few}
+use Rattle.gaps.proofs.Owning.{every-suc, every-fails}
 use Rattle.sums.specs.Marks.{hasParent}
 use Rattle.sums.specs.Walk.{Few, fewPoints}
-use Rattle.sums.proofs.Owning.{every-suc, every-fails}
 
 and-true : (a b : Bool) → b ≡ true → (a && b) ≡ a
 and-true true b e = e

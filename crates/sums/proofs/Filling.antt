@@ -34,9 +34,6 @@ module _ {A : Type 0} {Asked : ℕ → Type 0} {f : ℕ → A} {d : A} where
       less : (i : ℕ) → i ≡ p → i < p → ⊥
       less i s k = omega arith
 
-  pub held-skip : {l : List A} {p : ℕ} → (Asked p → ⊥) → HeldTo Asked f d l p → HeldTo Asked f d l (p + 1)
-  held-skip {l} {p} none held = next l p (held .at) (λ a. absurd (none a))
-
   -- no place up to q is asked for
   pub held-jump : {l : List A} {p q : ℕ} → ((i : ℕ) → p ≤ i → i < q → Asked i → ⊥) → HeldTo Asked f d l p → HeldTo Asked f d l q
   held-jump {l} {p} {q} none held = record { at = λ i h a. by i (ltb i p) refl h a }

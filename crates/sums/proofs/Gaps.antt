@@ -18,7 +18,8 @@ use Rattle.intersections.specs.Members.{headsOf, circleAt}
 use Rattle.boundary.specs.declared.arcs.BoundaryArc.{BoundaryArc}
 use Rattle.boundary.specs.Outline.{owned, gap, collapsed, pointAt, probe, between, fullCircle, arcFrom, arcsAt}
 use Rattle.boundary.specs.Set.{numbered}
-use Rattle.sums.specs.Walk.{rank, ownedIn, midpoint, isArc, gapIn, wholeIn, gapsIn, headIn}
+use Rattle.gaps.specs.Gaps.{ownedIn, midpoint, isArc}
+use Rattle.sums.specs.Walk.{rank, gapIn, wholeIn, gapsIn, headIn}
 use Rattle.sums.proofs.Ranks.{head-at, owned-is}
 
 -- ---- a loop round a list

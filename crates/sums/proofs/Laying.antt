@@ -19,10 +19,10 @@ use Rattle.boundary.specs.Outline.{probe}
 use Rattle.boundary.proofs.Gaps.{next-below}
 use Rattle.boundary.proofs.Sorting.{kept-self, kept-set}
 use Rattle.boundary.specs.Marks.{mark, marksFrom, Kept}
+use Rattle.gaps.proofs.Owning.{lt-or-eq}
 use Rattle.sums.specs.Marks.{marksAt}
 use Rattle.sums.specs.Walk.{marksIn, letters, gapLetters, HeadReady, Marked}
 use Rattle.sums.specs.Filled.{Filled, Long}
-use Rattle.sums.proofs.Ranks.{lt-or-eq}
 
 -- ---- place by place
 

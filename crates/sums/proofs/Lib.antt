@@ -7,7 +7,7 @@ pub mod Carrying
 pub mod Owning
 pub mod Walking
 pub mod Laying
-pub mod Spans
+pub mod Edging
 pub mod Filling
 pub mod Valuing
 pub mod Passing

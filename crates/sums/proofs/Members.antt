@@ -28,7 +28,7 @@ use Rattle.boundary.specs.Marks.{Mark}
 use Rattle.sums.specs.Marks.{marksAt, anglesIn}
 use Rattle.sums.specs.Walk.{rank, Few, marksIn, headIn, partIn, headsIn, arcsBy, Ready, Marked}
 use Rattle.sums.proofs.Sorting.{angles-in}
-use Rattle.sums.proofs.Ranks.{heads-with, heads-without}
+use Rattle.chords.proofs.Heads.{heads-with, heads-without}
 use Rattle.sums.proofs.Gaps.{head-numbered, numbered-whole}
 
 -- the marks of each head

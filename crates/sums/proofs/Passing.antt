@@ -19,11 +19,12 @@ use Rattle.masks.specs.Subset.{subset-head, subset-trans, or-subset-left, or-su
 use Rattle.geometry.specs.declared.bounds.Bounds.{Bounds}
 use Rattle.geometry.specs.declared.circle.Circle.{Circle}
 use Rattle.intersections.specs.Members.{noCircle}
-use Rattle.sums.specs.Walk.{circleIn, circlesIn, Ready}
+use Rattle.gaps.specs.Gaps.{circleIn, circlesIn}
+use Rattle.sums.specs.Walk.{Ready}
 use Rattle.sums.specs.Rows.{numberAt}
 use Rattle.sums.specs.Fast.{numberOf, OfWanted, Worth}
 use Rattle.sums.proofs.Filling.{HeldTo}
-use Rattle.sums.proofs.Spans.{chorded-less}
+use Rattle.chords.proofs.Spanning.{chorded-less}
 use Rattle.sums.proofs.Valuing.{valued-less, three-less}
 
 -- ---- three numbers a circle

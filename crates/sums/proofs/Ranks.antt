@@ -1,10 +1,10 @@
 -- Law 2: who owns a point, by head numbers instead of positions; and what is at a position.
 use mathlib.Core.Path.{_≡_, refl, sym, ap, _∙_}
 use mathlib.Core.Bool.{Bool, true, false, not, _&&_, _||_, cond}
-use mathlib.Core.List.{List, [], _∷_, _++_, map, map-append, append-nil}
-use mathlib.Core.Logic.{_⊎_, inl, inr, ⊎-elim}
+use mathlib.Core.List.{List, [], _∷_, _++_, map, map-append}
+use mathlib.Core.Logic.{⊎-elim}
 use Prim.Native.Nat.{ℕ, zero, suc, _+_, _^_, _≤_, _<_}
-use native.Mathlib.Nat.{le-refl, le-trans, eq-or-lt-of-le, le-of-suc-le-suc}
+use native.Mathlib.Nat.{le-refl, le-trans}
 use native.Mathlib.Omega.{arith}
 use borrow.Author.Tests.{lt-ltb, le-ltb, ltb-true, ltb-false, eqb-true, eqb-false, eq-eqb, ne-eqb}
 use lib.Dec.{eqb, ltb}
@@ -20,22 +20,10 @@ use Rattle.geometry.specs.declared.point.Point.{Point}
 use Rattle.geometry.specs.declared.circle.Circle.{Circle}
 use Rattle.boundary.specs.Outline.{lets, ownedFrom}
 use Rattle.intersections.specs.Members.{headsOf, circleAt}
-use Rattle.sums.specs.Walk.{rank, letters, ownedIn}
-
--- below n + 1: below n, or n
-pub lt-or-eq : (i n : ℕ) → i < suc n → (i < n) ⊎ (i ≡ n)
-lt-or-eq i n h = ⊎-elim (λ e. inr e) (λ k. inl k) (eq-or-lt-of-le (le-of-suc-le-suc h))
-
--- the heads below n + 1
-pub heads-suc : (S n : ℕ) → headsOf (suc n) S ≡ headsOf n S ++ cond (inSet S n) (n ∷ []) []
-unfolding headsOf upTo
-heads-suc S n = refl
-
-pub heads-with : (S n : ℕ) → inSet S n ≡ true → headsOf (suc n) S ≡ headsOf n S ++ (n ∷ [])
-heads-with S n e = heads-suc S n ∙ rw e
-
-pub heads-without : (S n : ℕ) → inSet S n ≡ false → headsOf (suc n) S ≡ headsOf n S
-heads-without S n e = heads-suc S n ∙ rw e (append-nil (headsOf n S))
+use Rattle.chords.proofs.Heads.{heads-suc, heads-with, heads-without}
+use Rattle.gaps.proofs.Owning.{lt-or-eq}
+use Rattle.gaps.specs.Gaps.{ownedIn}
+use Rattle.sums.specs.Walk.{rank, letters}
 
 rank-with : (S n : ℕ) → inSet S n ≡ true → rank S (suc n) ≡ suc (rank S n)
 rank-with S n e = ap length (heads-with S n e) ∙ length-append (headsOf n S) (n ∷ []) ∙ omega arith

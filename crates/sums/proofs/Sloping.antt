@@ -33,12 +33,13 @@ use Rattle.clip.specs.Area.{emptyBox}
 use Rattle.clip.specs.Arc.{headArcIntegralWithGradient}
 use Rattle.clip.specs.Gradient.{WithGradient, with-gradient, onto, subArcByDifferences, partSlopes, subArcWithGradient, addPartWithGradient, clippedArcIntegralWithGradient, addClippedArcWithGradient, addClippedArcsWithGradient, addEdgesWithGradient, clippedWithGradient}
 use Rattle.clip.proofs.Rows.{gradient-by-sum}
-use Rattle.sums.specs.Walk.{circleIn, circlesIn, marksIn, arcAt, Few, arcsBy, Listing}
+use Rattle.gaps.specs.Gaps.{circleIn, circlesIn}
+use Rattle.gaps.proofs.Circles.{circles-many, circle-of}
+use Rattle.sums.specs.Walk.{marksIn, arcAt, Few, arcsBy, Listing}
 use Rattle.sums.specs.Values.{headOf, termOf, addTerms, Roomy, standing, MarksOf}
 use Rattle.sums.specs.Slopes.{addThreeAt, slopeX, slopeY, slopeR, addSlopesAt, addPartsAt, sharesFrom, PartsHeld, PartsValued, PartsKnown}
 use Rattle.sums.specs.Gradients.{WorthWith}
-use Rattle.sums.proofs.Walking.{circles-many, circle-of}
-use Rattle.sums.proofs.Spans.{chorded-less}
+use Rattle.chords.proofs.Spanning.{chorded-less}
 use Rattle.sums.proofs.Valuing.{arc-head, head-placed, placed-readable, placed-standing, standing-more, three-less, sum-by-arcs, sum-open, said, heads-in}
 
 -- ---- sums over numbers are sums over their arcs

@@ -30,11 +30,13 @@ use Rattle.outline.proofs.Walking.{circles-of-members, members-many}
 use Rattle.clip.specs.Area.{emptyBox, addClippedArc, addClippedArcs, addEdges, clippedAreaOf, clippedArea}
 use Rattle.clip.proofs.Naming.{Below, outline-named}
 use Rattle.clip.proofs.Summing.{arcs-sum, clipped-sum}
-use Rattle.sums.specs.Walk.{circleIn, circlesIn, marksIn, Few, arcsBy, nextPlace, gapArc, arcAt, Placed, Listing, Ready}
+use Rattle.gaps.specs.Gaps.{circleIn, circlesIn}
+use Rattle.gaps.proofs.Circles.{circles-many, circle-of}
+use Rattle.sums.specs.Walk.{marksIn, Few, arcsBy, nextPlace, gapArc, arcAt, Placed, Listing, Ready}
 use Rattle.sums.proofs.Members.{marksOf, arcs-are, arcs-same}
-use Rattle.sums.specs.Values.{headOf, Readable, termX, termY, termR, termOf, addOne, Roomy, standing, Valued, Known, addTerms, ThreeValued, ThreeKnown, MarksOf}
+use Rattle.outline.specs.Terms.{termX, termY, termR}
+use Rattle.sums.specs.Values.{headOf, Readable, termOf, addOne, Roomy, standing, Valued, Known, addTerms, ThreeValued, ThreeKnown, MarksOf}
 use Rattle.sums.proofs.Filling.{HeldTo, held-none, held-put, held-jump}
-use Rattle.sums.proofs.Walking.{circles-many, circle-of}
 
 -- ---- the arc of a number
 

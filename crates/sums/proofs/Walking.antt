@@ -1,10 +1,10 @@
 -- Laws of the walk round the heads of a set.
-use mathlib.Core.Path.{_≡_, refl, sym, ap, ap₂, _∙_}
-use mathlib.Core.Bool.{Bool, true, false}
+use mathlib.Core.Path.{_≡_, refl, sym, ap, ap₂, subst, _∙_}
+use mathlib.Core.Bool.{Bool, true, false, cond}
 use mathlib.Core.List.{List, [], _∷_, _++_, map, map-append, append-nil, append-assoc}
 use mathlib.Core.Logic.{⊎-elim}
 use Prim.Native.Nat.{ℕ, zero, suc, _+_, _-_, _*_, _/_, _%_, _^_, _≤_, _<_}
-use native.Mathlib.Nat.{mod-eq-of-lt, mod-self, le-trans, le-of-eq}
+use native.Mathlib.Nat.{le-trans, le-of-eq}
 use native.Mathlib.Numerals.{add-one}
 use native.Mathlib.Omega.{arith}
 use borrow.Author.Tests.{ltb-true, ltb-false, lt-ltb, le-ltb, eq-eqb, ne-eqb}
@@ -19,37 +19,24 @@ use Rattle.masks.specs.Mask.{bit, inSet, subset}
 use Rattle.masks.specs.Lowest.{trailing-in, trailing-lt}
 use Rattle.masks.specs.Operations.{in-of-one, bit-beyond}
 use Rattle.masks.specs.Size.{ones-of-zero}
+use Rattle.masks.specs.Subset.{and-test}
 use Rattle.lists.specs.Every.{every-append}
 use Rattle.lists.specs.Lists.{upTo, keep}
 use Rattle.lists.proofs.Writing.{length-tab, getD-tab}
 use Rattle.geometry.specs.declared.circle.Circle.{Circle}
-use Rattle.intersections.specs.Members.{noCircle, circleAt}
+use Rattle.intersections.specs.Members.{circleAt}
 use Rattle.boundary.specs.declared.arcs.BoundaryArc.{BoundaryArc}
 use Rattle.boundary.specs.Outline.{gap, between, fullCircle, probe}
 use Rattle.boundary.specs.Marks.{Mark, mark, noMark, marksFrom}
+use Rattle.gaps.specs.Gaps.{ownedIn, isArc, nextOf, noArc, gapNumber}
+use Rattle.gaps.proofs.Circles.{next-is}
+use Rattle.gaps.proofs.Numbering.{by-cases}
+use Rattle.gaps.proofs.Owning.{lt-or-eq}
 use Rattle.sums.specs.Marks.{adoptedBy, anglesIn}
-use Rattle.sums.specs.Walk.{circleIn, circlesIn, letters, ownedIn, gapLetters, isArc, gapIn, wholeIn, gapsIn, headIn, partIn, headsIn, arcsBy}
+use Rattle.sums.specs.Walk.{letters, gapLetters, gapIn, wholeIn, gapsIn, headIn, partIn, headsIn, arcsBy}
 use Rattle.sums.specs.Walk.{marksIn, NextIn, nextPlace, gapArc, arcAt, arcsOf, Angled, Placed, Listing}
-use Rattle.sums.proofs.Ranks.{lt-or-eq, owned-by-mask}
+use Rattle.sums.proofs.Ranks.{owned-by-mask}
 use Rattle.sums.proofs.Owning.{arc-by-mask}
-
--- ---- the circles of three numbers each
-
-pub circles-many : (c : List Float) (n : ℕ) → length (circlesIn c n) ≡ n
-unfolding circlesIn
-circles-many c n = length-tab (circleIn c) n
-
-pub circle-of : (c : List Float) (n l : ℕ) → l < n → circleAt (circlesIn c n) l ≡ circleIn c l
-unfolding circlesIn
-circle-of c n l h = getD-tab (circleIn c) n l noCircle h
-
--- ---- the next place round a circle
-
-pub next-inside : (a n : ℕ) → a + 1 < n → a + 1 ≡ (a + 1) % n
-next-inside a n h = sym (mod-eq-of-lt h)
-
-pub next-round : (a n : ℕ) → a < n → n ≤ a + 1 → 0 ≡ (a + 1) % n
-next-round a n h k = let e : a + 1 ≡ n = omega arith in rw e (sym (mod-self n))
 
 -- ---- the search for the next place
 
@@ -175,55 +162,67 @@ module _ (circles : List Circle) (S j : ℕ) (a b : Float) where
   unfolding gapIn
   gap-no e = rw e
 
-module _ (circles : List Circle) (counts : List ℕ) (phi : List Float) (n S j a b : ℕ) (arcs : List BoundaryArc) (k : ℕ) (list : List ℕ)
-    (most : n ≤ 10) (head : j < n) (in-S : inSet S j ≡ true) (few : getD counts j 0 ≤ 32) (ha : a < getD counts j 0) (hb : b < getD counts j 0)
+module _ (circles : List Circle) (counts : List ℕ) (phi : List Float) (lets : List ℕ) (n S j a b : ℕ) (arcs : List BoundaryArc) (k : ℕ) (list : List ℕ)
+    (most : n ≤ 10) (many : length circles ≡ n) (head : j < n) (below : S < 2 ^ n) (in-S : inSet S j ≡ true)
+    (few : getD counts j 0 ≤ 32) (ha : a < getD counts j 0) (hb : b < getD counts j 0) (room : k < 320)
+    (held : getD lets (j * 32 + a) 0 ≡ gapLetters circles j (getD phi (j * 32 + a) nan) (getD phi (j * 32 + (a + 1) % getD counts j 0) nan))
     (l : Listing circles counts phi n S arcs k list) where
-  phi-a : Float
+  abbrev phi-a : Float
   phi-a = getD phi (j * 32 + a) nan
 
-  phi-b : Float
+  abbrev phi-b : Float
   phi-b = getD phi (j * 32 + b) nan
 
-  -- between neighbours, by the mask m of those that let the head have it
-  module _ (m : ℕ) (below : S < 2 ^ length circles) (next : b ≡ (a + 1) % getD counts j 0)
-      (em : m ≡ gapLetters circles j (getD phi (j * 32 + a) nan) (getD phi (j * 32 + (a + 1) % getD counts j 0) nan)) where
-    by-mask : eqb (bitAnd S m) S ≡ isArc circles S j phi-a phi-b
-    unfolding phi-a phi-b
-    by-mask = rw (em, next) (arc-by-mask circles S j below in-S (getD phi (j * 32 + a) nan) (getD phi (j * 32 + (a + 1) % getD counts j 0) nan))
+  -- the number p is no arc's and the list stays, or it is put on the list
+  abbrev Numbered : ℕ → Type 0
+  Numbered p =
+      (p ≡ noArc → Listing circles counts phi n S (arcs ++ gapIn circles S j phi-a phi-b) k list)
+      × ((p ≡ noArc → ⊥) → Listing circles counts phi n S (arcs ++ gapIn circles S j phi-a phi-b) (k + 1) (set list k p))
 
-    next-arc : arcAt circles counts phi (j * 32 + a) ≡ between j (circleAt circles j) phi-a (gap phi-a phi-b)
-    unfolding phi-a phi-b
-    next-arc = rw next (neighbour-arc circles counts phi j a (omega arith) (omega arith))
+  left-out : isArc circles S j phi-a phi-b ≡ false → Numbered noArc
+  left-out e = (λ _. list-same circles counts phi n S arcs k list l _ (gap-no circles S j phi-a phi-b e), λ f. absurd (f refl))
 
-    pub neighbour-listed : bitAnd S m ≡ S → k < 320
-        → Listing circles counts phi n S (arcs ++ gapIn circles S j (getD phi (j * 32 + a) nan) (getD phi (j * 32 + b) nan)) (k + 1) (set list k (j * 32 + a))
-    unfolding phi-a phi-b
-    neighbour-listed e room =
-        list-more circles counts phi n S arcs k list l (j * 32 + a) (between j (circleAt circles j) phi-a (gap phi-a phi-b)) (gapIn circles S j phi-a phi-b)
-        room
-        next-arc
-        (neighbour-placed circles counts phi j a (omega arith) n S most head in-S ha)
-        (gap-yes circles S j phi-a phi-b (sym by-mask ∙ eq-eqb (bitAnd S m) S e))
+  put-on : (p : ℕ) → p < noArc → arcAt circles counts phi p ≡ between j (circleAt circles j) phi-a (gap phi-a phi-b) → Placed n S counts p
+      → isArc circles S j phi-a phi-b ≡ true → Numbered p
+  put-on p h is placed e =
+      (λ f. absurd (omega (arith, f, h)), λ _. list-more circles counts phi n S arcs k list l p _ _ room is placed (gap-yes circles S j phi-a phi-b e))
 
-    pub neighbour-left : (bitAnd S m ≡ S → ⊥)
-        → Listing circles counts phi n S (arcs ++ gapIn circles S j (getD phi (j * 32 + a) nan) (getD phi (j * 32 + b) nan)) k list
-    unfolding phi-a phi-b
-    neighbour-left e =
-        list-same circles counts phi n S arcs k list l (gapIn circles S j phi-a phi-b) (gap-no circles S j phi-a phi-b (sym by-mask ∙ ne-eqb (bitAnd S m) S e))
+  -- between neighbours, by who lets the head have it
+  module _ (next : b ≡ nextOf a (getD counts j 0)) where
+    after : b ≡ (a + 1) % getD counts j 0
+    after = next ∙ next-is a (getD counts j 0) ha
+
+    by-mask : subset 64 S (getD lets (j * 32 + a) 0) ≡ isArc circles S j phi-a phi-b
+    by-mask =
+        sym (and-test 64 S (getD lets (j * 32 + a) 0) (le-trans below (pow-mono {i = n} {j = 64} (omega (arith, most)))))
+        ∙ ap (λ m. eqb (bitAnd S m) S) held ∙ arc-by-mask circles S j (rw many below) in-S phi-a (getD phi (j * 32 + (a + 1) % getD counts j 0) nan)
+        ∙ ap (λ m. isArc circles S j phi-a (getD phi (j * 32 + m) nan)) (sym after)
+
+    neighbour : (s : Bool) → subset 64 S (getD lets (j * 32 + a) 0) ≡ s → Numbered (cond s (j * 32 + a) noArc)
+    neighbour true e =
+        put-on (j * 32 + a) (omega (arith, most, head, few, ha))
+        (neighbour-arc circles counts phi j a (omega (arith, few, ha)) (omega (arith, most, head))
+        ∙ ap (λ m. between j (circleAt circles j) phi-a (gap phi-a (getD phi (j * 32 + m) nan))) (sym after))
+        (neighbour-placed circles counts phi j a (omega (arith, few, ha)) n S most head in-S ha)
+        (sym by-mask ∙ e)
+    neighbour false e = left-out (sym by-mask ∙ e)
 
   -- any other, worked out
-  pub other-listed : isArc circles S j (getD phi (j * 32 + a) nan) (getD phi (j * 32 + b) nan) ≡ true → k < 320
-      → Listing circles counts phi n S (arcs ++ gapIn circles S j (getD phi (j * 32 + a) nan) (getD phi (j * 32 + b) nan)) (k + 1)
-      (set list k (330 + (j * 32 + a) * 320 + (j * 32 + b)))
-  other-listed e room =
-      list-more circles counts phi n S arcs k list l (330 + (j * 32 + a) * 320 + (j * 32 + b)) _ _ room
-      (other-arc circles counts phi j a (omega arith) b (omega arith) (omega arith))
+  other : (s : Bool) → isArc circles S j phi-a phi-b ≡ s → Numbered (cond s (330 + (j * 32 + a) * 320 + (j * 32 + b)) noArc)
+  other true e =
+      put-on (330 + (j * 32 + a) * 320 + (j * 32 + b)) (omega (arith, most, head, few, ha, hb))
+      (other-arc circles counts phi j a (omega (arith, few, ha)) b (omega (arith, most, head)) (omega (arith, few, hb)))
       (other-placed counts n S j a b most head in-S few ha hb)
-      (gap-yes circles S j (getD phi (j * 32 + a) nan) (getD phi (j * 32 + b) nan) e)
+      e
+  other false e = left-out e
 
-  pub other-left : isArc circles S j (getD phi (j * 32 + a) nan) (getD phi (j * 32 + b) nan) ≡ false
-      → Listing circles counts phi n S (arcs ++ gapIn circles S j (getD phi (j * 32 + a) nan) (getD phi (j * 32 + b) nan)) k list
-  other-left e = list-same circles counts phi n S arcs k list l _ (gap-no circles S j (getD phi (j * 32 + a) nan) (getD phi (j * 32 + b) nan) e)
+  -- what the number says of the list
+  pub gap-listed : {p : ℕ} → p ≡ gapNumber circles phi lets S j (getD counts j 0) a b
+      → (p ≡ noArc → Listing circles counts phi n S (arcs ++ gapIn circles S j (getD phi (j * 32 + a) nan) (getD phi (j * 32 + b) nan)) k list)
+      × ((p ≡ noArc → ⊥) → Listing circles counts phi n S (arcs ++ gapIn circles S j (getD phi (j * 32 + a) nan) (getD phi (j * 32 + b) nan)) (k + 1) (set list k p))
+  gap-listed e =
+      subst Numbered (sym e)
+      (by-cases circles phi lets S j (getD counts j 0) a b (omega (arith, many, head)) (omega (arith, few, ha)) (omega (arith, few, hb)) Numbered neighbour other)
 
 -- ---- the marks of a head that a set adopts, in arrays
 

@@ -9,7 +9,7 @@ use Rattle.masks.specs.Presence.{stands}
 use Rattle.geometry.specs.declared.bounds.Bounds.{Bounds}
 use Rattle.geometry.specs.declared.circle.Circle.{Circle}
 use Rattle.inside.specs.Parts.{clippedArcIntegral}
-use Rattle.sums.specs.Chords.{Chorded}
+use Rattle.chords.specs.Chords.{Chorded}
 use Rattle.sums.specs.Values.{termOf, Valued, TermsValued}
 use Rattle.sums.specs.Walk.{Ready}
 

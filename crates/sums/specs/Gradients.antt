@@ -16,7 +16,7 @@ use Rattle.intersections.specs.Members.{headsOf, circleAt}
 use Rattle.boundary.specs.Set.{regionArcs}
 use Rattle.outline.specs.Area.{areaOf, addGradient}
 use Rattle.clip.specs.Gradient.{WithGradient, with-gradient, clippedWithGradient}
-use Rattle.sums.specs.Chords.{Chorded}
+use Rattle.chords.specs.Chords.{Chorded}
 use Rattle.sums.specs.Rows.{rowsOf, numberAt}
 use Rattle.sums.specs.Values.{TermsValued}
 use Rattle.sums.specs.Slopes.{SlopesValued, PartsValued}

@@ -8,12 +8,12 @@ use lib.Dec.{ltb}
 use lib.ListN.{length, getD}
 use lib.Ieee.{Float, nan}
 use Rattle.masks.specs.Mask.{inSet}
-use Rattle.elementary.specs.Sine.{sine as sin, cosine as cos}
-use Rattle.binary64.specs.Floats.{_+ᶠ_, _-ᶠ_, _*ᶠ_}
+use Rattle.binary64.specs.Floats.{_+ᶠ_}
 use Rattle.geometry.specs.declared.circle.Circle.{Circle}
 use Rattle.intersections.specs.declared.points.IntersectionPoint.{IntersectionPoint}
 use Rattle.intersections.specs.Members.{circleAt}
 use Rattle.boundary.specs.declared.arcs.BoundaryArc.{BoundaryArc}
+use Rattle.outline.specs.Terms.{termX, termY, termR}
 use Rattle.sums.specs.Marks.{marksAt}
 use Rattle.sums.specs.Walk.{marksIn, arcAt}
 
@@ -27,20 +27,9 @@ pub record Readable (counts : List ℕ) (p : ℕ) : Type 0 where
   pub few : p < 320 → getD counts (p / 32) 0 ≤ 32
   pub far : 330 ≤ p → (p - 330) / 320 < 320
 
--- ---- without a box an arc adds three terms, one after another
-
-unfoldable pub termX : Circle → BoundaryArc → Float
-termX c arc = let a = arc .«phi_start» in c .center .x *ᶠ c .radius *ᶠ (sin (a +ᶠ arc .«delta_phi») -ᶠ sin a)
-
-unfoldable pub termY : Circle → BoundaryArc → Float
-termY c arc = let a = arc .«phi_start» in c .center .y *ᶠ c .radius *ᶠ (cos a -ᶠ cos (a +ᶠ arc .«delta_phi»))
-
-unfoldable pub termR : Circle → BoundaryArc → Float
-termR c arc = c .radius *ᶠ c .radius *ᶠ arc .«delta_phi»
-
 -- ---- the arcs of a list of numbers, added up
 
--- a term of the arc of a number: one of these three, or in the box the integral
+-- a term of the arc of a number: one of the three that it adds without a box, or in the box the integral
 unfoldable pub termOf : (Circle → BoundaryArc → Float) → List Circle → List ℕ → List Float → ℕ → Float
 unfolding headOf arcAt
 termOf term circles counts phi p = term (circleAt circles (headOf p)) (arcAt circles counts phi p)

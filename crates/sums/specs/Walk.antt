@@ -1,7 +1,7 @@
 -- The arcs of a set's outline by head numbers, from the marks of its heads; and what the arrays hold from which code walks round them.
 use Prim.Native.Nat.{ℕ, _+_, _-_, _*_, _/_, _%_, _≤_, _<_}
 use mathlib.Core.Path.{_≡_}
-use mathlib.Core.Bool.{Bool, true, false, not, _&&_, _||_, cond}
+use mathlib.Core.Bool.{Bool, true, false, not, cond}
 use mathlib.Core.List.{List, [], _∷_, _++_, map}
 use lib.Dec.{eqb, ltb}
 use lib.Count.{ones, trailingZeros}
@@ -10,28 +10,17 @@ use lib.Ieee.{Float, nan}
 use Rattle.masks.specs.Mask.{inSet, every, subset, gather}
 use Rattle.lists.specs.Every.{Every}
 use Rattle.lists.specs.Lists.{upTo, keep}
-use Rattle.lists.specs.Written.{tab}
-use Rattle.binary64.specs.Constants.{half64}
-use Rattle.binary64.specs.Floats.{_+ᶠ_, _*ᶠ_}
 use Rattle.geometry.specs.declared.point.Point.{Point}
 use Rattle.geometry.specs.declared.circle.Circle.{Circle}
 use Rattle.intersections.specs.declared.points.IntersectionPoint.{IntersectionPoint}
 use Rattle.intersections.specs.Members.{headsOf, circleAt, pointsHeld}
 use Rattle.boundary.specs.declared.arcs.BoundaryArc.{BoundaryArc}
-use Rattle.boundary.specs.Outline.{lets, gap, collapsed, pointAt, probe, between, fullCircle}
+use Rattle.boundary.specs.Outline.{lets, gap, collapsed, probe, between, fullCircle}
 use Rattle.boundary.specs.Marks.{Mark, marksFrom}
+use Rattle.gaps.specs.Gaps.{ownedIn, midpoint, isArc}
 use Rattle.sums.specs.Marks.{hasParent, marksAt, anglesIn}
 
--- ---- circles and marks, as arrays hold them
-
--- the circle whose centre and radius are three numbers of a list
-abbrev pub circleIn : List Float → ℕ → Circle
-circleIn c l = record { center = record { x = getD c (l * 3) nan; y = getD c (l * 3 + 1) nan }; radius = getD c (l * 3 + 2) nan }
-
--- the circles of which three numbers each are given
-unfoldable pub circlesIn : List Float → ℕ → List Circle
-unfolding tab
-circlesIn c n = tab (circleIn c) n
+-- ---- marks, as arrays hold them
 
 -- the marks of head j: 32 places a head
 abbrev pub marksIn : List ℕ → List Float → List ℕ → ℕ → List Mark
@@ -57,16 +46,6 @@ unfoldable pub letters : List Circle → ℕ → Point → ℕ
 unfolding gather lets
 letters circles j p = gather (length circles) (λ l. lets j p l (circleAt circles l))
 
--- every head of S lets head j have the point p
-unfoldable pub ownedIn : List Circle → ℕ → ℕ → Point → Bool
-unfolding every lets
-ownedIn circles S j p = every (length circles) (λ l. not (inSet S l) || lets j p l (circleAt circles l))
-
--- the midpoint of the gap from a to b of a circle
-unfoldable pub midpoint : Circle → Float → Float → Point
-unfolding gap pointAt
-midpoint c a b = pointAt c (a +ᶠ gap a b *ᶠ half64)
-
 -- the heads that let head j have the gap from a to b: nobody, where it is collapsed
 unfoldable pub gapLetters : List Circle → ℕ → Float → Float → ℕ
 unfolding collapsed gap midpoint letters
@@ -75,15 +54,10 @@ gapLetters circles j a b = cond (collapsed (gap a b)) 0 (letters circles j (midp
 -- ---- the arcs of a set
 
 module _ (circles : List Circle) (S j : ℕ) where
-  -- the gap from a to b of head j is an arc: it is not collapsed, and its midpoint is j's own
-  unfoldable pub isArc : Float → Float → Bool
-  unfolding gap collapsed midpoint ownedIn
-  isArc a b = not (collapsed (gap a b)) && ownedIn circles S j (midpoint (circleAt circles j) a b)
-
-  -- that gap, if it is an arc
+  -- the gap from a to b of head j, if it is an arc
   unfoldable pub gapIn : Float → Float → List BoundaryArc
   unfolding isArc gap between
-  gapIn a b = cond (isArc a b) (between j (circleAt circles j) a (gap a b) ∷ []) []
+  gapIn a b = cond (isArc circles S j a b) (between j (circleAt circles j) a (gap a b) ∷ []) []
 
   -- the whole circle, if the probe is j's own
   unfoldable pub wholeIn : List BoundaryArc

@@ -1,11 +1,11 @@
 // All wanted rows of a pass from what is worked out once a head. Rests on specs/Fast.antt.
-use crate::chords::fill_chords;
 use crate::fill::fill_heads;
 use crate::row::clipped_row;
 use crate::row::open_row;
 use crate::rows::row_count;
 use crate::terms::fill_terms;
 use crate::values::fill_integrals;
+use chords::fill::fill_chords;
 use geometry::bounds::Bounds;
 use geometry::circle::Circle;
 use intersections::points::Intersections;
@@ -19,8 +19,9 @@ ghost use Rattle.masks.specs.Presence.{stands};
 ghost use Rattle.intersections.specs.declared.points.IntersectionPoint.{IntersectionPoint};
 ghost use Rattle.intersections.specs.Counted.{pointList};
 ghost use Rattle.intersections.specs.Members.{membersOf};
+ghost use Rattle.gaps.specs.Gaps.{circlesIn};
 ghost use Rattle.sums.specs.Rows.{areaOf, numberAt, areasWritten};
-ghost use Rattle.sums.specs.Walk.{circlesIn, Few, Ready};
+ghost use Rattle.sums.specs.Walk.{Few, Ready};
 ghost use Rattle.sums.specs.Values.{Roomy, MarksOf};
 ghost use Rattle.sums.specs.Fast.{numberOf, OfWanted, Worth, RowReady};
 

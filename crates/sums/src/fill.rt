@@ -1,6 +1,4 @@
 // What is worked out once a head, laid into arrays of 32 places a head. Rests on specs/Walk.antt.
-use crate::walk::circle_at;
-use crate::walk::next;
 use boundary::angles::angle_about;
 use boundary::angles::collapsed;
 use boundary::angles::gap;
@@ -8,6 +6,8 @@ use boundary::angles::point_at;
 use boundary::angles::probe;
 use boundary::ownership::lets;
 use boundary::sort::insert_marked;
+use gaps::places::circle_at;
+use gaps::places::next;
 use geometry::circle::Circle;
 use geometry::point::Point;
 use intersections::points::IntersectionPoint;
@@ -19,8 +19,9 @@ ghost use lib.ListN.{length, getD};
 ghost use lib.Ieee.{nan};
 ghost use Rattle.lists.specs.Lists.{keep};
 ghost use Rattle.intersections.specs.Counted.{pointList};
+ghost use Rattle.gaps.specs.Gaps.{circlesIn};
 ghost use Rattle.sums.specs.Marks.{hasParent};
-ghost use Rattle.sums.specs.Walk.{circlesIn, letters, gapLetters, Few, fewPoints, Marked};
+ghost use Rattle.sums.specs.Walk.{letters, gapLetters, Few, fewPoints, Marked};
 ghost use Rattle.sums.specs.Filled.{Filled, Long};
 
 // The heads that let head j have the point p of its edge.

@@ -1,5 +1,4 @@
 // The areas of the rows that a pass works out with their gradients, in lent slices. Rests on specs/Gradients.antt.
-use crate::chords::fill_chords;
 use crate::fast::numbers_of;
 use crate::fast::wanted_heads;
 use crate::fill::few;
@@ -10,6 +9,7 @@ use crate::rows::row_count;
 use crate::shares::fill_parts;
 use crate::terms::fill_slopes;
 use crate::terms::fill_terms;
+use chords::fill::fill_chords;
 use clip::gradient::area_and_gradient_from_clipped_arcs;
 use geometry::bounds::Bounds;
 use geometry::circle::Circle;
@@ -28,7 +28,8 @@ ghost use Rattle.binary64.specs.Constants.{zero64};
 ghost use Rattle.intersections.specs.declared.points.IntersectionPoint.{IntersectionPoint};
 ghost use Rattle.intersections.specs.Counted.{pointList};
 ghost use Rattle.clip.specs.Gradient.{with-gradient};
-ghost use Rattle.sums.specs.Walk.{circlesIn, Few, Ready};
+ghost use Rattle.gaps.specs.Gaps.{circlesIn};
+ghost use Rattle.sums.specs.Walk.{Few, Ready};
 ghost use Rattle.sums.specs.Values.{Roomy, MarksOf};
 ghost use Rattle.sums.specs.Fast.{OfWanted};
 ghost use Rattle.sums.specs.Gradients.{setOnto, rowWith, rowsHeld, rowsIn, areasTo, rowsTo, WorthWith, ReadyWith};

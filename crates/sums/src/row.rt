@@ -1,7 +1,7 @@
 // The area of a set, and with its gradient, from what is worked out once a head: its arcs listed, what each adds looked up, and in the box the
 // spans of the edges. Rests on specs/Gradients.antt.
-use crate::chords::add_edges;
-use crate::chords::add_edges_with_gradient;
+use crate::edges::add_edges;
+use crate::edges::add_edges_with_gradient;
 use crate::shares::add_parts;
 use crate::terms::add_slopes;
 use crate::terms::add_terms;
@@ -18,8 +18,9 @@ ghost use Rattle.intersections.specs.Members.{membersOf};
 ghost use Rattle.inside.specs.Parts.{clippedArcIntegral};
 ghost use Rattle.outline.specs.Area.{openArea};
 ghost use Rattle.clip.specs.Area.{clippedArea};
-ghost use Rattle.sums.specs.Walk.{circlesIn, Few, Ready};
-ghost use Rattle.sums.specs.Chords.{Chorded};
+ghost use Rattle.gaps.specs.Gaps.{circlesIn};
+ghost use Rattle.sums.specs.Walk.{Few, Ready};
+ghost use Rattle.chords.specs.Chords.{Chorded};
 ghost use Rattle.sums.specs.Values.{termOf, Valued, TermsValued, MarksOf};
 ghost use Rattle.boundary.specs.Set.{arcsHeld};
 ghost use Rattle.clip.specs.Gradient.{with-gradient};

@@ -4,44 +4,28 @@ use crate::values::arc_at;
 use crate::values::head_of;
 use crate::values::is_standing;
 use crate::values::past;
-use crate::walk::circle_at;
 use binary64::abs;
 use binary64::signum;
 use boundary::arcs::BoundaryArc;
 use elementary::sine::cos;
 use elementary::sine::sin;
+use gaps::places::circle_at;
 use geometry::circle::Circle;
 use outline::gradient::add_at;
 use outline::gradient::sub_at;
+use outline::terms::add_three;
+use outline::terms::term_r;
+use outline::terms::term_x;
+use outline::terms::term_y;
 ghost use mathlib.Core.Path.{_≡_};
 ghost use mathlib.Core.List.{foldl};
 ghost use Prim.Native.Nat.{_^_, _<_, _≤_};
 ghost use lib.ListN.{take, length};
 ghost use Rattle.lists.specs.Every.{Every};
 ghost use Rattle.binary64.specs.Constants.{zero64};
-ghost use Rattle.sums.specs.Walk.{circlesIn};
-ghost use Rattle.sums.specs.Values.{termX, termY, termR, addTerms, Roomy, TermsValued, TermsKnown};
+ghost use Rattle.gaps.specs.Gaps.{circlesIn};
+ghost use Rattle.sums.specs.Values.{addTerms, Roomy, TermsValued, TermsKnown};
 ghost use Rattle.sums.specs.Slopes.{addThreeAt, slopeX, slopeY, slopeR, addSlopesAt, SlopesValued, SlopesKnown};
-
-fn term_x(circle: Circle, arc: BoundaryArc) -> f64
-    ensures { λ r. ⌜ r ≡ termX circle arc ⌝ }
-{
-    let phi_a = arc.phi_start;
-    circle.center.x * circle.radius * (sin(phi_a + arc.delta_phi) - sin(phi_a))
-}
-
-fn term_y(circle: Circle, arc: BoundaryArc) -> f64
-    ensures { λ r. ⌜ r ≡ termY circle arc ⌝ }
-{
-    let phi_a = arc.phi_start;
-    circle.center.y * circle.radius * (cos(phi_a) - cos(phi_a + arc.delta_phi))
-}
-
-fn term_r(circle: Circle, arc: BoundaryArc) -> f64
-    ensures { λ r. ⌜ r ≡ termR circle arc ⌝ }
-{
-    circle.radius * circle.radius * arc.delta_phi
-}
 
 // The terms of all arcs between neighbours, and of the whole circles, of the heads of `needed`.
 pub(crate) fn fill_terms(
@@ -89,11 +73,16 @@ fn add_arc(
     ensures { λ r. ⌜ r ≡ addTerms (circlesIn (now (c .entry)) «n_sets») (now (counts .entry)) (now (phi .entry)) total place ⌝ }
 {
     if place < 330 {
-        return total + xs[place] + ys[place] + rs[place];
+        return add_three(total, xs[place], ys[place], rs[place]);
     }
     let circle = circle_at(c, head_of(place));
     let arc = arc_at(place, circle, counts, phi);
-    total + term_x(circle, arc) + term_y(circle, arc) + term_r(circle, arc)
+    add_three(
+        total,
+        term_x(circle, arc),
+        term_y(circle, arc),
+        term_r(circle, arc),
+    )
 }
 
 // The terms of the first k arcs of a list, added up.

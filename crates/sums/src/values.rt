@@ -1,10 +1,10 @@
 // What each arc adds to the sum of a set, by the arc's number. Rests on specs/Values.antt.
-use crate::walk::circle_at;
-use crate::walk::next;
 use boundary::angles::gap;
 use boundary::arcs::BoundaryArc;
 use boundary::arcs::between;
 use boundary::arcs::full_circle;
+use gaps::places::circle_at;
+use gaps::places::next;
 use geometry::bounds::Bounds;
 use geometry::circle::Circle;
 use inside::parts::clipped_arc_integral;
@@ -17,7 +17,8 @@ ghost use Rattle.lists.specs.Every.{Every};
 ghost use Rattle.binary64.specs.Constants.{zero64};
 ghost use Rattle.geometry.specs.declared.circle.Circle.{Circle};
 ghost use Rattle.inside.specs.Parts.{clippedArcIntegral};
-ghost use Rattle.sums.specs.Walk.{circlesIn, arcAt};
+ghost use Rattle.gaps.specs.Gaps.{circlesIn};
+ghost use Rattle.sums.specs.Walk.{arcAt};
 ghost use Rattle.sums.specs.Values.{headOf, Readable, termOf, addOne, Roomy, standing, Valued, Known};
 
 // The head of the arc of a number.

@@ -1,10 +1,6 @@
 // The arcs of a set's outline as a list of their numbers, from what is worked out once a head. Rests on specs/Walk.antt.
-use boundary::angles::collapsed;
-use boundary::angles::gap;
-use boundary::angles::point_at;
-use boundary::ownership::lets;
-use geometry::circle::Circle;
-use geometry::point::Point;
+use gaps::numbers::NO_ARC;
+use gaps::numbers::gap_number;
 ghost use mathlib.Core.Path.{_≡_};
 ghost use mathlib.Core.Bool.{true, false};
 ghost use mathlib.Core.List.{_++_};
@@ -12,66 +8,10 @@ ghost use Prim.Native.Nat.{_+_, _*_, _%_, _^_, _<_, _≤_};
 ghost use lib.ListN.{length, getD};
 ghost use lib.Ieee.{nan};
 ghost use Rattle.masks.specs.Mask.{inSet};
+ghost use Rattle.gaps.specs.Gaps.{circlesIn};
 ghost use Rattle.sums.specs.Marks.{anglesIn};
-ghost use Rattle.sums.specs.Walk.{circleIn, circlesIn, marksIn, ownedIn, gapLetters, isArc, gapIn, headIn, arcsBy};
+ghost use Rattle.sums.specs.Walk.{marksIn, gapLetters, gapIn, headIn, arcsBy};
 ghost use Rattle.sums.specs.Walk.{NextIn, arcsOf, Listing, HeadReady, Ready};
-
-// The circle of head l, from its three numbers.
-pub(crate) fn circle_at(c: &[f64; 30], l: usize) -> Circle
-    requires { ⌜ l < 10 ⌝ }
-    ensures { λ r. ⌜ r ≡ circleIn (now (c .entry)) l ⌝ }
-{
-    let at = l * 3;
-    let center = Point {
-        x: c[at],
-        y: c[at + 1],
-    };
-    Circle {
-        center: center,
-        radius: c[at + 2],
-    }
-}
-
-// Every head of the set lets head j have the point p.
-fn owned_in(c: &[f64; 30], n_sets: usize, mask: usize, j: usize, p: Point) -> bool
-    requires { ⌜ «n_sets» ≤ 10 ⌝ }
-    ensures { λ r. ⌜ r ≡ ownedIn (circlesIn (now (c .entry)) «n_sets») mask j p ⌝ }
-{
-    let mut l: usize = 0;
-    while l < n_sets {
-        if mask >> l & 1 == 1 {
-            if !lets(j, p, l, circle_at(c, l)) {
-                return false;
-            }
-        }
-        l += 1;
-    }
-    true
-}
-
-// The gap from one angle to another of head j is an arc of the set: worked out.
-fn is_arc(c: &[f64; 30], n_sets: usize, mask: usize, j: usize, phi_a: f64, phi_b: f64) -> bool
-    requires { ⌜ («n_sets» ≤ 10) × (j < «n_sets») ⌝ }
-    ensures { λ r. ⌜ r ≡ isArc (circlesIn (now (c .entry)) «n_sets») mask j «phi_a» «phi_b» ⌝ }
-{
-    let delta = gap(phi_a, phi_b);
-    if collapsed(delta) {
-        return false;
-    }
-    let circle = circle_at(c, j);
-    owned_in(c, n_sets, mask, j, point_at(circle, phi_a + delta * 0.5))
-}
-
-// The next place of n, round a circle.
-pub(crate) fn next(a: usize, n: usize) -> usize
-    requires { ⌜ a < n ⌝ }
-    ensures { λ r. ⌜ r ≡ (a + 1) % n ⌝ }
-{
-    if a + 1 < n {
-        return a + 1;
-    }
-    0
-}
 
 // The first place from `from` on whose point the set adopts, or n.
 fn next_in(mask: usize, adopters: &[usize; 320], at: usize, from: usize, n: usize) -> usize
@@ -88,7 +28,7 @@ fn next_in(mask: usize, adopters: &[usize; 320], at: usize, from: usize, n: usiz
     n
 }
 
-// The gap from the a-th angle of head j to the b-th, listed if it is an arc of the set: between neighbours by who lets the head have it.
+// The gap from the a-th angle of head j to the b-th, listed if it is an arc of the set.
 fn list_gap(
     mask: usize,
     c: &[f64; 30],
@@ -114,20 +54,12 @@ fn list_gap(
         ++ gapIn (circlesIn (now (c .entry)) «n_sets») mask j (getD (now (phi .entry)) (j * 32 + a) nan) (getD (now (phi .entry)) (j * 32 + b) nan)) r
         (now (list .exit)) ⌝ }
 {
-    let at = j * 32 + a;
-    if b == next(a, counts[j]) {
-        if mask & lets[at] == mask {
-            list[k] = at;
-            return k + 1;
-        }
+    let number = gap_number(mask, c, n_sets, j, counts[j], a, b, phi, lets);
+    if number == NO_ARC {
         return k;
     }
-    let to = j * 32 + b;
-    if is_arc(c, n_sets, mask, j, phi[at], phi[to]) {
-        list[k] = 330 + at * 320 + to;
-        return k + 1;
-    }
-    k
+    list[k] = number;
+    k + 1
 }
 
 // The arcs of head j in the set, listed: gap by gap round the circle, or the whole of it where no point is counted for the set there.

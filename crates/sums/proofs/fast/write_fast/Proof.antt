@@ -15,11 +15,11 @@ use mathlib.Core.Path.{subst}
 use Rattle.masks.specs.Presence.{stands}
 use Rattle.intersections.specs.Counted.{pointList}
 use Rattle.intersections.specs.Members.{membersOf}
+use Rattle.gaps.proofs.Circles.{circles-many}
 use Rattle.sums.specs.Rows.{areaOf}
 use Rattle.sums.specs.Walk.{Few}
 use Rattle.sums.proofs.Counts.{count-few}
 use Rattle.sums.proofs.Passing.{written-alike}
-use Rattle.sums.proofs.Walking.{circles-many}
 use Rattle.sums.proofs.fast.write_fast.Statement.{statement}
 use Rattle.sums.proofs.fast.write_fast.Tie as tie
 

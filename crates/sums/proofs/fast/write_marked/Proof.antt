@@ -12,7 +12,7 @@ use lib.Seq.{getD-take, take-all}
 use lib.Ieee.{Float, nan}
 use Rattle.lists.proofs.Arrays.{length-of-values}
 use Rattle.masks.specs.Subset.{subset-head}
-use Rattle.sums.specs.Walk.{circlesIn}
+use Rattle.gaps.specs.Gaps.{circlesIn}
 use Rattle.sums.proofs.Valuing.{ready-roomy}
 use Rattle.sums.proofs.Passing.{ready-less, worth-less}
 use Rattle.sums.proofs.fast.write_marked.Statement.{statement}

@@ -17,13 +17,14 @@ use Rattle.intersections.specs.Counted.{pointList}
 use Rattle.intersections.specs.Members.{noPoint}
 use Rattle.boundary.specs.Outline.{probe}
 use Rattle.boundary.specs.Marks.{marksFrom, Kept}
+use Rattle.gaps.specs.Gaps.{circlesIn}
+use Rattle.gaps.proofs.Circles.{circles-many, circle-held}
 use Rattle.sums.specs.Marks.{hasParent, marksAt}
 use Rattle.boundary.proofs.Sorting.{kept-self, kept-then}
-use Rattle.sums.specs.Walk.{circlesIn, letters, Marked}
+use Rattle.sums.specs.Walk.{letters, Marked}
 use Rattle.sums.specs.Filled.{Long}
 use Rattle.sums.proofs.Carrying.{Sorted, laid-start, mark-is, sorted-room, sorted-with, sorted-without, sorted-end}
 use Rattle.sums.proofs.Laying.{long-in, long-out, marked-none, marked-in, marked-out}
-use Rattle.sums.proofs.Walking.{circles-many, circle-of}
 use Rattle.sums.proofs.fill.fill_heads.Statement.{statement}
 use Rattle.sums.proofs.fill.fill_heads.Tie as tie
 use Rattle.sums.proofs.fill.fill_heads.Reads as reads
@@ -35,7 +36,6 @@ use Rattle.sums.proofs.fill.at_most_ninety.Reads as at-most-ninety-read
 use Rattle.sums.proofs.fill.fill_lets.Reads as fill-lets-reads
 use Rattle.sums.proofs.fill.has_parent.Reads as has-parent-reads
 use Rattle.sums.proofs.fill.letters.Reads as letters-reads
-use Rattle.sums.proofs.walk.circle_at.Reads as circle-at-reads
 
 record Heads (c : List Float) (n-sets : ℕ) (points : Intersections) (n needed : ℕ) (counts owners : List ℕ) (phi : List Float)
     (adopters lets : List ℕ) (j : ℕ) : Type 0 where
@@ -184,10 +184,10 @@ loop-again c =
     let cs = circlesIn (a .c .now) (a .n-sets) in
     let points = pointList (a .t3) in
     let k = l .inv .long in
-    let below = circle-of (a .c .now) (a .n-sets) (l .j) t in
+    let below = circle-held (a .c .now) (a .n-sets) (l .j) t (l .inv .ten) in
     ⊎-elim
     (λ w.
-    let own = w .1 .ensures ∙ sym below in
+    let own = w .1 .ensures ∙ below in
     let h = w .2 .inv in
     let f = laid-all h (w .3 .left) in
     record {

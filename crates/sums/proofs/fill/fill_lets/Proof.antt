@@ -3,8 +3,9 @@ use Prim.Native.Nat.{_+_, _-_, _*_, _%_, _≤_, _<_}
 use native.Mathlib.Omega.{arith}
 use lib.ListN.{length, getD, length-set}
 use lib.Ieee.{nan}
-use Rattle.boundary.proofs.Gaps.{next-below}
-use Rattle.sums.specs.Walk.{circlesIn, gapLetters}
+use Rattle.gaps.proofs.Circles.{next-is, next-less}
+use Rattle.gaps.specs.Gaps.{circlesIn}
+use Rattle.sums.specs.Walk.{gapLetters}
 use Rattle.sums.specs.Filled.{Filled}
 use Rattle.sums.proofs.Laying.{filled-none, filled-next}
 use borrow.Author.Needs.{needs}
@@ -13,7 +14,6 @@ use Rattle.sums.proofs.fill.fill_lets.Tie as tie
 use Rattle.sums.proofs.fill.fill_lets.Reads as reads
 use Rattle.sums.proofs.fill.fill_lets.Lts as lts
 use Rattle.sums.proofs.fill.gap_letters.Reads as gap-letters-reads
-use Rattle.sums.proofs.walk.next.Reads as next-reads
 
 abbrev Inv-loop : tie.InvT-loop
 Inv-loop c n-sets j n phi lets₀ at i₀ lets i =
@@ -34,21 +34,21 @@ add-to : tie.Need-add-to Inv-loop μ-loop
 add-to c =
     let l = c .before .before .loop in
     let a = c .before .before .before .args in
-    omega (arith, c .next .ensures, next-below (l .i) (a .n) (c .before .loop-test .taken), l .inv .1, l .inv .2)
+    omega (arith, c .next .ensures, next-less (l .i) (a .n) (c .before .loop-test .taken), l .inv .1, l .inv .2)
 
 -- src/fill.rt:165:63
 mul-gap-letters-2 : tie.Need-mul-gap-letters-2 Inv-loop μ-loop
 mul-gap-letters-2 c =
     let l = c .before .before .before .loop in
     let a = c .before .before .before .before .args in
-    omega (arith, c .before .next .ensures, next-below (l .i) (a .n) (c .before .before .loop-test .taken), l .inv .1, l .inv .2)
+    omega (arith, c .before .next .ensures, next-less (l .i) (a .n) (c .before .before .loop-test .taken), l .inv .1, l .inv .2)
 
 -- src/fill.rt:165:63
 element-copy-out-gap-letters-2 : tie.Need-element-copy-out-gap-letters-2 Inv-loop μ-loop
 element-copy-out-gap-letters-2 c =
     let l = c .before .before .before .loop in
     let a = c .before .before .before .before .args in
-    omega (arith, c .before .next .ensures, next-below (l .i) (a .n) (c .before .before .loop-test .taken), l .inv .1, l .inv .2)
+    omega (arith, c .before .next .ensures, next-less (l .i) (a .n) (c .before .before .loop-test .taken), l .inv .1, l .inv .2)
 
 -- src/fill.rt:163:5
 loop-again : tie.Need-loop-again Inv-loop μ-loop
@@ -65,7 +65,7 @@ loop-again c =
       i .4,
       filled-next (a .j * 32) _ 0 _ (l .i) (l .lets) _ (omega (arith, i .1, i .2, i .3, n .before .loop-test .taken))
           (c .gap-letters .ensures ∙ ap (λ m. gapLetters cs (a .j) (getD (a .phi .now) (a .j * 32 + l .i) nan) (getD (a .phi .now) (a .j * 32 + m) nan))
-          (n .next .ensures))
+          (n .next .ensures ∙ next-is (l .i) (a .n) (n .before .loop-test .taken)))
           (i .5),
     )
 

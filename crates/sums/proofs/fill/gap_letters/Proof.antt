@@ -1,7 +1,7 @@
 use mathlib.Core.Path.{sym, _∙_}
-use Rattle.sums.specs.Walk.{circlesIn}
+use Rattle.gaps.specs.Gaps.{circlesIn}
+use Rattle.gaps.proofs.Circles.{circle-held}
 use Rattle.sums.proofs.Owning.{nobody-lets, these-let}
-use Rattle.sums.proofs.Walking.{circle-of}
 use borrow.Author.Needs.{needs}
 use Rattle.sums.proofs.fill.gap_letters.Statement.{statement}
 use Rattle.sums.proofs.fill.gap_letters.Tie as tie
@@ -11,7 +11,6 @@ use Rattle.boundary.proofs.angles.collapsed.Reads as collapsed-reads
 use Rattle.boundary.proofs.angles.gap.Reads as gap-reads
 use Rattle.boundary.proofs.angles.point_at.Reads as point-at-reads
 use Rattle.sums.proofs.fill.letters.Reads as letters-reads
-use Rattle.sums.proofs.walk.circle_at.Reads as circle-at-reads
 
 -- src/fill.rt:51:9
 returns : tie.Need-returns
@@ -29,7 +28,7 @@ returns-2 c =
     let a = s .before .args in
     these-let (circlesIn (a .c .now) (a .n-sets)) (a .j) (a .phi-a) (a .phi-b) _ (s .gap .ensures) _ _ _
     (sym (e .before .collapsed .ensures) ∙ e .if1 .left)
-    (k .circle-at .ensures ∙ sym (circle-of (a .c .now) (a .n-sets) (a .j) (s .before .pre .1)))
+    (k .circle-at .ensures ∙ circle-held (a .c .now) (a .n-sets) (a .j) (s .before .pre .1) (s .before .pre .0))
     (c .before .point-at .ensures)
     (c .letters .ensures)
 

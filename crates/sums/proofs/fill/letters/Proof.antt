@@ -7,16 +7,15 @@ use Rattle.masks.specs.Mask.{gather}
 use Rattle.intersections.specs.Members.{circleAt}
 use Rattle.intersections.proofs.Adopting.{gather-with, gather-without}
 use Rattle.boundary.specs.Outline.{lets}
-use Rattle.sums.specs.Walk.{circlesIn}
+use Rattle.gaps.specs.Gaps.{circlesIn}
+use Rattle.gaps.proofs.Circles.{circles-many, circle-held}
 use Rattle.sums.proofs.Owning.{gather-start, letters-are}
-use Rattle.sums.proofs.Walking.{circles-many, circle-of}
 use borrow.Author.Needs.{needs}
 use Rattle.sums.proofs.fill.letters.Statement.{statement}
 use Rattle.sums.proofs.fill.letters.Tie as tie
 use Rattle.sums.proofs.fill.letters.Reads as reads
 use Rattle.sums.proofs.fill.letters.Lts as lts
 use Rattle.boundary.proofs.ownership.lets.Reads as lets-reads
-use Rattle.sums.proofs.walk.circle_at.Reads as circle-at-reads
 
 abbrev Inv-loop : tie.InvT-loop
 Inv-loop c n-sets j p mask₀ l₀ mask l =
@@ -41,7 +40,7 @@ loop-again c =
     let f : ℕ → Bool = λ i. lets (a .j) (a .p) i (circleAt cs i) in
     let below : l .l < a .n-sets = omega arith in
     let told : f (l .l) ≡ c .before .lets .result = ap (lets (a .j) (a .p) (l .l))
-    (circle-of (a .c .now) (a .n-sets) (l .l) below ∙ sym (c .before .before .circle-at .ensures)) ∙ sym (c .before .lets .ensures) in
+    (sym (c .before .before .circle-at .ensures ∙ circle-held (a .c .now) (a .n-sets) (l .l) below (d .before .pre))) ∙ sym (c .before .lets .ensures) in
     ⊎-elim
     (λ w. (omega arith, w .1 ∙ rw (l .inv .1) (gather-with f (l .l) (omega arith) (told ∙ w .0 .taken))))
     (λ w. (omega arith, w .1 ∙ l .inv .1 ∙ gather-without f (l .l) (told ∙ w .0 .left)))

@@ -1,7 +1,7 @@
 -- `gradients::fast_row`: a row of +0, then what each of the two ways adds to it.
 use borrow.Author.Needs.{needs}
 use mathlib.Core.Path.{ap, _∙_}
-use Rattle.sums.specs.Walk.{circlesIn}
+use Rattle.gaps.specs.Gaps.{circlesIn}
 use Rattle.sums.specs.Gradients.{openOnto, clippedOnto}
 use Rattle.sums.proofs.gradients.fast_row.Statement.{statement}
 use Rattle.sums.proofs.gradients.fast_row.Tie as tie

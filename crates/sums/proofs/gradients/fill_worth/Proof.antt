@@ -1,11 +1,10 @@
 -- `gradients::fill_worth`: what each of the two ways fills.
+use borrow.Author.Needs.{needs}
 use mathlib.Core.Path.{sym, _∙_}
 use mathlib.Core.Bool.{true, false, true≢false}
+use Rattle.chords.proofs.Ends.{filled-chorded}
 use Rattle.sums.proofs.gradients.fill_worth.Statement.{statement}
 use Rattle.sums.proofs.gradients.fill_worth.Tie as tie
-
-fill-chords-requires : tie.Need-fill-chords-requires
-fill-chords-requires c κs = let s = c .before .before .before .before in ((s .pre .0 .0, s .pre .0 .1 .0), s .pre .1 .1 .1 .1)
 
 fill-parts-requires : tie.Need-fill-parts-requires
 fill-parts-requires c κs =
@@ -20,9 +19,13 @@ returns c =
     let f = c .before .before .before .before .before .before .before in
     let i = f .before .before .before .before in
     let s = i .before in
+    let a = s .args in
+    let e = f .fill-chords .ensures in
+    let long = s .pre .1 .1 .1 .1 in
     record {
       parts = λ e. c .fill-parts .ensures;
-      chords = λ e. rw (s .pre .0 .1 .1 .1) (f .fill-chords .ensures);
+      chords = λ _. rw (s .pre .0 .1 .1 .1) (filled-chorded (a .bounds) (a .circles) (a .n-sets) (a .needed) (s .pre .0 .1 .0) (a .reach .now) (a .low .now) (a .high .now)
+          (long .0) (long .1 .0) (long .1 .1) (e .0) (e .1 .0) (e .1 .1));
       terms = λ e. absurd (true≢false (sym (i .if1 .taken) ∙ e));
       slopes = λ e. absurd (true≢false (sym (i .if1 .taken) ∙ e));
     }
@@ -49,4 +52,4 @@ returns-2 c =
     }
 
 pub fill-worth-spec : {M : Type 1} → statement M
-fill-worth-spec = tie.close (tie.spec fill-chords-requires fill-parts-requires returns fill-terms-requires fill-slopes-requires returns-2)
+fill-worth-spec = tie.close (tie.spec (λ c κs. search needs) fill-parts-requires returns fill-terms-requires fill-slopes-requires returns-2)

@@ -9,9 +9,9 @@ use Rattle.geometry.specs.declared.circle.Circle.{Circle}
 use Rattle.masks.specs.Presence.{stands}
 use Rattle.intersections.specs.Counted.{pointList}
 use Rattle.clip.specs.Gradient.{WithGradient}
+use Rattle.gaps.proofs.Circles.{circles-many}
 use Rattle.sums.specs.Walk.{Few}
 use Rattle.sums.specs.Gradients.{rowWith, areasTo, rowsTo}
-use Rattle.sums.proofs.Walking.{circles-many}
 use Rattle.sums.proofs.gradients.write_fast.Statement.{statement}
 use Rattle.sums.proofs.gradients.write_fast.Tie as tie
 

@@ -1,7 +1,7 @@
 -- `gradients::write_marked`: what is filled for all heads serves each row.
 use borrow.Author.Needs.{needs}
 use Rattle.masks.specs.Subset.{subset-head}
-use Rattle.sums.specs.Walk.{circlesIn}
+use Rattle.gaps.specs.Gaps.{circlesIn}
 use Rattle.sums.proofs.Valuing.{ready-roomy}
 use Rattle.sums.proofs.Passing.{ready-less}
 use Rattle.sums.proofs.Sloping.{worth-with-less}

@@ -12,7 +12,8 @@ use lib.Pow.{pow-mono}
 use Rattle.masks.specs.Presence.{stands}
 use Rattle.intersections.specs.declared.points.IntersectionPoint.{IntersectionPoint}
 use Rattle.clip.specs.Gradient.{WithGradient}
-use Rattle.sums.specs.Walk.{circlesIn, Few}
+use Rattle.gaps.specs.Gaps.{circlesIn}
+use Rattle.sums.specs.Walk.{Few}
 use Rattle.sums.specs.Values.{MarksOf}
 use Rattle.sums.specs.Fast.{OfWanted}
 use Rattle.sums.specs.Gradients.{rowWith, areasTo, rowsTo}

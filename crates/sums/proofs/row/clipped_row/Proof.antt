@@ -1,18 +1,9 @@
 -- `row::clipped_row`: the arcs that the walk lists, then the edges.
 use borrow.Author.Needs.{needs}
-use mathlib.Core.Path.{_≡_, refl, sym, ap, _∙_}
-use mathlib.Core.Bool.{true, false, true≢false}
-use mathlib.Core.Logic.{⊎-elim}
-use Prim.Native.Nat.{ℕ, _+_, _-_, _*_, _^_, _/_, _%_, _≤_, _<_}
-use native.Mathlib.Omega.{arith}
-use borrow.Author.Tests.{eq-eqb, ne-eqb, lt-ltb, le-ltb, not-true, not-false}
-use lib.Dec.{eqb, ltb}
-use lib.ListN.{length, take, getD, set, length-take, length-set}
-use lib.Seq.{getD-take, take-all}
-use lib.Ieee.{Float, nan}
-use Rattle.lists.proofs.Arrays.{length-of-values}
-use Rattle.sums.specs.Walk.{circlesIn}
-use Rattle.sums.proofs.Walking.{circles-many}
+use mathlib.Core.Path.{sym, _∙_}
+use Rattle.gaps.specs.Gaps.{circlesIn}
+use Rattle.gaps.proofs.Circles.{circles-many}
+use Rattle.sums.proofs.Edging.{edges-are}
 use Rattle.sums.proofs.Valuing.{all-known, area-of-none, ready-roomy, row-in-box}
 use Rattle.sums.proofs.row.clipped_row.Statement.{statement}
 use Rattle.sums.proofs.row.clipped_row.Tie as tie
@@ -37,9 +28,6 @@ add-integrals-requires c κs =
       all-known (a .n-sets) (a .mask) (a .counts .now) (s .pre .0 .0) roomy _ (a .value .now) (s .pre .1 .1 .0) listing,
     )
 
-add-edges-requires : tie.Need-add-edges-requires
-add-edges-requires c κs = let s = c .before .before .before .before .before .before in (s .pre .0 .0, s .pre .0 .1 .0)
-
 returns-2 : tie.Need-returns-2
 returns-2 c =
     let i = c .before in
@@ -47,12 +35,15 @@ returns-2 c =
     let e = w .before .before in
     let s = e .before .before in
     let a = s .args in
+    let cs = circlesIn (a .c .now) (a .n-sets) in
     let listing = w .walk .ensures .1 in (
       listing .long,
       λ points few marks. row-in-box (a .c .now) (a .n-sets) points (a .mask) (a .counts .now) (a .phi .now) (a .adopters .now) (s .pre .0 .0) (s .pre .0 .1 .0) few marks
           listing (a .bounds) (sym (e .before .empty-box .ensures) ∙ e .if1 .left) (i .add-integrals .ensures)
-          (c .add-edges .ensures (circlesIn (a .c .now) (a .n-sets)) (circles-many (a .c .now) (a .n-sets)) (s .pre .1 .1 .1)),
+          (c .add-edges .ensures
+          ∙ edges-are (a .bounds) cs (a .n-sets) (a .mask) (a .reach .now) (a .low .now) (a .high .now) (circles-many (a .c .now) (a .n-sets)) (s .pre .0 .0)
+          (s .pre .0 .1 .0) (s .pre .1 .1 .1) _),
     )
 
 pub clipped-row-spec : {M : Type 1} → statement M
-clipped-row-spec = tie.close (tie.spec (λ c κs. search needs) returns walk-requires add-integrals-requires add-edges-requires returns-2)
+clipped-row-spec = tie.close (tie.spec (λ c κs. search needs) returns walk-requires add-integrals-requires (λ c κs. search needs) returns-2)

@@ -7,8 +7,9 @@ use lib.ListN.{length}
 use Rattle.intersections.specs.Members.{headsOf, circleAt}
 use Rattle.boundary.specs.Set.{regionArcs}
 use Rattle.clip.proofs.Rows.{gradient-of-nothing}
-use Rattle.sums.specs.Walk.{circlesIn}
-use Rattle.sums.proofs.Walking.{circles-many}
+use Rattle.gaps.specs.Gaps.{circlesIn}
+use Rattle.gaps.proofs.Circles.{circles-many}
+use Rattle.sums.proofs.Edging.{edges-with-are}
 use Rattle.sums.proofs.Valuing.{ready-roomy}
 use Rattle.sums.proofs.Sloping.{parts-known, every-first, row-in-box-with}
 use Rattle.sums.proofs.row.clipped_row_with_gradient.Statement.{statement}
@@ -49,12 +50,6 @@ add-parts-requires c κs =
           (parts-known (a .n-sets) (a .mask) (s .pre .0 .0) roomy (s .pre .1 .1 .0) (w .ensures .1)),
     )
 
-add-edges-with-gradient-requires : tie.Need-add-edges-with-gradient-requires
-add-edges-with-gradient-requires c κs =
-    let p = c .before .before .before in
-    let s = entry (left (listed (p .before)) .before) in
-    (s .pre .0 .0, s .pre .0 .1 .0)
-
 same-length : tie.Need-same-length
 same-length c =
     let e = c .before .before in
@@ -77,10 +72,12 @@ returns-2 c =
           (s .pre .0 .0) (s .pre .0 .1 .0) few marks listing (a .grad .now) (f .first-arcs .ensures)
           (a .bounds) (map (circleAt cs) (headsOf (length cs) (a .mask)))
           (sym (l .before .empty-box .ensures) ∙ l .if1 .left) (p .add-parts .ensures)
-          (e .add-edges-with-gradient .ensures cs (circles-many (a .c .now) (a .n-sets)) (s .pre .1 .1 .1)),
+          (e .add-edges-with-gradient .ensures
+          ∙ edges-with-are (a .bounds) cs (a .n-sets) (a .mask) (a .reach .now) (a .low .now) (a .high .now) (circles-many (a .c .now) (a .n-sets)) (s .pre .0 .0)
+          (s .pre .0 .1 .0) (s .pre .1 .1 .1) _),
     )
 
 pub clipped-row-with-gradient-spec : {M : Type 1} → statement M
 clipped-row-with-gradient-spec =
     tie.close (tie.spec (λ c κs. search needs) returns walk-requires (λ c κs. search needs) add-parts-requires
-    add-edges-with-gradient-requires same-length returns-2)
+    (λ c κs. search needs) same-length returns-2)

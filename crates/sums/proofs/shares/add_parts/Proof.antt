@@ -8,7 +8,7 @@ use lib.ListN.{length, take}
 use Rattle.lists.proofs.Folds.{fold-suc}
 use Rattle.binary64.specs.Constants.{zero64}
 use Rattle.clip.specs.Gradient.{with-gradient}
-use Rattle.sums.specs.Walk.{circlesIn}
+use Rattle.gaps.specs.Gaps.{circlesIn}
 use Rattle.sums.specs.Slopes.{addPartsAt}
 use Rattle.sums.proofs.Valuing.{every-listed}
 use Rattle.sums.proofs.shares.add_parts.Statement.{statement}

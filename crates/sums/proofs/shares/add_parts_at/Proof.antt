@@ -1,9 +1,9 @@
 -- `shares::add_parts_at`: the arc's parts as they are held, or of the arc that is read.
 use borrow.Author.Needs.{needs}
-use mathlib.Core.Path.{ap, _∙_}
+use mathlib.Core.Path.{_∙_}
 use Prim.Native.Nat.{_≤_, _<_}
 use native.Mathlib.Omega.{arith}
-use Rattle.sums.specs.Walk.{circleIn}
+use Rattle.gaps.proofs.Circles.{circle-first}
 use Rattle.sums.proofs.Sloping.{full-is, held-is}
 use Rattle.sums.proofs.shares.add_parts_at.Statement.{statement}
 use Rattle.sums.proofs.shares.add_parts_at.Tie as tie
@@ -49,12 +49,12 @@ returns-2 c =
     let s = h .before .before in
     let a = s .args in
     full-is (a .bounds) (a .c .now) (a .n-sets) (a .counts .now) (a .phi .now) (a .place) (s .pre .1 .below)
-    (q .circle-at .ensures ∙ ap (circleIn (a .c .now)) (h .head-of .ensures)) (k .arc-at .ensures) (s .pre .0) (a .total) (a .grad .now)
+    (q .circle-at .ensures ∙ circle-first (a .c .now) (h .head-of .ensures) (omega (arith, s .pre .0, s .pre .1 .below))) (k .arc-at .ensures) (s .pre .0) (a .total) (a .grad .now)
     (t .head-arc-integral-with-gradient .ensures)
 
 pub add-parts-at-spec : {M : Type 1} → statement M
 add-parts-at-spec =
     tie.close (tie.spec (λ c κs. search needs) (λ c. omega (arith, low (c .before .before))) (λ c. omega (arith, held (c .before)))
     (λ c. omega (arith, held (c .before))) (λ c. omega (arith, held (c .before .before))) (λ c. omega (arith, held (c .before .before)))
-    add-shares-requires mul-result element-copy-out-result (λ c. search needs) returns (λ c κs. omega (arith, low (c .before)))
+    add-shares-requires mul-result element-copy-out-result (λ c. search needs) returns (λ c κs. search needs)
     arc-at-requires (λ c κs. search needs) (λ c. search needs) returns-2)

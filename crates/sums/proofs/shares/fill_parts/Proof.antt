@@ -1,11 +1,12 @@
 -- `shares::fill_parts`: of the arcs with a number below p the parts are held, before `used` (`PartsTo`).
 use borrow.Author.Needs.{needs}
-use mathlib.Core.Path.{_≡_, sym, ap, _∙_}
+use mathlib.Core.Path.{_≡_, sym, _∙_}
 use mathlib.Core.Bool.{true, false, true≢false}
 use Prim.Native.Nat.{ℕ, _-_, _≤_, _<_}
 use native.Mathlib.Omega.{arith}
 use lib.ListN.{length, length-set}
-use Rattle.sums.specs.Walk.{circleIn, circlesIn}
+use Rattle.gaps.specs.Gaps.{circlesIn}
+use Rattle.gaps.proofs.Circles.{circle-first}
 use Rattle.sums.specs.Values.{standing}
 use Rattle.sums.proofs.Valuing.{standing-below, standing-readable}
 use Rattle.sums.proofs.Sloping.{PartsTo, parts-none, parts-jump, parts-put, parts-all, put-is}
@@ -28,20 +29,6 @@ loop-holds c =
 
 returns : tie.Need-returns Inv-loop μ-loop
 returns c = let i = c .before .before .loop .inv in parts-all (i .6) (i .8)
-
-circle-at-requires : tie.Need-circle-at-requires Inv-loop μ-loop
-circle-at-requires c κs =
-    let i = c .before .before in
-    let d = i .before .before in
-    let s = d .before .before in
-    let a = s .args in
-    let is = sym (i .is-standing .ensures) ∙ c .before .if2 .taken in
-    omega (
-      arith,
-      c .head-of .ensures,
-      s .pre .0 .0,
-      standing-below (a .n-sets) (a .needed) (a .counts .now) (s .pre .0 .1 .0) (s .pre .0 .1 .1) (d .before .loop .p) (d .loop-test .taken) is,
-    )
 
 arc-at-requires : tie.Need-arc-at-requires Inv-loop μ-loop
 arc-at-requires c κs =
@@ -80,7 +67,7 @@ loop-again c =
     let i = l .inv in
     let is = sym (w .is-standing .ensures) ∙ t .if2 .taken in
     let head = standing-below (a .n-sets) (a .needed) (a .counts .now) (s .pre .0 .1 .0) (s .pre .0 .1 .1) (l .p) (d .loop-test .taken) is in
-    let circle = q .circle-at .ensures ∙ ap (circleIn (a .c .now)) (h .head-of .ensures) in
+    let circle = q .circle-at .ensures ∙ circle-first (a .c .now) (h .head-of .ensures) (omega (arith, head, s .pre .0 .0)) in
     let put = pp .put-parts .ensures in
     let kept = put .1 .1 .0 in (
       length-set (l .first) (l .p) _ ∙ i .0,
@@ -118,7 +105,7 @@ returns-2 c =
 
 pub fill-parts-spec : {M : Type 1} → statement M
 fill-parts-spec =
-    tie.close (tie.spec Inv-loop μ-loop loop-holds returns (λ c κs. search needs) (λ c κs. search needs) circle-at-requires arc-at-requires
+    tie.close (tie.spec Inv-loop μ-loop loop-holds returns (λ c κs. search needs) (λ c κs. search needs) (λ c κs. search needs) arc-at-requires
     put-parts-requires (λ c. search needs) (λ c. search needs) (λ c. search needs) (λ c. search needs) (λ c. search needs)
     (λ c. search needs) add-used (λ c. search needs) (λ c. search needs) loop-again (λ c κs. search needs) loop-less-2 loop-again-2
     returns-2)

@@ -11,43 +11,40 @@ use lib.ListN.{length, take, getD, set, length-take, length-set}
 use lib.Seq.{getD-take, take-all}
 use lib.Ieee.{Float, nan}
 use Rattle.lists.proofs.Arrays.{length-of-values}
-use Rattle.sums.specs.Walk.{circleIn}
-use Rattle.sums.specs.Values.{termX, termY, termR}
+use Rattle.gaps.proofs.Circles.{circle-first}
+use Rattle.outline.specs.Terms.{termX, termY, termR}
 use Rattle.sums.proofs.Valuing.{term-is}
 use Rattle.sums.proofs.terms.add_arc.Statement.{statement}
 use Rattle.sums.proofs.terms.add_arc.Tie as tie
 
 returns : tie.Need-returns
 returns c =
-    let d = c .before .before .before in
+    let d = c .before .before .before .before in
     let s = d .before in
     let known = s .pre .1 in
-    rw (known .x .held (d .if1 .taken), known .y .held (d .if1 .taken), known .r .held (d .if1 .taken))
-
-circle-at-requires : tie.Need-circle-at-requires
-circle-at-requires c κs =
-    let s = c .before .before in
-    omega (arith, c .head-of .ensures, s .pre .1 .x .below, s .pre .0)
+    c .add-three .ensures ∙ rw (known .x .held (d .if1 .taken), known .y .held (d .if1 .taken), known .r .held (d .if1 .taken))
 
 arc-at-requires : tie.Need-arc-at-requires
 arc-at-requires c κs = c .before .before .before .pre .1 .x .readable
 
 returns-2 : tie.Need-returns-2
 returns-2 c =
-    let k = c .before .before .before in
+    let d = c .before in
+    let k = d .before .before .before in
     let h = k .before .before in
     let s = h .before .before in
     let a = s .args in
     let head = s .pre .1 .x .below in
-    let circle = k .before .circle-at .ensures ∙ ap (circleIn (a .c .now)) (h .head-of .ensures) in
-    rw (
-      c .before .before .term-x .ensures ∙ term-is termX (a .c .now) (a .n-sets) (a .counts .now) (a .phi .now) (a .place) head circle (k .arc-at .ensures),
-      c .before .term-y .ensures ∙ term-is termY (a .c .now) (a .n-sets) (a .counts .now) (a .phi .now) (a .place) head circle (k .arc-at .ensures),
-      c .term-r .ensures ∙ term-is termR (a .c .now) (a .n-sets) (a .counts .now) (a .phi .now) (a .place) head circle (k .arc-at .ensures),
+    let circle = k .before .circle-at .ensures ∙ circle-first (a .c .now) (h .head-of .ensures) (omega (arith, head, s .pre .0)) in
+    c .add-three2 .ensures
+    ∙ rw (
+      d .before .before .term-x .ensures ∙ term-is termX (a .c .now) (a .n-sets) (a .counts .now) (a .phi .now) (a .place) head circle (k .arc-at .ensures),
+      d .before .term-y .ensures ∙ term-is termY (a .c .now) (a .n-sets) (a .counts .now) (a .phi .now) (a .place) head circle (k .arc-at .ensures),
+      d .term-r .ensures ∙ term-is termR (a .c .now) (a .n-sets) (a .counts .now) (a .phi .now) (a .place) head circle (k .arc-at .ensures),
     )
 
 pub add-arc-spec : {M : Type 1} → statement M
 add-arc-spec =
     tie.close (tie.spec (λ c. search needs) (λ c. search needs) (λ c. search needs) (λ c. search needs) (λ c. search needs)
-    (λ c. search needs) returns (λ c κs. search needs) circle-at-requires arc-at-requires (λ c κs. search needs) (λ c κs. search needs)
-    (λ c κs. search needs) returns-2)
+    (λ c. search needs) (λ c κs. search needs) returns (λ c κs. search needs) (λ c κs. search needs) arc-at-requires (λ c κs. search needs)
+    (λ c κs. search needs) (λ c κs. search needs) (λ c κs. search needs) returns-2)

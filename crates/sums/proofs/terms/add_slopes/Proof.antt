@@ -6,7 +6,7 @@ use Prim.Native.Nat.{_-_, _≤_}
 use native.Mathlib.Omega.{arith}
 use lib.ListN.{length, take}
 use Rattle.lists.proofs.Folds.{fold-suc}
-use Rattle.sums.specs.Walk.{circlesIn}
+use Rattle.gaps.specs.Gaps.{circlesIn}
 use Rattle.sums.specs.Slopes.{addSlopesAt}
 use Rattle.sums.proofs.Valuing.{every-listed}
 use Rattle.sums.proofs.terms.add_slopes.Statement.{statement}

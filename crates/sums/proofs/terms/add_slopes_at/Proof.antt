@@ -1,9 +1,9 @@
 -- `slopes::add_slopes_at`: the three slopes as they are held, or of the arc that is read.
 use borrow.Author.Needs.{needs}
-use mathlib.Core.Path.{ap, _∙_}
+use mathlib.Core.Path.{_∙_}
 use Prim.Native.Nat.{_≤_}
 use native.Mathlib.Omega.{arith}
-use Rattle.sums.specs.Walk.{circleIn}
+use Rattle.gaps.proofs.Circles.{circle-first}
 use Rattle.sums.specs.Slopes.{slopeX, slopeY, slopeR}
 use Rattle.sums.proofs.Valuing.{term-is}
 use Rattle.sums.proofs.terms.add_slopes_at.Statement.{statement}
@@ -48,7 +48,7 @@ returns-2 c =
     let s = h .before .before in
     let a = s .args in
     let head = s .pre .1 .x .below in
-    let circle = q .circle-at .ensures ∙ ap (circleIn (a .c .now)) (h .head-of .ensures) in
+    let circle = q .circle-at .ensures ∙ circle-first (a .c .now) (h .head-of .ensures) (omega (arith, head, s .pre .0)) in
     t .add-three-at2 .ensures
     ∙ rw (
       h .head-of .ensures,
@@ -61,5 +61,5 @@ pub add-slopes-at-spec : {M : Type 1} → statement M
 add-slopes-at-spec =
     tie.close (tie.spec (λ c κs. search needs) (λ c. omega (arith, low (c .before .before))) (λ c. search needs) (λ c. search needs)
     (λ c. search needs) (λ c. search needs) (λ c. search needs) (λ c. search needs) add-three-at-requires
-    (λ c κs. omega (arith, low (c .before))) arc-at-requires mul-add-three-at-5 (λ c κs. search needs) (λ c κs. search needs)
+    (λ c κs. search needs) arc-at-requires mul-add-three-at-5 (λ c κs. search needs) (λ c κs. search needs)
     (λ c κs. search needs) add-three-at-requires-2 (λ c. search needs) returns (λ c. search needs) returns-2)

@@ -7,7 +7,7 @@ use lib.ListN.{length, take}
 use mathlib.Core.List.{foldl}
 use Rattle.lists.proofs.Folds.{fold-suc}
 use Rattle.binary64.specs.Constants.{zero64}
-use Rattle.sums.specs.Walk.{circlesIn}
+use Rattle.gaps.specs.Gaps.{circlesIn}
 use Rattle.sums.specs.Values.{addTerms}
 use Rattle.sums.proofs.Valuing.{every-listed}
 use Rattle.sums.proofs.terms.add_terms.Statement.{statement}

@@ -1,10 +1,11 @@
 -- `terms::fill_terms`: the places below p that are asked for hold the terms of their arcs.
 use borrow.Author.Needs.{needs}
-use mathlib.Core.Path.{sym, ap, _∙_}
+use mathlib.Core.Path.{sym, _∙_}
 use Prim.Native.Nat.{_-_}
 use native.Mathlib.Omega.{arith}
-use Rattle.sums.specs.Walk.{circleIn, circlesIn}
-use Rattle.sums.specs.Values.{termX, termY, termR}
+use Rattle.gaps.specs.Gaps.{circlesIn}
+use Rattle.gaps.proofs.Circles.{circle-first}
+use Rattle.outline.specs.Terms.{termX, termY, termR}
 use Rattle.sums.proofs.Valuing.{standing-below, standing-readable, ThreeTo, three-starts, three-past, three-put, three-all}
 use Rattle.sums.proofs.terms.fill_terms.Statement.{statement}
 use Rattle.sums.proofs.terms.fill_terms.Tie as tie
@@ -18,20 +19,6 @@ abbrev μ-loop : tie.MeasureT-loop
 
 loop-holds : tie.Need-loop-holds Inv-loop μ-loop
 loop-holds c = let long = c .pre .1 in three-starts (long .0) (long .1 .0) (long .1 .1)
-
-circle-at-requires : tie.Need-circle-at-requires Inv-loop μ-loop
-circle-at-requires c κs =
-    let i = c .before .before in
-    let d = i .before in
-    let s = d .before .before in
-    let a = s .args in
-    let is = sym (i .is-standing .ensures) ∙ c .before .if1 .taken in
-    omega (
-      arith,
-      c .head-of .ensures,
-      s .pre .0 .0,
-      standing-below (a .n-sets) (a .needed) (a .counts .now) (s .pre .0 .1 .0) (s .pre .0 .1 .1) (d .before .loop .p) (d .loop-test .taken) is,
-    )
 
 arc-at-requires : tie.Need-arc-at-requires Inv-loop μ-loop
 arc-at-requires c κs =
@@ -53,7 +40,7 @@ loop-again c =
     let l = d .before .loop in
     let is = sym (i .is-standing .ensures) ∙ h .before .if1 .taken in
     let head = standing-below (a .n-sets) (a .needed) (a .counts .now) (s .pre .0 .1 .0) (s .pre .0 .1 .1) (l .p) (d .loop-test .taken) is in
-    let circle = k .before .circle-at .ensures ∙ ap (circleIn (a .c .now)) (h .head-of .ensures) in
+    let circle = k .before .circle-at .ensures ∙ circle-first (a .c .now) (h .head-of .ensures) (omega (arith, head, s .pre .0 .0)) in
     three-put (a .c .now) (a .n-sets) (l .inv) (omega arith) (d .loop-test .taken) head circle (k .arc-at .ensures)
     (c .before .before .term-x .ensures) (c .before .term-y .ensures) (c .term-r .ensures)
 
@@ -73,7 +60,7 @@ returns c = three-all (omega arith) (c .before .loop .inv)
 
 pub fill-terms-spec : {M : Type 1} → statement M
 fill-terms-spec =
-    tie.close (tie.spec Inv-loop μ-loop loop-holds (λ c κs. search needs) (λ c κs. search needs) circle-at-requires arc-at-requires
+    tie.close (tie.spec Inv-loop μ-loop loop-holds (λ c κs. search needs) (λ c κs. search needs) (λ c κs. search needs) arc-at-requires
     (λ c κs. search needs) (λ c. search needs) (λ c. search needs) (λ c κs. search needs) (λ c. search needs) (λ c. search needs)
     (λ c κs. search needs) (λ c. search needs) (λ c. search needs) (λ c. search needs) (λ c. search needs) loop-again
     (λ c κs. search needs) loop-less-2 loop-again-2 returns)

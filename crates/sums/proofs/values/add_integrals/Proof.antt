@@ -8,7 +8,7 @@ use mathlib.Core.List.{foldl}
 use Rattle.lists.proofs.Folds.{fold-suc}
 use Rattle.binary64.specs.Constants.{zero64}
 use Rattle.inside.specs.Parts.{clippedArcIntegral}
-use Rattle.sums.specs.Walk.{circlesIn}
+use Rattle.gaps.specs.Gaps.{circlesIn}
 use Rattle.sums.specs.Values.{termOf, addOne}
 use Rattle.sums.proofs.Valuing.{every-listed}
 use Rattle.sums.proofs.values.add_integrals.Statement.{statement}

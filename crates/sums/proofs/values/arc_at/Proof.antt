@@ -16,33 +16,30 @@ use Rattle.lists.proofs.Arrays.{length-of-values}
 use Rattle.masks.specs.Mask.{inSet}
 use Rattle.masks.specs.Operations.{in-by-shift}
 use borrow.Author.Needs.{needs}
-use Rattle.boundary.proofs.Gaps.{next-below}
+use Rattle.gaps.proofs.Circles.{next-is, next-less}
 use Rattle.sums.proofs.Valuing.{arc-near, arc-whole, arc-far}
 use Rattle.sums.proofs.values.arc_at.Statement.{statement}
 use Rattle.sums.proofs.values.arc_at.Tie as tie
-
-next-requires : tie.Need-next-requires
-next-requires c κs = c .before .before .pre .next (c .before .if1 .taken)
 
 add-to : tie.Need-add-to
 add-to c =
     let s = c .before .before in
     let a = s .before .args in
-    omega (arith, s .before .pre .few (s .if1 .taken), c .next .ensures, next-below (a .place % 32) (getD (a .counts .now) (a .place / 32) 0) (s .before .pre .next (s .if1 .taken)))
+    omega (arith, s .before .pre .few (s .if1 .taken), c .next .ensures, next-less (a .place % 32) (getD (a .counts .now) (a .place / 32) 0) (s .before .pre .next (s .if1 .taken)))
 
 mul-gap-2 : tie.Need-mul-gap-2
 mul-gap-2 c =
     let n = c .before .before in
     let s = n .before .before in
     let a = s .before .args in
-    omega (arith, s .before .pre .few (s .if1 .taken), n .next .ensures, next-below (a .place % 32) (getD (a .counts .now) (a .place / 32) 0) (s .before .pre .next (s .if1 .taken)))
+    omega (arith, s .before .pre .few (s .if1 .taken), n .next .ensures, next-less (a .place % 32) (getD (a .counts .now) (a .place / 32) 0) (s .before .pre .next (s .if1 .taken)))
 
 element-copy-out-gap-2 : tie.Need-element-copy-out-gap-2
 element-copy-out-gap-2 c =
     let n = c .before .before in
     let s = n .before .before in
     let a = s .before .args in
-    omega (arith, s .before .pre .few (s .if1 .taken), n .next .ensures, next-below (a .place % 32) (getD (a .counts .now) (a .place / 32) 0) (s .before .pre .next (s .if1 .taken)))
+    omega (arith, s .before .pre .few (s .if1 .taken), n .next .ensures, next-less (a .place % 32) (getD (a .counts .now) (a .place / 32) 0) (s .before .pre .next (s .if1 .taken)))
 
 returns : tie.Need-returns
 returns c =
@@ -50,7 +47,7 @@ returns c =
     let n = g .before .before .before .before in
     let s = n .before .before in
     let a = s .before .args in
-    λ circles. arc-near circles (a .counts .now) (a .phi .now) (a .place) (a .circle) _ _ (s .if1 .taken) (ap (λ (m : ℕ). a .place / 32 * 32 + m) (n .next .ensures))
+    λ circles. arc-near circles (a .counts .now) (a .phi .now) (a .place) (a .circle) _ _ (s .if1 .taken) (ap (λ (m : ℕ). a .place / 32 * 32 + m) (n .next .ensures ∙ next-is (a .place % 32) (getD (a .counts .now) (a .place / 32) 0) (s .before .pre .next (s .if1 .taken))))
     (g .gap .ensures) (c .between .ensures)
 
 returns-2 : tie.Need-returns-2
@@ -73,7 +70,7 @@ returns-3 c =
 
 pub arc-at-spec : {M : Type 1} → statement M
 arc-at-spec =
-    tie.close (tie.spec (λ c. search needs) (λ c. search needs) (λ c. search needs) next-requires add-to (λ c. search needs)
+    tie.close (tie.spec (λ c. search needs) (λ c. search needs) (λ c. search needs) (λ c κs. search needs) add-to (λ c. search needs)
     (λ c. search needs) (λ c. search needs) (λ c. search needs) mul-gap-2 element-copy-out-gap-2 (λ c κs. search needs)
     (λ c κs. search needs) returns (λ c κs. search needs) returns-2 (λ c. search needs) element-copy-out-between-2 (λ c. search needs)
     element-copy-out-gap-3 (λ c. search needs) (λ c. search needs) (λ c κs. search needs) (λ c κs. search needs) returns-3)

@@ -17,7 +17,7 @@ use Rattle.masks.specs.Mask.{inSet}
 use Rattle.masks.specs.Operations.{in-by-shift}
 use mathlib.Core.Bool.{true≢false}
 use Rattle.inside.specs.Parts.{clippedArcIntegral}
-use Rattle.sums.specs.Walk.{circlesIn}
+use Rattle.gaps.specs.Gaps.{circlesIn}
 use Rattle.sums.specs.Values.{termOf, standing}
 use Rattle.sums.proofs.Filling.{HeldTo, held-none, held-put, held-jump}
 use Rattle.sums.proofs.Valuing.{standing-below, standing-readable}

@@ -17,7 +17,7 @@ use Rattle.masks.specs.Mask.{inSet}
 use Rattle.masks.specs.Operations.{in-by-shift}
 use borrow.Author.Needs.{needs}
 use Rattle.inside.specs.Parts.{clippedArcIntegral}
-use Rattle.sums.specs.Walk.{circleIn}
+use Rattle.gaps.proofs.Circles.{circle-first}
 use Rattle.sums.proofs.Valuing.{term-is}
 use Rattle.sums.proofs.values.integral_of.Statement.{statement}
 use Rattle.sums.proofs.values.integral_of.Tie as tie
@@ -29,7 +29,7 @@ returns c =
     let a = s .args in
     c .clipped-arc-integral .ensures
     ∙ term-is (clippedArcIntegral (a .bounds)) (a .c .now) (a .n-sets) (a .counts .now) (a .phi .now) (a .place) (s .pre .1 .0)
-    (k .circle-at .ensures ∙ ap (circleIn (a .c .now)) (k .before .head-of .ensures)) (c .before .arc-at .ensures)
+    (k .circle-at .ensures ∙ circle-first (a .c .now) (k .before .head-of .ensures) (omega (arith, s .pre .0, s .pre .1 .0))) (c .before .arc-at .ensures)
 
 pub integral-of-spec : {M : Type 1} → statement M
 integral-of-spec = tie.close (tie.spec (λ c κs. search needs) (λ c κs. search needs) (λ c κs. search needs) (λ c κs. search needs) returns)

@@ -1,81 +1,37 @@
+-- `walk::list_gap`: what the number of the gap says of the list.
 use borrow.Author.Needs.{needs}
-use mathlib.Core.Path.{sym, _∙_}
-use mathlib.Core.List.{map}
-use Prim.Native.Nat.{_+_, _*_}
+use mathlib.Core.Path.{_≡_, ap, _∙_}
+use mathlib.Core.List.{_++_}
+use Prim.Native.Nat.{min, _+_, _*_}
 use native.Mathlib.Omega.{arith}
-use lib.ListN.{getD, take}
-use Rattle.sums.specs.Walk.{circlesIn, arcAt}
-use Rattle.sums.proofs.Walking.{circles-many, neighbour-listed, neighbour-left, other-listed, other-left}
+use lib.ListN.{getD, set}
+use lib.Ieee.{nan}
+use Rattle.gaps.specs.Gaps.{circlesIn, gapNumber, noArc}
+use Rattle.gaps.proofs.Circles.{circles-many}
+use Rattle.sums.specs.Walk.{gapIn, arcsOf, Listing}
+use Rattle.sums.proofs.Walking.{gap-listed}
 use Rattle.sums.proofs.walk.list_gap.Statement.{statement}
 use Rattle.sums.proofs.walk.list_gap.Tie as tie
-use Rattle.sums.proofs.walk.list_gap.Reads as reads
-use Rattle.sums.proofs.walk.list_gap.Lts as lts
-use Rattle.sums.proofs.walk.is_arc.Reads as is-arc-reads
-use Rattle.sums.proofs.walk.next.Reads as next-reads
 
--- src/walk.rt:123:13
-returns : tie.Need-returns
-returns c =
-    let t = c .before .before in
-    let s = t .before .before .before in
+listed : (c : tie.After-gap-number) → let a = c .before .before .args in let cs = circlesIn (a .c .now) (a .n-sets) in
+    let arcs = arcsOf cs (a .counts .now) (a .phi .now) (a .k) (a .list .now)
+    ++ gapIn cs (a .mask) (a .j) (getD (a .phi .now) (a .j * 32 + a .a) nan) (getD (a .phi .now) (a .j * 32 + a .b) nan) in
+    let p = c .gap-number .result in
+    (p ≡ noArc → Listing cs (a .counts .now) (a .phi .now) (a .n-sets) (a .mask) arcs (a .k) (a .list .now))
+    × ((p ≡ noArc → ⊥) → Listing cs (a .counts .now) (a .phi .now) (a .n-sets) (a .mask) arcs (a .k + 1) (set (a .list .now) (a .k) p))
+listed c =
+    let s = c .before .before in
     let a = s .args in
-    let cs = circlesIn (a .c .now) (a .n-sets) in
-    let p = s .pre in (
-      omega arith,
-      neighbour-listed cs (a .counts .now) (a .phi .now) (a .n-sets) (a .mask) (a .j) (a .a) (a .b)
-          (map (arcAt cs (a .counts .now) (a .phi .now)) (take (a .k) (a .list .now))) (a .k) (a .list .now)
-          (p .0 .0) (p .0 .1 .0) (p .0 .1 .1 .1) (p .1 .0 .0) (p .1 .0 .1 .0) (p .1 .0 .1 .1) (p .1 .1 .1 .1)
-          (getD (a .lets .now) (a .j * 32 + a .a) 0) (rw (circles-many (a .c .now) (a .n-sets)) (p .0 .1 .1 .0)) (t .if1 .taken ∙ t .before .next .ensures)
-          (p .1 .1 .0) (c .if2 .taken) (p .1 .1 .1 .0),
-    )
-
--- src/walk.rt:125:9
-returns-2 : tie.Need-returns-2
-returns-2 c =
-    let t = c .before .before in
-    let s = t .before .before .before in
-    let a = s .args in
-    let cs = circlesIn (a .c .now) (a .n-sets) in
-    let p = s .pre in (
-      omega arith,
-      neighbour-left cs (a .counts .now) (a .phi .now) (a .n-sets) (a .mask) (a .j) (a .a) (a .b)
-          (map (arcAt cs (a .counts .now) (a .phi .now)) (take (a .k) (a .list .now))) (a .k) (a .list .now)
-          (p .0 .0) (p .0 .1 .0) (p .0 .1 .1 .1) (p .1 .0 .0) (p .1 .0 .1 .0) (p .1 .0 .1 .1) (p .1 .1 .1 .1)
-          (getD (a .lets .now) (a .j * 32 + a .a) 0) (rw (circles-many (a .c .now) (a .n-sets)) (p .0 .1 .1 .0)) (t .if1 .taken ∙ t .before .next .ensures)
-          (p .1 .1 .0) (c .if2 .left),
-    )
-
--- src/walk.rt:130:9
-returns-3 : tie.Need-returns-3
-returns-3 c =
-    let s = c .before .before .before .before .before .before .before in
-    let a = s .args in
-    let cs = circlesIn (a .c .now) (a .n-sets) in
-    let p = s .pre in (
-      omega arith,
-      other-listed cs (a .counts .now) (a .phi .now) (a .n-sets) (a .mask) (a .j) (a .a) (a .b)
-          (map (arcAt cs (a .counts .now) (a .phi .now)) (take (a .k) (a .list .now))) (a .k) (a .list .now)
-          (p .0 .0) (p .0 .1 .0) (p .0 .1 .1 .1) (p .1 .0 .0) (p .1 .0 .1 .0) (p .1 .0 .1 .1) (p .1 .1 .1 .1)
-          (sym (c .before .is-arc .ensures) ∙ c .if3 .taken) (p .1 .1 .1 .0),
-    )
-
--- src/walk.rt:99:1
-returns-4 : tie.Need-returns-4
-returns-4 c =
-    let s = c .before .before .before .before .before .before .before in
-    let a = s .args in
-    let cs = circlesIn (a .c .now) (a .n-sets) in
-    let p = s .pre in (
-      omega arith,
-      other-left cs (a .counts .now) (a .phi .now) (a .n-sets) (a .mask) (a .j) (a .a) (a .b)
-          (map (arcAt cs (a .counts .now) (a .phi .now)) (take (a .k) (a .list .now))) (a .k) (a .list .now)
-          (p .0 .0) (p .0 .1 .0) (p .0 .1 .1 .1) (p .1 .0 .0) (p .1 .0 .1 .0) (p .1 .0 .1 .1) (p .1 .1 .1 .1) (sym (c .before .is-arc .ensures) ∙ c .if3 .left),
-    )
+    let p = s .pre in
+    let all : min (a .n-sets) 10 ≡ a .n-sets = omega (arith, p .0 .0) in
+    gap-listed (circlesIn (a .c .now) (a .n-sets)) (a .counts .now) (a .phi .now) (a .lets .now) (a .n-sets) (a .mask) (a .j) (a .a) (a .b)
+    (arcsOf (circlesIn (a .c .now) (a .n-sets)) (a .counts .now) (a .phi .now) (a .k) (a .list .now)) (a .k) (a .list .now)
+    (p .0 .0) (circles-many (a .c .now) (a .n-sets)) (p .0 .1 .0) (p .0 .1 .1 .0) (p .0 .1 .1 .1) (p .1 .0 .0) (p .1 .0 .1 .0) (p .1 .0 .1 .1) (p .1 .1 .1 .0)
+    (p .1 .1 .0) (p .1 .1 .1 .1)
+    (c .gap-number .ensures
+    ∙ ap (λ m. gapNumber (circlesIn (a .c .now) m) (a .phi .now) (a .lets .now) (a .mask) (a .j) (getD (a .counts .now) (a .j) 0) (a .a) (a .b)) all)
 
 pub list-gap-spec : {M : Type 1} → statement M
 list-gap-spec =
-    tie.close (tie.spec (λ c. search needs) (λ c. search needs) (λ c. search needs) (λ c. search needs) (λ c κs. search needs)
-    (λ c. search needs) (λ c. search needs) (λ c. search needs) (λ c. search needs) (λ c. search needs) returns returns-2
-    (λ c. search needs) (λ c. search needs) (λ c. search needs) (λ c. search needs) (λ c. search needs) (λ c. search needs)
-    (λ c κs. search needs) (λ c. search needs) (λ c. search needs) (λ c. search needs) (λ c. search needs) (λ c. search needs)
-    (λ c. search needs) returns-3 returns-4)
+    tie.close (tie.spec (λ c. search needs) (λ c. search needs) (λ c κs. search needs) (λ c. (omega arith, listed (c .before) .0 (c .if1 .taken)))
+    (λ c. search needs) (λ c. search needs) (λ c. search needs) (λ c. (omega arith, listed (c .before) .1 (c .if1 .left))))

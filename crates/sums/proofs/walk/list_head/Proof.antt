@@ -3,8 +3,9 @@ use mathlib.Core.Path.{_≡_, refl}
 use Prim.Native.Nat.{_-_, _*_}
 use native.Mathlib.Omega.{arith}
 use lib.ListN.{getD}
-use Rattle.sums.specs.Walk.{circlesIn}
-use Rattle.sums.proofs.Walking.{circles-many, Round, withHead, whole-listed, whole-left, round-start, round-next, round-end}
+use Rattle.gaps.specs.Gaps.{circlesIn}
+use Rattle.gaps.proofs.Circles.{circles-many}
+use Rattle.sums.proofs.Walking.{Round, withHead, whole-listed, whole-left, round-start, round-next, round-end}
 use Rattle.sums.proofs.walk.list_head.Statement.{statement}
 use Rattle.sums.proofs.walk.list_head.Tie as tie
 use Rattle.sums.proofs.walk.list_head.Reads as reads

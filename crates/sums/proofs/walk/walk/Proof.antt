@@ -5,8 +5,10 @@ use mathlib.Core.Logic.{⊎-elim}
 use Prim.Native.Nat.{_-_, _*_, _≤_}
 use native.Mathlib.Omega.{arith}
 use Rattle.masks.specs.Operations.{in-by-shift}
-use Rattle.sums.specs.Walk.{circlesIn, marksIn, headsIn, Listing}
-use Rattle.sums.proofs.Walking.{circles-many, listing-self, single-below, single-in, heads-none, heads-in, heads-out, arcs-many, arcs-one}
+use Rattle.gaps.specs.Gaps.{circlesIn}
+use Rattle.gaps.proofs.Circles.{circles-many}
+use Rattle.sums.specs.Walk.{marksIn, headsIn, Listing}
+use Rattle.sums.proofs.Walking.{listing-self, single-below, single-in, heads-none, heads-in, heads-out, arcs-many, arcs-one}
 use Rattle.sums.proofs.walk.walk.Statement.{statement}
 use Rattle.sums.proofs.walk.walk.Tie as tie
 use Rattle.sums.proofs.walk.walk.Reads as reads

@@ -1,0 +1,3 @@
+pub mod Circles
+pub mod Owning
+pub mod Numbering
