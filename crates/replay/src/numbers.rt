@@ -19,3 +19,17 @@ pub(crate) fn same(x: f64, bits: u64) -> bool {
     }
     false
 }
+
+// Whether a line has these from the place `first` on. Beyond its last number it has +0.
+pub(crate) fn same_all(ours: &[f64], words: &[u64; 40], first: usize) -> bool {
+    for i in 0..ours.len() {
+        let at = std::num::wrapping_add_usize(first, i);
+        if 40 <= at {
+            return false;
+        }
+        if !same(ours[i], words[at]) {
+            return false;
+        }
+    }
+    true
+}
