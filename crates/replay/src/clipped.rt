@@ -6,6 +6,7 @@
 //   L  of a set (1) that area, summed together with its gradient (2), and the gradient onto zeros, by
 //      head numbers and then the box's four entries (from 3 on)
 // The areas and the gradient we work out from the arcs and straight from the members.
+use crate::numbers::float;
 use crate::numbers::same;
 use crate::numbers::same_all;
 use boundary::arcs::Arcs;
@@ -29,13 +30,12 @@ fn span_of(edge: u64, b: Bounds, set: Members) -> Span {
     }
 }
 
-// The bits of +0 are those of the number 0.
 pub(crate) fn same_span(words: &[u64; 40], bounds: Bounds, set: Members) -> bool {
     let edge = words[2];
     let span = span_of(edge, bounds, set);
     match span {
         Span::None => edge < 4 && same_all(&[0.0, 0.0, 0.0], words, 3),
-        Span::Ends(lo, hi) => words[3] == 1 && same_all(&[lo, hi], words, 4),
+        Span::Ends(lo, hi) => same_all(&[float(1), lo, hi], words, 3),
     }
 }
 

@@ -1,7 +1,7 @@
 // Holds our functions against the stored list of the Rust's answers, with no Rust at hand. The list
 // comes from standard input and was made by tests/differential/list. A line is a letter and numbers
 // in hexadecimal, one space before each; f64s are their bits. What a line of each letter holds is
-// said where it is compared.
+// said where it is compared; a line W has an angle (place 1) and the wrapped angle (2).
 mod clipped;
 mod numbers;
 mod outlines;
@@ -10,7 +10,10 @@ mod plans;
 mod points;
 mod sets;
 
+use boundary::angles::wrap_angle;
 use libc::STDOUT_FILENO;
+use numbers::float;
+use numbers::same;
 use numbers::whole;
 use plans::Plan;
 
@@ -37,20 +40,24 @@ fn digit(b: u8) -> u64 {
 // The place of the last number on a line, the plan having n heads. A gradient has three numbers a
 // head, and four for the box.
 fn last_place(letter: u8, n: usize) -> usize {
-    match letter {
-        b'P' => 22,
-        b'H' | b'G' => 1 + plans::entries(n),
-        b'X' => 4,
-        b'I' => 1,
-        b'Q' | b'T' => 6,
-        b'S' => 5,
-        b'L' => 6 + plans::entries(n),
-        _ => 2,
+    if n <= 10 {
+        return match letter {
+            b'P' => 22,
+            b'H' | b'G' => 1 + n * 3,
+            b'X' => 4,
+            b'I' => 1,
+            b'Q' | b'T' => 6,
+            b'S' => 5,
+            b'L' => 6 + n * 3,
+            _ => 2,
+        };
     }
+    0
 }
 
-// Whether every answer on a line that needs a plan is ours.
-fn agrees_on_plan(letter: u8, words: &[u64; 40], plan: Plan) -> bool {
+// Whether every answer on a line that needs a plan is ours. A line that is about a set of heads has
+// its mask first.
+fn agrees_on_plan(letter: u8, words: &[u64; 40], n: usize, plan: Plan) -> bool {
     let points = plan.points;
     let first = whole(words[1]);
     match letter {
@@ -58,7 +65,12 @@ fn agrees_on_plan(letter: u8, words: &[u64; 40], plan: Plan) -> bool {
         b'X' => plan.has_box,
         b'I' => points.n == first,
         b'Q' => points::same_point(words, first, points),
-        _ => plans::is_set(first, plan.n) && sets::agrees(letter, words, first, plan),
+        _ => {
+            if n <= 10 {
+                return first >> n == 0 && sets::agrees(letter, words, first, plan);
+            }
+            false
+        }
     }
 }
 
@@ -69,8 +81,8 @@ fn agrees(letter: u8, words: &[u64; 40], last: usize, plan: Plan) -> bool {
     if last == last_place(letter, n) {
         return match letter {
             b'P' => pair::agrees(words),
-            b'W' => outlines::same_wrapped(words),
-            _ => 0 < n && agrees_on_plan(letter, words, plan),
+            b'W' => same(wrap_angle(float(words[1])), words[2]),
+            _ => 0 < n && agrees_on_plan(letter, words, n, plan),
         };
     }
     false

@@ -1,4 +1,5 @@
-// Numbers as the list has them: whole ones, and finite f64s by their bits.
+// Numbers as the list has them: whole ones, and finite f64s by their bits. Where both stand on a line,
+// a whole number of ours goes as the f64 that has its bits, so that one loop compares all.
 
 pub(crate) fn whole(word: u64) -> usize {
     word as usize

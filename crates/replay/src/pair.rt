@@ -4,31 +4,24 @@
 // y_min, y_max (10 to 13); the coordinates of the meeting points (14 to 17), +0 where there is none,
 // and their number (18); then 1 for yes: the first contains the second (19), contains the second's
 // centre (20), intersects the second (21); and the area that the two share (22).
-use crate::numbers::same;
+use crate::numbers::float;
 use crate::numbers::same_all;
 use crate::plans::circle_at;
 use geometry::circle::Circle;
 use geometry::meeting::Meeting;
 use geometry::rectangle::Rectangle;
 
-fn coordinates(m: Meeting) -> [f64; 4] {
+// The places 14 to 18.
+fn met(m: Meeting) -> [f64; 5] {
     match m {
-        Meeting::None => [0.0, 0.0, 0.0, 0.0],
-        Meeting::One(x, y) => [x, y, 0.0, 0.0],
-        Meeting::Two(x, y, u, v) => [x, y, u, v],
+        Meeting::None => [0.0, 0.0, 0.0, 0.0, 0.0],
+        Meeting::One(x, y) => [x, y, 0.0, 0.0, float(1)],
+        Meeting::Two(x, y, u, v) => [x, y, u, v, float(2)],
     }
 }
 
-fn number(m: Meeting) -> u64 {
-    match m {
-        Meeting::None => 0,
-        Meeting::One(_, _) => 1,
-        Meeting::Two(_, _, _, _) => 2,
-    }
-}
-
-fn is_yes(answer: bool, word: u64) -> bool {
-    if answer { word == 1 } else { word == 0 }
+fn yes(answer: bool) -> f64 {
+    if answer { float(1) } else { 0.0 }
 }
 
 // Whether the places 7 to 13 are ours.
@@ -50,12 +43,13 @@ fn same_measures(a: Circle, b: Circle, words: &[u64; 40]) -> bool {
 pub(crate) fn agrees(words: &[u64; 40]) -> bool {
     let a = circle_at(words, 1);
     let b = circle_at(words, 4);
-    let meeting = a.intersection_points(b);
+    let ours = [
+        yes(a.contains(b)),
+        yes(a.contains_point(b.center)),
+        yes(a.intersects(b)),
+        a.intersection_area(b),
+    ];
     same_measures(a, b, words)
-        && same_all(&coordinates(meeting), words, 14)
-        && number(meeting) == words[18]
-        && is_yes(a.contains(b), words[19])
-        && is_yes(a.contains_point(b.center), words[20])
-        && is_yes(a.intersects(b), words[21])
-        && same(a.intersection_area(b), words[22])
+        && same_all(&met(a.intersection_points(b)), words, 14)
+        && same_all(&ours, words, 19)
 }

@@ -29,7 +29,7 @@ pub(crate) fn agrees(letter: u8, words: &[u64; 40], mask: usize, plan: Plan) -> 
     let answer = words[2];
     match letter {
         b'N' => arcs.n == whole(answer),
-        b'T' => same_arc(words, arcs),
+        b'T' => same_arc(words, whole(answer), arcs),
         b'R' => {
             same_areas(
                 area_from_boundary_arcs(arcs, circles, n),
