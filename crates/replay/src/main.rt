@@ -161,8 +161,19 @@ fn fed_all(
 // How many lines of each letter there are. In the text the letter at the beginning of a line stands
 // for their number.
 fn print_counts(counts: &[u64; 128]) {
-    let text =
-        b"P P, pairs of circles\nH H, plans\nX X, boxes\nI I, numbers of meeting points\nQ Q, meeting points\nN N, numbers of arcs\nT T, arcs\nR R, open areas\nG G, open gradients\nS S, spans of edges\nK K, areas in the box\nL L, areas in the box with gradients\nW W, wrapped angles\n";
+    let text = b"P P, pairs of circles\n\
+        H H, plans\n\
+        X X, boxes\n\
+        I I, numbers of meeting points\n\
+        Q Q, meeting points\n\
+        N N, numbers of arcs\n\
+        T T, arcs\n\
+        R R, open areas\n\
+        G G, open gradients\n\
+        S S, spans of edges\n\
+        K K, areas in the box\n\
+        L L, areas in the box with gradients\n\
+        W W, wrapped angles\n";
     let mut begins = true;
     for i in 0..text.len() {
         let b = text[i];
