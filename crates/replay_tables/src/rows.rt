@@ -133,12 +133,7 @@ pub(crate) fn same_row(words: &[u64; 40], s: usize, t: Table) -> bool {
 }
 
 // Whether row s is there, and has the exclusive area and the gradient of a line G or F.
-pub(crate) fn same_slopes(
-    words: &[u64; 40],
-    s: usize,
-    t: Table,
-    gradients: &[f64; 34816],
-) -> bool {
+pub(crate) fn same_slopes(words: &[u64; 40], s: usize, t: Table, gradients: &[f64; 34816]) -> bool {
     if s < 1024 {
         return t.slope_presence[s] == 1
             && same(t.slope_exclusives[s], words[2])
