@@ -6,29 +6,19 @@
 //   L  of a set (1) that area, summed together with its gradient (2), and the gradient onto zeros, by
 //      head numbers and then the box's four entries (from 3 on)
 // The areas and the gradient we work out from the arcs and straight from the members.
-use crate::gradients::by_heads;
-use crate::gradients::same_entries;
-use crate::gradients::zeros;
+use crate::numbers::float;
 use crate::numbers::same;
-use crate::numbers::whole;
-use crate::outlines::arcs_of;
-use crate::plans::Plan;
-use crate::plans::entries;
-use clip::area::area_from_clipped_arcs;
-use clip::area::clipped_region_area;
+use crate::numbers::same_all;
+use boundary::arcs::Arcs;
 use clip::gradient::area_and_gradient_from_clipped_arcs;
 use clip::gradient::clipped_region_area_and_gradient;
 use geometry::bounds::Bounds;
+use geometry::circle::Circle;
 use inside::span::Span;
 use inside::span::horizontal_edge_inside_interval;
 use inside::span::vertical_edge_inside_interval;
 use intersections::members::Members;
-use intersections::members::members_of;
-
-fn members(words: &[u64; 40], plan: Plan) -> Members {
-    let circles = plan.circles;
-    members_of(whole(words[1]), circles, plan.n)
-}
+use intersections::points::Intersections;
 
 fn span_of(edge: u64, b: Bounds, set: Members) -> Span {
     match edge {
@@ -40,73 +30,57 @@ fn span_of(edge: u64, b: Bounds, set: Members) -> Span {
     }
 }
 
-fn same_span(words: &[u64; 40], plan: Plan) -> bool {
-    let bounds = plan.bounds;
+pub(crate) fn same_span(words: &[u64; 40], bounds: Bounds, set: Members) -> bool {
     let edge = words[2];
-    let span = span_of(edge, bounds, members(words, plan));
+    let span = span_of(edge, bounds, set);
     match span {
-        Span::None => edge < 4 && words[3] == 0 && words[4] == 0 && words[5] == 0,
-        Span::Ends(lo, hi) => words[3] == 1 && same(lo, words[4]) && same(hi, words[5]),
+        Span::None => edge < 4 && same_all(&[0.0, 0.0, 0.0], words, 3),
+        Span::Ends(lo, hi) => same_all(&[float(1), lo, hi], words, 3),
     }
 }
 
-fn same_area(words: &[u64; 40], plan: Plan) -> bool {
-    let mask = whole(words[1]);
-    let circles = plan.circles;
-    let points = plan.points;
-    let bounds = plan.bounds;
-    let n = plan.n;
-    let from_arcs = area_from_clipped_arcs(arcs_of(words, plan), circles, bounds, mask, n);
-    let straight = clipped_region_area(mask, circles, points, n, bounds);
-    same(from_arcs, words[2]) && same(straight, words[2])
+// A gradient that is by position in a set, by head numbers of a plan of n: heads that are not in the
+// set have +0, and the others' entries and the box's follow one another.
+fn by_heads(from: [f64; 34], mask: usize, n: usize) -> [f64; 34] {
+    let mut to = [0.0f64; 34];
+    let mut next: usize = 0;
+    let mut i: usize = 0;
+    while i < 34 {
+        if n <= i / 3 || mask >> (i / 3) & 1 == 1 {
+            if next < 34 {
+                to[i] = from[next];
+                next += 1;
+            }
+        }
+        i += 1;
+    }
+    to
 }
 
 // By the arcs of the set.
-fn same_with_gradient(words: &[u64; 40], plan: Plan) -> bool {
-    let circles = plan.circles;
-    let bounds = plan.bounds;
-    let n = plan.n;
-    let mut grad = zeros();
-    let area = area_and_gradient_from_clipped_arcs(
-        arcs_of(words, plan),
-        circles,
-        bounds,
-        whole(words[1]),
-        n,
-        &mut grad,
-    );
-    same(area, words[2]) && same_entries(&grad, words, 3, entries(n) + 4)
+pub(crate) fn same_from_arcs(
+    words: &[u64; 40],
+    arcs: Arcs,
+    circles: [Circle; 10],
+    bounds: Bounds,
+    mask: usize,
+    n: usize,
+) -> bool {
+    let mut grad = [0.0f64; 34];
+    let area = area_and_gradient_from_clipped_arcs(arcs, circles, bounds, mask, n, &mut grad);
+    same(area, words[2]) && same_all(&grad, words, 3)
 }
 
 // Straight from the members.
-fn same_with_gradient_straight(words: &[u64; 40], plan: Plan) -> bool {
-    let circles = plan.circles;
-    let points = plan.points;
-    let bounds = plan.bounds;
-    let n = plan.n;
-    let mut grad = zeros();
-    let area = clipped_region_area_and_gradient(
-        whole(words[1]),
-        circles,
-        points,
-        n,
-        bounds,
-        &mut grad,
-    );
-    let numbered = by_heads(&grad, members(words, plan), n);
-    same(area, words[2]) && same_entries(&numbered, words, 3, entries(n) + 4)
-}
-
-// Whether the answers on a line about a set in the box are ours.
-pub(crate) fn agrees(letter: u8, words: &[u64; 40], last: usize, plan: Plan) -> bool {
-    match letter {
-        b'S' => last == 5 && same_span(words, plan),
-        b'K' => last == 2 && same_area(words, plan),
-        b'L' => {
-            last == 6 + entries(plan.n)
-                && same_with_gradient(words, plan)
-                && same_with_gradient_straight(words, plan)
-        }
-        _ => false,
-    }
+pub(crate) fn same_straight(
+    words: &[u64; 40],
+    mask: usize,
+    circles: [Circle; 10],
+    points: Intersections,
+    n: usize,
+    bounds: Bounds,
+) -> bool {
+    let mut grad = [0.0f64; 34];
+    let area = clipped_region_area_and_gradient(mask, circles, points, n, bounds, &mut grad);
+    same(area, words[2]) && same_all(&by_heads(grad, mask, n), words, 3)
 }

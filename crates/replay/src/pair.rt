@@ -5,58 +5,51 @@
 // and their number (18); then 1 for yes: the first contains the second (19), contains the second's
 // centre (20), intersects the second (21); and the area that the two share (22).
 use crate::numbers::float;
-use crate::numbers::same;
+use crate::numbers::same_all;
+use crate::plans::circle_at;
 use geometry::circle::Circle;
 use geometry::meeting::Meeting;
-use geometry::point::Point;
 use geometry::rectangle::Rectangle;
 
-fn is_yes(answer: bool, word: u64) -> bool {
-    if answer { word == 1 } else { word == 0 }
-}
-
-fn same_meeting(m: Meeting, words: &[u64; 40]) -> bool {
+// The places 14 to 18.
+fn met(m: Meeting) -> [f64; 5] {
     match m {
-        Meeting::None => {
-            words[18] == 0 && words[14] == 0 && words[15] == 0 && words[16] == 0 && words[17] == 0
-        }
-        Meeting::One(x, y) => {
-            words[18] == 1
-                && same(x, words[14])
-                && same(y, words[15])
-                && words[16] == 0
-                && words[17] == 0
-        }
-        Meeting::Two(x, y, u, v) => {
-            words[18] == 2
-                && same(x, words[14])
-                && same(y, words[15])
-                && same(u, words[16])
-                && same(v, words[17])
-        }
+        Meeting::None => [0.0, 0.0, 0.0, 0.0, 0.0],
+        Meeting::One(x, y) => [x, y, 0.0, 0.0, float(1)],
+        Meeting::Two(x, y, u, v) => [x, y, u, v, float(2)],
     }
 }
 
-fn same_box(b: Rectangle, words: &[u64; 40]) -> bool {
-    let bounds = b.bounds();
-    same(b.area(), words[9])
-        && same(bounds.x_min, words[10])
-        && same(bounds.x_max, words[11])
-        && same(bounds.y_min, words[12])
-        && same(bounds.y_max, words[13])
+fn yes(answer: bool) -> f64 {
+    if answer { float(1) } else { 0.0 }
+}
+
+// Whether the places 7 to 13 are ours.
+fn same_measures(a: Circle, b: Circle, words: &[u64; 40]) -> bool {
+    let around = Rectangle::new(a.center, a.radius, b.radius);
+    let bounds = around.bounds();
+    let ours = [
+        a.center.distance(b.center),
+        a.area(),
+        around.area(),
+        bounds.x_min,
+        bounds.x_max,
+        bounds.y_min,
+        bounds.y_max,
+    ];
+    same_all(&ours, words, 7)
 }
 
 pub(crate) fn agrees(words: &[u64; 40]) -> bool {
-    let p = Point::new(float(words[1]), float(words[2]));
-    let q = Point::new(float(words[4]), float(words[5]));
-    let a = Circle::new(p, float(words[3]));
-    let b = Circle::new(q, float(words[6]));
-    same(p.distance(q), words[7])
-        && same(a.area(), words[8])
-        && same_box(Rectangle::new(p, a.radius, b.radius), words)
-        && same_meeting(a.intersection_points(b), words)
-        && is_yes(a.contains(b), words[19])
-        && is_yes(a.contains_point(q), words[20])
-        && is_yes(a.intersects(b), words[21])
-        && same(a.intersection_area(b), words[22])
+    let a = circle_at(words, 1);
+    let b = circle_at(words, 4);
+    let ours = [
+        yes(a.contains(b)),
+        yes(a.contains_point(b.center)),
+        yes(a.intersects(b)),
+        a.intersection_area(b),
+    ];
+    same_measures(a, b, words)
+        && same_all(&met(a.intersection_points(b)), words, 14)
+        && same_all(&ours, words, 19)
 }

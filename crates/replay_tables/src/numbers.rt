@@ -1,16 +1,8 @@
-// Numbers as the list has them: whole ones, those with a sign by 32 bits, finite f64s by their bits, and the sets of a line D.
+// Numbers as the list has them: whole ones, those with a sign by 32 bits, f64s by their bits, and the sets of a line D.
 use file::fields::number32;
 
 pub(crate) fn whole(word: u64) -> usize {
     word as usize
-}
-
-// The finite f64 with these bits. The list has no other.
-pub(crate) fn float(bits: u64) -> f64 {
-    if (bits >> 52) % 2048 < 2047 {
-        return f64::from_bits(bits);
-    }
-    0.0
 }
 
 // Whether x has these bits.

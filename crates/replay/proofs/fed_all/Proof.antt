@@ -5,13 +5,12 @@ use Rattle.replay.proofs.fed_all.Statement.{statement}
 use Rattle.replay.proofs.fed_all.Tie as tie
 
 abbrev Inv-loop : tie.InvT-loop
-Inv-loop words₀ counts₀ bytes r₀ plan₀ i₀ i-end words counts r plan i = i ≤ i-end
+Inv-loop words₀ counts₀ bytes r₀ i₀ i-end words counts r i = i ≤ i-end
 
 abbrev μ-loop : tie.MeasureT-loop
-μ-loop words₀ counts₀ bytes r₀ plan₀ i₀ i-end words counts r plan i = i-end - i
+μ-loop words₀ counts₀ bytes r₀ i₀ i-end words counts r i = i-end - i
 
 pub fed-all-spec : {M : Type 1} → statement M
 fed-all-spec =
-    tie.close (tie.spec Inv-loop μ-loop (λ c. search needs) (λ c. search needs) (λ c. search needs) (λ c κs. search needs)
-    (λ c κs. search needs) (λ c κs. search needs) (λ c κs. search needs) (λ c κs. search needs) (λ c. search needs) (λ c. search needs)
-    (λ c. search needs) (λ c. search needs))
+    tie.close (tie.spec Inv-loop μ-loop (λ c. search needs) (λ c. search needs) (λ c κs. search needs) (λ c κs. search needs)
+    (λ c. search needs) (λ c. search needs) (λ c. search needs) (λ c. search needs))
