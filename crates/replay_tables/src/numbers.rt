@@ -28,15 +28,10 @@ pub(crate) fn signed(word: u64) -> i32 {
     )
 }
 
-// Whether mask s is among the sets of a line D, 64 of them to a number.
-pub(crate) fn listed(words: &[u64; 40], s: usize) -> bool {
+// The presence byte of mask s by the sets of a line D, 64 of them to a number: 1 for a set.
+pub(crate) fn listed(words: &[u64; 40], s: usize) -> u8 {
     if s < 1024 {
-        return (words[1 + s / 64] >> (s % 64)) % 2 == 1;
+        return byte((words[1 + s / 64] >> (s % 64)) % 2);
     }
-    false
-}
-
-// Whether a presence byte says so.
-pub(crate) fn is_byte(byte: u8, present: bool) -> bool {
-    if present { byte == 1 } else { byte == 0 }
+    0
 }

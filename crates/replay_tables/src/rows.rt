@@ -1,7 +1,7 @@
 // The tables of a plan, in the box and without it, and the rows that lines are about. What is written has to be written: the tables begin with
 // other bytes and numbers.
-use crate::numbers::is_byte;
 use crate::numbers::same;
+use plan::Answer;
 use plan::Plan;
 use plan::answer_number;
 use table::afresh::afresh;
@@ -20,17 +20,16 @@ pub struct Table {
     pub slope_exclusives: [f64; 1024],
 }
 
-// The width of a row with so many numbers that no head has: none, where there are too many heads.
-fn width_of(n: usize, more: usize) -> usize {
+// Three numbers a head, and four for the box: none, where there are too many heads.
+fn width_of(n: usize, has_box: bool) -> usize {
     if n <= 10 {
-        if more <= 4 {
-            return n * 3 + more;
-        }
+        return if has_box { n * 3 + 4 } else { n * 3 };
     }
     0
 }
 
-pub(crate) fn clipped_table(plan: Plan, gradients: &mut [f64; 34816]) -> Table {
+// The tables of a plan, in the box or without it.
+pub(crate) fn table_of(plan: Plan, has_box: bool, gradients: &mut [f64; 34816]) -> Table {
     let mut presence = [9u8; 1024];
     let mut rows = [9.0f64; 1024];
     let mut exclusive_presence = [9u8; 1024];
@@ -38,54 +37,39 @@ pub(crate) fn clipped_table(plan: Plan, gradients: &mut [f64; 34816]) -> Table {
     let mut slope_presence = [9u8; 1024];
     let mut slope_exclusives = [9.0f64; 1024];
     *gradients = [9.0f64; 34816];
-    let table = afresh(
-        plan,
-        &mut presence,
-        &mut rows,
-        &mut exclusive_presence,
-        &mut exclusives,
-    );
-    let slopes = gradients::gradients(plan, &mut slope_presence, &mut slope_exclusives, gradients);
-    Table {
-        taken: answer_number(table) == 0 && answer_number(slopes) == 0,
-        presence: presence,
-        rows: rows,
-        exclusive_presence: exclusive_presence,
-        exclusives: exclusives,
-        width: width_of(plan.n, 4),
-        slope_presence: slope_presence,
-        slope_exclusives: slope_exclusives,
+    let table: Answer;
+    let slopes: Answer;
+    if has_box {
+        table = afresh(
+            plan,
+            &mut presence,
+            &mut rows,
+            &mut exclusive_presence,
+            &mut exclusives,
+        );
+        slopes = gradients::gradients(plan, &mut slope_presence, &mut slope_exclusives, gradients);
+    } else {
+        table = open_afresh(
+            plan,
+            &mut presence,
+            &mut rows,
+            &mut exclusive_presence,
+            &mut exclusives,
+        );
+        slopes = gradients::open_gradients(
+            plan,
+            &mut slope_presence,
+            &mut slope_exclusives,
+            gradients,
+        );
     }
-}
-
-pub(crate) fn open_table(plan: Plan, gradients: &mut [f64; 34816]) -> Table {
-    let mut presence = [9u8; 1024];
-    let mut rows = [9.0f64; 1024];
-    let mut exclusive_presence = [9u8; 1024];
-    let mut exclusives = [9.0f64; 1024];
-    let mut slope_presence = [9u8; 1024];
-    let mut slope_exclusives = [9.0f64; 1024];
-    *gradients = [9.0f64; 34816];
-    let table = open_afresh(
-        plan,
-        &mut presence,
-        &mut rows,
-        &mut exclusive_presence,
-        &mut exclusives,
-    );
-    let slopes = gradients::open_gradients(
-        plan,
-        &mut slope_presence,
-        &mut slope_exclusives,
-        gradients,
-    );
     Table {
         taken: answer_number(table) == 0 && answer_number(slopes) == 0,
         presence: presence,
         rows: rows,
         exclusive_presence: exclusive_presence,
         exclusives: exclusives,
-        width: width_of(plan.n, 0),
+        width: width_of(plan.n, has_box),
         slope_presence: slope_presence,
         slope_exclusives: slope_exclusives,
     }
@@ -109,13 +93,13 @@ fn same_entries(words: &[u64; 40], gradients: &[f64; 34816], width: usize, s: us
     false
 }
 
-// Whether row s has its bytes, and +0 throughout where it is absent.
-pub(crate) fn same_absence(t: Table, gradients: &[f64; 34816], s: usize, present: bool) -> bool {
+// Whether row s has this presence byte throughout, and +0 throughout where it is absent.
+pub(crate) fn same_absence(t: Table, gradients: &[f64; 34816], s: usize, presence: u8) -> bool {
     if s < 1024 {
-        return is_byte(t.presence[s], present)
-            && is_byte(t.exclusive_presence[s], present)
-            && is_byte(t.slope_presence[s], present)
-            && (present
+        return t.presence[s] == presence
+            && t.exclusive_presence[s] == presence
+            && t.slope_presence[s] == presence
+            && (presence == 1
                 || (same(t.rows[s], 0)
                     && same(t.exclusives[s], 0)
                     && same(t.slope_exclusives[s], 0)

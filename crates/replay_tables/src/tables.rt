@@ -12,11 +12,10 @@ use crate::numbers::same;
 use crate::numbers::signed;
 use crate::numbers::whole;
 use crate::rows::Table;
-use crate::rows::clipped_table;
-use crate::rows::open_table;
 use crate::rows::same_absence;
 use crate::rows::same_row;
 use crate::rows::same_slopes;
+use crate::rows::table_of;
 use drawn::circles_of;
 use heads::Head;
 use overlaps::overlaps::compute_overlaps_circles;
@@ -78,8 +77,8 @@ pub(crate) fn held_of(
     open_gradients: &mut [f64; 34816],
 ) -> Held {
     let plan = plan_of(words);
-    let clipped = clipped_table(plan, clipped_gradients);
-    let open = open_table(plan, open_gradients);
+    let clipped = table_of(plan, true, clipped_gradients);
+    let open = table_of(plan, false, open_gradients);
     Held {
         plan: plan,
         masks: rows_needed(plan.n),
@@ -98,8 +97,11 @@ fn same_sets(
 ) -> bool {
     let mut s: usize = 0;
     while s < masks {
-        let present = listed(words, s) || (has_box && s == 0);
-        if !same_absence(t, gradients, s, present) {
+        let mut presence = listed(words, s);
+        if has_box && s == 0 {
+            presence = 1;
+        }
+        if !same_absence(t, gradients, s, presence) {
             return false;
         }
         s += 1;
