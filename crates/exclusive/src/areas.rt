@@ -1,5 +1,6 @@
 // Exclusive areas from presence bytes and areas (the Rust's to_exclusive_areas). Rests on specs/Exclusive.antt.
 use crate::levels::subtract_levels;
+use crate::rows::row_count;
 use binary64::clamp_to_zero;
 ghost use mathlib.Core.Path.{_≡_};
 ghost use mathlib.Core.Bool.{cond};
@@ -38,7 +39,7 @@ fn copy_rows(areas: &[f64], exclusives: &mut [f64], n: usize)
     requires { ⌜ (n ≤ 10) × (2 ^ n ≤ length (now areas)) × (2 ^ n ≤ length (now exclusives)) ⌝ }
     ensures { λ r. ⌜ now (exclusives .exit) ≡ written (λ S. getD (now (areas .entry)) S nan) (2 ^ n) (now (exclusives .entry)) ⌝ }
 {
-    let masks = 1usize << n;
+    let masks = row_count(n, exclusives.len());
     let mut s: usize = 0;
     while s < masks {
         exclusives[s] = areas[s];
@@ -61,7 +62,7 @@ fn clamp_rows(present: &[u8], numbers: &mut [f64], n: usize)
     requires { ⌜ (n ≤ 10) × (2 ^ n ≤ length (now present)) × (2 ^ n ≤ length (now numbers)) ⌝ }
     ensures { λ r. ⌜ now (numbers .exit) ≡ written (λ S. cond (stands (now (present .entry)) S) (clampToZero (getD (now (numbers .entry)) S nan)) zero64) (2 ^ n) (now (numbers .entry)) ⌝ }
 {
-    let masks = 1usize << n;
+    let masks = row_count(n, numbers.len());
     let mut s: usize = 0;
     while s < masks {
         let number = clamped(present[s], numbers[s]);

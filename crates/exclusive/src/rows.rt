@@ -1,4 +1,5 @@
 // The present rows of a table in row order. Rests on specs/RowOrder.antt.
+use crate::areas::shorter;
 ghost use mathlib.Core.Path.{_≡_};
 ghost use Prim.Native.Nat.{_≤_, _^_};
 ghost use lib.Count.{ones};
@@ -14,6 +15,15 @@ pub struct Rows {
     pub all: [usize; 1024],
 }
 
+// How many rows there are of n heads, where a table has places for them. The length changes nothing, but of a bound that it sees to be a power
+// of two the compiler makes a shift in each turn of a loop, and does not vectorise it.
+pub(crate) fn row_count(n: usize, places: usize) -> usize
+    requires { ⌜ (n ≤ 10) × (2 ^ n ≤ places) ⌝ }
+    ensures { λ r. ⌜ r ≡ 2 ^ n ⌝ }
+{
+    shorter(1usize << n, places)
+}
+
 // The masks of the present rows, ascending. Each mask is written, and the next takes its place if its row is absent: nothing waits for the
 // test.
 fn present_rows(present: &[u8], n: usize) -> Rows
@@ -21,7 +31,7 @@ fn present_rows(present: &[u8], n: usize) -> Rows
     ensures { λ r. ⌜ rowList r ≡ keep (stands (now (present .entry))) (tab (λ S. S) (2 ^ n)) ⌝ }
     ensures { λ r. ⌜ (r .n ≤ 1024) × (length (r .all) ≡ 1024) ⌝ }
 {
-    let masks = 1usize << n;
+    let masks = row_count(n, present.len());
     let mut all = [0usize; 1024];
     let mut found: usize = 0;
     let mut s: usize = 0;

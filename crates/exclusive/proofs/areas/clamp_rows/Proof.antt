@@ -9,7 +9,6 @@ use lib.Ieee.{Float, nan}
 use lib.ListN.{length, getD, set, length-set}
 use Rattle.lists.specs.Written.{written}
 use Rattle.lists.proofs.Writing.{written-none, written-past, write-next}
-use Rattle.masks.specs.Operations.{shifted-is}
 use Rattle.masks.specs.Presence.{stands}
 use Rattle.binary64.specs.Constants.{zero64}
 use Rattle.binary64.specs.Functions.{clampToZero}
@@ -29,14 +28,17 @@ Inv-loop present numbers₀ n masks s₀ numbers s =
 abbrev μ-loop : tie.MeasureT-loop
 μ-loop present numbers₀ n masks s₀ numbers s = masks - s
 
+abbrev start : tie.After-row-count Inv-loop μ-loop → tie.Start Inv-loop μ-loop
+start c = c .before .before .before
+
 loop-holds : tie.Need-loop-holds Inv-loop μ-loop
 loop-holds c =
-    let t = c .before .before in let p = t .pre in let a = t .args in
-    (p .0, shifted-is 64 (a .n) (omega arith), p .1, p .2, omega arith, refl, written-none (row (a .present .now) (a .numbers .now)) (a .numbers .now))
+    let t = start c in let p = t .pre in let a = t .args in
+    (p .0, c .row-count .ensures, p .1, p .2, omega arith, refl, written-none (row (a .present .now) (a .numbers .now)) (a .numbers .now))
 
 loop-again : tie.Need-loop-again Inv-loop μ-loop
 loop-again c =
-    let m = c .before .before .before in let l = m .before .loop in let i = l .inv in let a = m .before .before .before .before .args in
+    let m = c .before .before .before in let l = m .before .loop in let i = l .inv in let a = start (m .before .before) .args in
     let f = row (a .present .now) (a .numbers .now) in
     let v = c .clamped .result in
     let old = ap (λ (t : List Float). getD t (l .s) nan) (i .6) ∙ written-past f (l .s) (l .s) (a .numbers .now) nan (le-refl (l .s)) in (
@@ -53,12 +55,12 @@ loop-again c =
 
 returns : tie.Need-returns Inv-loop μ-loop
 returns c =
-    let l = c .before .loop in let i = l .inv in let a = c .before .before .before .before .args in
+    let l = c .before .loop in let i = l .inv in let a = start (c .before .before) .args in
     let e : l .s ≡ 2 ^ a .n = omega (arith, i .1) in
     i .6 ∙ ap (λ (m : ℕ). written (row (a .present .now) (a .numbers .now)) m (a .numbers .now)) e
 
 pub clamp-rows-spec : {M : Type 1} → statement M
 clamp-rows-spec =
-    tie.close (tie.spec Inv-loop μ-loop (λ c. search needs) loop-holds (λ c. search needs) (λ c. search needs) (λ c. search needs)
+    tie.close (tie.spec Inv-loop μ-loop (λ c κs. search needs) loop-holds (λ c. search needs) (λ c. search needs) (λ c. search needs)
     (λ c κs. search needs) (λ c. search needs) (λ c. search needs) (λ c. search needs) (λ c. search needs) loop-again
     (λ c. c .before .loop .inv .5) returns)

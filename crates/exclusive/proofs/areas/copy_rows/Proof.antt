@@ -7,7 +7,6 @@ use lib.Ieee.{Float, nan}
 use lib.ListN.{length, getD, set, length-set}
 use Rattle.lists.specs.Written.{written}
 use Rattle.lists.proofs.Writing.{written-none, write-next}
-use Rattle.masks.specs.Operations.{shifted-is}
 use borrow.Author.Needs.{needs}
 use Rattle.exclusive.proofs.areas.copy_rows.Statement.{statement}
 use Rattle.exclusive.proofs.areas.copy_rows.Tie as tie
@@ -20,14 +19,17 @@ Inv-loop areas exclusives₀ n masks s₀ exclusives s =
 abbrev μ-loop : tie.MeasureT-loop
 μ-loop areas exclusives₀ n masks s₀ exclusives s = masks - s
 
+abbrev start : tie.After-row-count Inv-loop μ-loop → tie.Start Inv-loop μ-loop
+start c = c .before .before .before
+
 loop-holds : tie.Need-loop-holds Inv-loop μ-loop
 loop-holds c =
-    let p = c .pre in let a = c .args in
-    (p .0, shifted-is 64 (a .n) (omega arith), p .1, p .2, omega arith, refl, written-none (λ S. getD (a .areas .now) S nan) (a .exclusives .now))
+    let t = start c in let p = t .pre in let a = t .args in
+    (p .0, c .row-count .ensures, p .1, p .2, omega arith, refl, written-none (λ S. getD (a .areas .now) S nan) (a .exclusives .now))
 
 loop-again : tie.Need-loop-again Inv-loop μ-loop
 loop-again c =
-    let l = c .before .before .loop in let i = l .inv in let a = c .before .before .before .args in
+    let l = c .before .before .loop in let i = l .inv in let a = start (c .before .before .before) .args in
     let v = getD (a .areas .now) (l .s) nan in (
       i .0,
       i .1,
@@ -41,11 +43,11 @@ loop-again c =
 
 returns : tie.Need-returns Inv-loop μ-loop
 returns c =
-    let l = c .before .loop in let i = l .inv in let a = c .before .before .args in
+    let l = c .before .loop in let i = l .inv in let a = start (c .before .before) .args in
     let e : l .s ≡ 2 ^ a .n = omega (arith, i .1) in
     i .6 ∙ ap (λ (m : ℕ). written (λ S. getD (a .areas .now) S nan) m (a .exclusives .now)) e
 
 pub copy-rows-spec : {M : Type 1} → statement M
 copy-rows-spec =
-    tie.close (tie.spec Inv-loop μ-loop (λ c. search needs) loop-holds (λ c. search needs) (λ c. search needs) (λ c. search needs)
+    tie.close (tie.spec Inv-loop μ-loop (λ c κs. search needs) loop-holds (λ c. search needs) (λ c. search needs) (λ c. search needs)
     (λ c. search needs) (λ c. search needs) (λ c. search needs) loop-again (λ c. c .before .loop .inv .5) returns)

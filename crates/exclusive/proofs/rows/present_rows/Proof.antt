@@ -10,7 +10,6 @@ use lib.ListN.{length, getD, take, set, length-set, length-replicate}
 use lib.Seq.{take-set-le}
 use Rattle.lists.specs.Lists.{keep}
 use Rattle.lists.specs.Written.{tab}
-use Rattle.masks.specs.Operations.{shifted-is}
 use Rattle.masks.specs.Presence.{stands}
 use Rattle.exclusive.proofs.Places.{masks-le, rowsBelow, below-with, below-without, put}
 use Rattle.exclusive.proofs.rows.present_rows.Statement.{statement}
@@ -24,16 +23,19 @@ Inv-loop present n masks all₀ found₀ s₀ all found s =
 abbrev μ-loop : tie.MeasureT-loop
 μ-loop present n masks all₀ found₀ s₀ all found s = masks - s
 
+abbrev start : tie.After-row-count Inv-loop μ-loop → tie.Start Inv-loop μ-loop
+start c = c .before .before
+
 loop-holds : tie.Need-loop-holds Inv-loop μ-loop
 unfolding keep tab
 loop-holds c =
-    let p = c .pre in
-    (p .0, shifted-is 64 (c .args .n) (omega arith), p .1, omega arith, omega arith, length-replicate {A = ℕ} 1024 0, refl)
+    let p = start c .pre in
+    (p .0, c .row-count .ensures, p .1, omega arith, omega arith, length-replicate {A = ℕ} 1024 0, refl)
 
 -- there is a place for each mask
 free : (c : tie.In-loop Inv-loop μ-loop) → c .before .loop .found < 1024
 free c =
-    let i = c .before .loop .inv in omega (arith, c .loop-test .taken, i .1, i .4, masks-le (c .before .before .args .n) (i .0))
+    let i = c .before .loop .inv in omega (arith, c .loop-test .taken, i .1, i .4, masks-le (start (c .before .before) .args .n) (i .0))
 
 -- one row at most is found
 one-more : (c : tie.Joined1 Inv-loop μ-loop) → c .if1 .one ≤ 1
@@ -45,7 +47,7 @@ add-found c = omega (arith, one-more (c .before), free (c .before .before .befor
 loop-again : tie.Need-loop-again Inv-loop μ-loop
 loop-again c =
     let j = c .before in let m = j .before .before in let l = m .before .loop in let i = l .inv in
-    let P = m .before .before .args .present .now in let s = l .s in (
+    let P = start (m .before .before) .args .present .now in let s = l .s in (
       i .0,
       i .1,
       i .2,
@@ -67,11 +69,11 @@ loop-again c =
 
 returns : tie.Need-returns Inv-loop μ-loop
 returns c =
-    let l = c .before .loop in let i = l .inv in let a = c .before .before .args in
+    let l = c .before .loop in let i = l .inv in let a = start (c .before .before) .args in
     let e : l .s ≡ 2 ^ a .n = omega (arith, i .1) in
     (i .6 ∙ ap (rowsBelow (stands (a .present .now))) e, (omega (arith, i .1, i .3, i .4, masks-le (a .n) (i .0)), i .5))
 
 pub present-rows-spec : {M : Type 1} → statement M
 present-rows-spec =
-    tie.close (tie.spec Inv-loop μ-loop (λ c. search needs) loop-holds (λ c. omega (arith, free c)) (λ c. free c) (λ c. search needs)
+    tie.close (tie.spec Inv-loop μ-loop (λ c κs. search needs) loop-holds (λ c. omega (arith, free c)) (λ c. free c) (λ c. search needs)
     add-found (λ c. search needs) (λ c. search needs) loop-again returns)
