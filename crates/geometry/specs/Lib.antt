@@ -4,4 +4,5 @@ pub mod Point
 pub mod Bounds
 pub mod Rectangle
 pub mod Meeting
+pub mod Moderate
 pub mod Circle

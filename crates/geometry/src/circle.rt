@@ -1,6 +1,11 @@
 // A circle, and what holds between two of them (the Rust's circle.rs, first part). Rests on root of
 // `elementary`.
 ghost use mathlib.Core.Path.{_≡_};
+ghost use mathlib.Core.Bool.{_&&_};
+ghost use Rattle.binary64.specs.Constants.{zero64};
+ghost use Rattle.binary64.specs.Floats.{_<ᶠ_, _≤ᶠ_};
+ghost use Rattle.elementary.specs.Root.{root};
+ghost use Rattle.geometry.specs.Moderate.{twoToThe64};
 ghost use Rattle.geometry.specs.Circle as spec;
 ghost use Rattle.geometry.specs.Meeting.{points};
 use crate::meeting::Meeting;
@@ -62,7 +67,9 @@ impl Circle {
     pub fn contains_point(self, point: Point) -> bool
         ensures { λ r. ⌜ r ≡ spec.containsPoint self point ⌝ }
     {
-        self.center.distance(point) <= self.radius
+        let dx = self.center.x - point.x;
+        let dy = self.center.y - point.y;
+        root_at_most(dx * dx + dy * dy, self.radius)
     }
 
     // Whether the outlines cross; circles that touch do not, as in the Rust.
@@ -144,6 +151,34 @@ impl Circle {
         }
         self.crossing(other, d)
     }
+}
+
+// Whether a number is above zero and below 2^64, so that its square is finite.
+fn moderate(x: f64) -> bool
+    ensures { λ r. ⌜ r ≡ ((zero64 <ᶠ x) && (x <ᶠ twoToThe64)) ⌝ }
+{
+    0.0 < x && x < 18446744073709551616.0
+}
+
+// Whether the root of s is at most r. The root takes most of the time of a distance, and seldom matters: below the square of r, as rounded,
+// s has a root of at most r, and above the square of a number above r, as rounded, a root of more.
+fn root_at_most(s: f64, r: f64) -> bool
+    ensures { λ b. ⌜ b ≡ (root s ≤ᶠ r) ⌝ }
+{
+    if moderate(s) {
+        if moderate(r) {
+            if s < r * r {
+                return true;
+            }
+            let more = r * 1.0009765625;
+            if r < more {
+                if more * more < s {
+                    return false;
+                }
+            }
+        }
+    }
+    root(s) <= r
 }
 
 // The area between two arcs: a sector of each circle, less the kite between the centres and the
