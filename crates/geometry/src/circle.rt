@@ -1,13 +1,14 @@
 // A circle, and what holds between two of them (the Rust's circle.rs, first part). Rests on root of
 // `elementary`.
 ghost use mathlib.Core.Path.{_≡_};
-ghost use mathlib.Core.Bool.{_&&_};
+ghost use mathlib.Core.Bool.{true, _&&_};
 ghost use Rattle.binary64.specs.Constants.{zero64};
 ghost use Rattle.binary64.specs.Floats.{_<ᶠ_, _≤ᶠ_};
 ghost use Rattle.elementary.specs.Root.{root};
-ghost use Rattle.geometry.specs.Moderate.{twoToThe64};
+ghost use Rattle.geometry.specs.Moderate.{twoToThe64, Above};
 ghost use Rattle.geometry.specs.Circle as spec;
 ghost use Rattle.geometry.specs.Meeting.{points};
+ghost use Rattle.geometry.specs.Point.{distance};
 use crate::meeting::Meeting;
 use crate::point::Point;
 use binary64::abs;
@@ -59,17 +60,21 @@ impl Circle {
     pub fn contains(self, other: Circle) -> bool
         ensures { λ r. ⌜ r ≡ spec.contains self other ⌝ }
     {
-        let center_distance = self.center.distance(other.center);
-        center_distance + other.radius <= self.radius
+        let squared = squared_distance(self.center, other.center);
+        // a sum with a radius above zero is no less, as rounded too
+        if moderate(other.radius) {
+            if root_above(squared, self.radius) {
+                return false;
+            }
+        }
+        root(squared) + other.radius <= self.radius
     }
 
     // Whether the point lies within this circle or on its outline.
     pub fn contains_point(self, point: Point) -> bool
         ensures { λ r. ⌜ r ≡ spec.containsPoint self point ⌝ }
     {
-        let dx = self.center.x - point.x;
-        let dy = self.center.y - point.y;
-        root_at_most(dx * dx + dy * dy, self.radius)
+        root_at_most(squared_distance(self.center, point), self.radius)
     }
 
     // Whether the outlines cross; circles that touch do not, as in the Rust.
@@ -145,12 +150,25 @@ impl Circle {
         if self.identical(other) {
             return Meeting::None;
         }
-        let d = self.center.distance(other.center);
+        let squared = squared_distance(self.center, other.center);
+        if root_above(squared, self.radius + other.radius) {
+            return Meeting::None;
+        }
+        let d = root(squared);
         if self.apart(other, d) {
             return Meeting::None;
         }
         self.crossing(other, d)
     }
+}
+
+// The square of the distance of two points, whose root it is.
+fn squared_distance(p: Point, q: Point) -> f64
+    ensures { λ r. ⌜ root r ≡ distance p q ⌝ }
+{
+    let dx = p.x - q.x;
+    let dy = p.y - q.y;
+    dx * dx + dy * dy
 }
 
 // Whether a number is above zero and below 2^64, so that its square is finite.
@@ -160,25 +178,37 @@ fn moderate(x: f64) -> bool
     0.0 < x && x < 18446744073709551616.0
 }
 
-// Whether the root of s is at most r. The root takes most of the time of a distance, and seldom matters: below the square of r, as rounded,
-// s has a root of at most r, and above the square of a number above r, as rounded, a root of more.
-fn root_at_most(s: f64, r: f64) -> bool
-    ensures { λ b. ⌜ b ≡ (root s ≤ᶠ r) ⌝ }
+// Whether the root of s is seen to be above t without being worked out: s is above the square, as rounded, of a number above t.
+fn root_above(s: f64, t: f64) -> bool
+    ensures { λ b. ⌜ (b ≡ true → Above t (root s)) ⌝ }
 {
     if moderate(s) {
-        if moderate(r) {
-            if s < r * r {
-                return true;
-            }
-            let more = r * 1.0009765625;
-            if r < more {
-                if more * more < s {
-                    return false;
-                }
+        if moderate(t) {
+            let more = t * 1.0009765625;
+            if t < more {
+                return more * more < s;
             }
         }
     }
-    root(s) <= r
+    false
+}
+
+// Whether the root of s is at most t. The root takes most of the time of a distance, and is seldom needed: below the square of t, as
+// rounded, s has a root of at most t.
+fn root_at_most(s: f64, t: f64) -> bool
+    ensures { λ b. ⌜ b ≡ (root s ≤ᶠ t) ⌝ }
+{
+    if moderate(s) {
+        if moderate(t) {
+            if s < t * t {
+                return true;
+            }
+        }
+    }
+    if root_above(s, t) {
+        return false;
+    }
+    root(s) <= t
 }
 
 // The area between two arcs: a sector of each circle, less the kite between the centres and the
