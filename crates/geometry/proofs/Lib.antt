@@ -1,1 +1,1 @@
-mod Roots
+pub mod Roots

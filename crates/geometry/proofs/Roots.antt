@@ -47,7 +47,7 @@ just-most : Most 2 1074 justAboveOne
 unfolding mag pow2 ofBits
 just-most = literal-most 0x3FF0_0400_0000_0000 2 1074 tt tt
 
-top-most : Most 1 1138 twoToThe64
+pub top-most : Most 1 1138 twoToThe64
 unfolding mag pow2 ofBits
 top-most = literal-most 0x43F0_0000_0000_0000 1 1138 tt tt
 
