@@ -1,6 +1,9 @@
 -- The breaks of an arc: its two ends and the angles at which it crosses the four edges of the box, in order.
+use Prim.Native.Nat.{ℕ, _+_, _≤_}
+use mathlib.Core.Path.{_≡_}
 use mathlib.Core.Bool.{Bool, _&&_, cond}
 use mathlib.Core.List.{List, [], _∷_, _++_, map}
+use lib.ListN.{length, take}
 use lib.Ieee.{Float, neg}
 use Rattle.elementary.specs.Arctangent.{acos, asin}
 use Rattle.geometry.specs.declared.bounds.Bounds.{Bounds}
@@ -10,7 +13,7 @@ use Rattle.lists.specs.Lists.{keep}
 use Rattle.binary64.specs.Constants.{zero64, one64, pi, twoPi}
 use Rattle.binary64.specs.Functions.{absolute}
 use Rattle.binary64.specs.Floats.{_+ᶠ_, _-ᶠ_, _*ᶠ_, _/ᶠ_, _<ᶠ_, _≤ᶠ_}
-use Rattle.boundary.specs.Sort.{sorted}
+use Rattle.boundary.specs.Sort.{sortOnto, sorted}
 use Rattle.boundary.specs.declared.arcs.BoundaryArc.{BoundaryArc}
 
 -- strictly inside the arc from a to b: further than 1e-12 from either end
@@ -58,3 +61,18 @@ breaksBetween box c a b = sorted (a ∷ (crossings box c a b ++ (b ∷ [])))
 unfoldable pub breaks : Bounds → Circle → BoundaryArc → List Float
 unfolding breaksBetween
 breaks box c arc = breaksBetween box c (arc .«phi_start») (arc .«phi_start» +ᶠ arc .«delta_phi»)
+
+-- ---- the list of breaks in 32 places of a lent array, the first n of it, with as many places for adopters beside
+
+-- there is room for so many more
+pub record Room (more n : ℕ) (phi : List Float) (adopters : List ℕ) : Type 0 where
+  pub fits : n + more ≤ 32
+  pub places : length phi ≡ 32
+  pub beside : length adopters ≡ 32
+
+-- the new ones, of which there are at most so many, are put in: the first m are those that were there with them, sorted
+pub record Put (most n m : ℕ) (new phi phi' : List Float) (adopters' : List ℕ) : Type 0 where
+  pub few : m ≤ n + most
+  pub places : length phi' ≡ 32
+  pub beside : length adopters' ≡ 32
+  pub first : take m phi' ≡ sortOnto (take n phi) new
