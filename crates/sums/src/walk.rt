@@ -62,7 +62,18 @@ fn list_gap(
     k + 1
 }
 
-// The arcs of head j in the set, listed: gap by gap round the circle, or the whole of it where no point is counted for the set there.
+// The b-th of n places, and after the last the first again.
+fn round_to(b: usize, n: usize, first: usize) -> usize
+    ensures { λ r. ⌜ (b < n → r ≡ b) ⌝ }
+    ensures { λ r. ⌜ (n ≤ b → r ≡ first) ⌝ }
+{
+    if b < n {
+        return b;
+    }
+    first
+}
+
+// The arcs of head j in the set, listed: gap by gap round the circle, each by the one call, which is worth putting in place there, or the whole of it where no point is counted for the set there.
 fn list_head(
     mask: usize,
     c: &[f64; 30],
@@ -99,12 +110,18 @@ fn list_head(
     let mut r = k;
     let mut last = first;
     let mut b = next_in(mask, adopters, at, first + 1, n);
-    while b < n {
-        r = list_gap(mask, c, n_sets, j, counts, last, b, phi, lets, list, r);
-        last = b;
-        b = next_in(mask, adopters, at, b + 1, n);
+    let mut going = true;
+    while going {
+        let to = round_to(b, n, first);
+        r = list_gap(mask, c, n_sets, j, counts, last, to, phi, lets, list, r);
+        if b < n {
+            last = b;
+            b = next_in(mask, adopters, at, b + 1, n);
+        } else {
+            going = false;
+        }
     }
-    list_gap(mask, c, n_sets, j, counts, last, first, phi, lets, list, r)
+    r
 }
 
 // The arcs of a set's outline, listed from the first place on; how many there are. Of a single: its full circle, whatever meets it.
