@@ -20,9 +20,10 @@ use Rattle.lists.specs.Some.{some}
 use Rattle.sets.specs.Sets.{paired, pair, pairsOf, isPair, witnessed, isPart, withParts, allPairs, oneInAll, inLevel, joined, withLevels}
 use Rattle.sets.specs.Sets.{overlapping, containing, isSet}
 use lib.Pow.{pow-mono}
-use Rattle.sets.specs.Steps.{partBelow}
+use Rattle.sets.specs.Steps.{twiceContained, partBelow}
 use Rattle.sets.proofs.Marks.{zeros, marks, marked-again}
 use Rattle.sets.proofs.Taken.{part-is, part-below}
+use Rattle.sets.proofs.TwiceContained.{nothing-joins}
 use Rattle.lists.proofs.Writing.{length-written, written-before, written-past, written-cong, written-again}
 use Rattle.lists.proofs.Somes.{some-cong, some-none}
 use Rattle.intersections.proofs.Masks.{every-cong}
@@ -116,36 +117,57 @@ module _ (n : ℕ) (isSingle isAdopters : ℕ → Bool) (meets contains : ℕ �
   marked-w : marked w' (zeros 1024) ≡ written (λ S. byte (w S)) (2 ^ n) (zeros 1024)
   marked-w = marks w' w (2 ^ n) rows within without
 
-  -- all steps: what each gives, from what the one before gave
-  pub assembled : (W F O C L R : List ℕ)
+  -- step 4
+  pub found-is : (W F : List ℕ)
       → W ≡ marked (isPair n meets contains) (marked (λ S. ltb S (2 ^ n) && isAdopters S) (marked isSingle (zeros 1024)))
       → F ≡ marked (partBelow n (stands W) (2 ^ n)) W
-      → O ≡ written (overlapping n (stands F)) n (zeros 10)
-      → C ≡ written (containing n contains) n (zeros 10)
-      → L ≡ written (λ S. byte (joined n (stands F) (λ i. getD O i 0) (λ i. getD C i 0) S)) (2 ^ n) (zeros 1024)
-      → R ≡ written (λ S. byte (stands F S || stands L S)) (2 ^ n) F
-      → R ≡ written (λ S. byte (isSet n isSingle isAdopters meets contains S)) (2 ^ n) (zeros 1024)
-  unfolding isSet
-  assembled W F O C L R eW eF eO eC eL eR =
+      → F ≡ written (λ S. byte (found S)) (2 ^ n) (zeros 1024)
+  found-is W F eW eF =
       let gotW : W ≡ written (λ S. byte (w S)) (2 ^ n) (zeros 1024) = eW ∙ witnesses in
       let sayW : (T : ℕ) → T < 2 ^ n → stands W T ≡ w T = λ T h. ap (λ (l : List ℕ). stands l T) gotW ∙ says w (2 ^ n) T (zeros 1024) h in
-      let gotF : F ≡ written (λ S. byte (found S)) (2 ^ n) (zeros 1024) =
       eF ∙ ap (marked (partBelow n (stands W) (2 ^ n))) (gotW ∙ sym marked-w) ∙ marked-again w' (partBelow n (stands W) (2 ^ n)) (zeros 1024)
       ∙ marks (λ S. w' S || partBelow n (stands W) (2 ^ n) S) found (2 ^ n) rows
       (λ S h. ap₂ _||_ (within S h) (part-is n (stands W) S h ∙ part-agree n (stands W) w sayW S))
-      (λ S h. ap₂ _||_ (without S h) (part-below n (stands W) (2 ^ n) S (le-refl (2 ^ n)) h)) in
-      let sayF : (T : ℕ) → T < 2 ^ n → stands F T ≡ found T = λ T h. ap (λ (l : List ℕ). stands l T) gotF ∙ says found (2 ^ n) T (zeros 1024) h in
-      let over : (i : ℕ) → i < n → getD O i 0 ≡ overlapping n found i =
-      λ i h. ap (λ (l : List ℕ). getD l i 0) eO ∙ written-before (overlapping n (stands F)) n i (zeros 10) 0 h ∙ overlapping-agree n (stands F) found sayF i in
-      let cont : (i : ℕ) → i < n → getD C i 0 ≡ containing n contains i =
-      λ i h. ap (λ (l : List ℕ). getD l i 0) eC ∙ written-before (containing n contains) n i (zeros 10) 0 h in
-      let sayL : (T : ℕ) → T < 2 ^ n → stands L T ≡ joined n found (overlapping n found) (containing n contains) T =
-      λ T h. ap (λ (l : List ℕ). stands l T) eL ∙ says (joined n (stands F) (λ i. getD O i 0) (λ i. getD C i 0)) (2 ^ n) T (zeros 1024) h
-      ∙ level-agree n (stands F) found sayF (λ i. getD O i 0) (overlapping n found) (λ i. getD C i 0) (containing n contains) over cont (ones T - 2) T h in
-      eR ∙ ap (written (λ S. byte (stands F S || stands L S)) (2 ^ n)) gotF
-      ∙ written-again (λ S. byte (found S)) (λ S. byte (stands F S || stands L S)) (2 ^ n) (zeros 1024)
-      ∙ agree (λ S. stands F S || stands L S) (withLevels n found (overlapping n found) (containing n contains)) (λ S h. ap₂ _||_ (sayF S h) (sayL S h))
-    where
-      agree : (p q : ℕ → Bool) → ((S : ℕ) → S < 2 ^ n → p S ≡ q S)
-          → written (λ S. byte (p S)) (2 ^ n) (zeros 1024) ≡ written (λ S. byte (q S)) (2 ^ n) (zeros 1024)
-      agree p q e = written-cong (λ S. byte (p S)) (λ S. byte (q S)) (2 ^ n) (zeros 1024) (zeros 1024) (λ S h. ap byte (e S h)) refl
+      (λ S h. ap₂ _||_ (without S h) (part-below n (stands W) (2 ^ n) S (le-refl (2 ^ n)) h))
+
+  agree : (p q : ℕ → Bool) → ((S : ℕ) → S < 2 ^ n → p S ≡ q S)
+      → written (λ S. byte (p S)) (2 ^ n) (zeros 1024) ≡ written (λ S. byte (q S)) (2 ^ n) (zeros 1024)
+  agree p q e = written-cong (λ S. byte (p S)) (λ S. byte (q S)) (2 ^ n) (zeros 1024) (zeros 1024) (λ S h. ap byte (e S h)) refl
+
+  -- the heads that contain each head, as code has them
+  module _ (C : List ℕ) (eC : C ≡ written (containing n contains) n (zeros 10)) where
+    cont : (i : ℕ) → i < n → getD C i 0 ≡ containing n contains i
+    cont i h = ap (λ (l : List ℕ). getD l i 0) eC ∙ written-before (containing n contains) n i (zeros 10) 0 h
+
+    -- they are masks of n heads
+    pub cont-lt : (i : ℕ) → i < n → getD C i 0 < 2 ^ n
+    cont-lt i h = subst (λ (m : ℕ). m < 2 ^ n) (sym (cont i h)) (gather-lt n (λ j. contains j i))
+
+    -- what the levels make of the masks found
+    module _ (F : List ℕ) (eF : F ≡ written (λ S. byte (found S)) (2 ^ n) (zeros 1024)) where
+      -- where no head is contained twice, they add nothing
+      pub assembled-found : twiceContained n (λ i. getD C i 0) ≡ 0 → F ≡ written (λ S. byte (isSet n isSingle isAdopters meets contains S)) (2 ^ n) (zeros 1024)
+      unfolding isSet
+      assembled-found none =
+          let same = gather-same n (λ i. leb 2 (ones (withoutHead n (containing n contains i) i))) (λ i. leb 2 (ones (withoutHead n (getD C i 0) i)))
+          (λ i h. ap (λ (m : ℕ). leb 2 (ones (withoutHead n m i))) (sym (cont i h))) in
+          eF ∙ agree found (withLevels n found (overlapping n found) (containing n contains))
+          (λ S h. sym (nothing-joins n found (overlapping n found) (containing n contains) S h (same ∙ none)))
+
+      -- else the masks that join
+      pub assembled : (O L R : List ℕ)
+          → O ≡ written (overlapping n (stands F)) n (zeros 10)
+          → L ≡ written (λ S. byte (joined n (stands F) (λ i. getD O i 0) (λ i. getD C i 0) S)) (2 ^ n) (zeros 1024)
+          → R ≡ written (λ S. byte (stands F S || stands L S)) (2 ^ n) F
+          → R ≡ written (λ S. byte (isSet n isSingle isAdopters meets contains S)) (2 ^ n) (zeros 1024)
+      unfolding isSet
+      assembled O L R eO eL eR =
+          let sayF : (T : ℕ) → T < 2 ^ n → stands F T ≡ found T = λ T h. ap (λ (l : List ℕ). stands l T) eF ∙ says found (2 ^ n) T (zeros 1024) h in
+          let over : (i : ℕ) → i < n → getD O i 0 ≡ overlapping n found i =
+          λ i h. ap (λ (l : List ℕ). getD l i 0) eO ∙ written-before (overlapping n (stands F)) n i (zeros 10) 0 h ∙ overlapping-agree n (stands F) found sayF i in
+          let sayL : (T : ℕ) → T < 2 ^ n → stands L T ≡ joined n found (overlapping n found) (containing n contains) T =
+          λ T h. ap (λ (l : List ℕ). stands l T) eL ∙ says (joined n (stands F) (λ i. getD O i 0) (λ i. getD C i 0)) (2 ^ n) T (zeros 1024) h
+          ∙ level-agree n (stands F) found sayF (λ i. getD O i 0) (overlapping n found) (λ i. getD C i 0) (containing n contains) over cont (ones T - 2) T h in
+          eR ∙ ap (written (λ S. byte (stands F S || stands L S)) (2 ^ n)) eF
+          ∙ written-again (λ S. byte (found S)) (λ S. byte (stands F S || stands L S)) (2 ^ n) (zeros 1024)
+          ∙ agree (λ S. stands F S || stands L S) (withLevels n found (overlapping n found) (containing n contains)) (λ S h. ap₂ _||_ (sayF S h) (sayL S h))

@@ -42,7 +42,7 @@ module _ (n : ℕ) (found : ℕ → Bool) (overlapping containing : ℕ → ℕ)
   from = joiningOf n found overlapping containing
 
   -- a mask of a level has two heads or more
-  two-heads : (S : ℕ) → inIts S ≡ true → 2 ≤ ones S
+  pub two-heads : (S : ℕ) → inIts S ≡ true → 2 ≤ ones S
   unfolding inLevel
   two-heads S e = go (leb 2 (ones S)) refl
     where
@@ -54,7 +54,7 @@ module _ (n : ℕ) (found : ℕ → Bool) (overlapping containing : ℕ → ℕ)
           ∙ sym (ap (λ (d : ℕ). inLevel n found overlapping containing d S) z) ∙ e))
 
   -- in its level, of a mask of three heads or more
-  is-more : (S : ℕ) → S < 2 ^ n → 3 ≤ ones S
+  pub is-more : (S : ℕ) → S < 2 ^ n → 3 ≤ ones S
       → inIts S ≡ (not (found S) && (allPairs n overlapping S && (oneInAll n containing S && some n (λ i. inSet S i && inIts (withoutHead n S i)))))
   unfolding inLevel
   is-more S hs h =
@@ -72,7 +72,7 @@ module _ (n : ℕ) (found : ℕ → Bool) (overlapping containing : ℕ → ℕ)
       at i k false e = refl
 
   -- of fewer
-  is-few : (S : ℕ) → ones S ≤ 2 → inIts S ≡ (eqb (ones S) 2 && found S)
+  pub is-few : (S : ℕ) → ones S ≤ 2 → inIts S ≡ (eqb (ones S) 2 && found S)
   unfolding inLevel
   is-few S h =
       let z : ones S - 2 ≡ 0 = omega (arith, h) in

@@ -6,6 +6,7 @@ pub mod Contained
 pub mod Adopted
 pub mod Taken
 pub mod LevelStep
+pub mod TwiceContained
 pub mod Singles
 pub mod Assembled
 pub mod Bytes

@@ -7,7 +7,7 @@ use lib.Count.{ones}
 use lib.Dec.{eqb, leb}
 use lib.ListN.{getD}
 use Rattle.lists.specs.Some.{some}
-use Rattle.masks.specs.Mask.{inSet, withHead, withoutHead}
+use Rattle.masks.specs.Mask.{inSet, gather, withHead, withoutHead}
 use Rattle.sets.specs.Sets.{allPairs, oneInAll, joined}
 
 -- head j is in the mask of head i, of a list of one mask a head
@@ -21,6 +21,10 @@ partOf n M S = some n (λ i. eqb S (withoutHead n M i) && inSet M i)
 -- S is a part of a mask below m, of three heads or more, that is found
 abbrev pub partBelow : ℕ → (ℕ → Bool) → ℕ → ℕ → Bool
 partBelow n found m S = some m (λ M. (found M && leb 3 (ones M)) && partOf n M S)
+
+-- the heads that two others or more contain
+abbrev pub twiceContained : ℕ → (ℕ → ℕ) → ℕ
+twiceContained n containing = gather n (λ i. leb 2 (ones (withoutHead n (containing i) i)))
 
 module _ (n : ℕ) (found : ℕ → Bool) (overlapping containing : ℕ → ℕ) where
   -- S, got from a mask of the level below, is in the next

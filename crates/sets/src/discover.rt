@@ -3,6 +3,7 @@
 use crate::levels::containing_heads;
 use crate::levels::levels;
 use crate::levels::overlapping_heads;
+use crate::levels::twice_contained;
 use crate::parts::add_parts;
 use crate::witnessed::add_adopters;
 use crate::witnessed::add_pairs;
@@ -62,7 +63,12 @@ pub fn discover_regions(circles: [Circle; 10], points: Intersections, n_sets: us
     let containing = containing_heads(circles, n);
     let witnessed = add_pairs(adopted, &meeting, &containing, n);
     let found = add_parts(witnessed, n);
+    let twice = twice_contained(&containing, n);
+    // No mask joins a level.
+    if twice == 0 {
+        return found;
+    }
     let overlapping = overlapping_heads(&found, n);
-    let level = levels(&found, &overlapping, &containing, n);
+    let level = levels(&found, &overlapping, &containing, twice, n);
     joined_bytes(found, &level, n)
 }

@@ -2,7 +2,7 @@
 use geometry::circle::Circle;
 ghost use mathlib.Core.Path.{_≡_};
 ghost use mathlib.Core.Bool.{cond, not, _&&_, _||_};
-ghost use Prim.Native.Nat.{_≤_, _<_, _^_};
+ghost use Prim.Native.Nat.{ℕ, _≤_, _<_, _^_};
 ghost use lib.Count.{ones};
 ghost use lib.Dec.{eqb};
 ghost use lib.ListN.{getD, replicate, take};
@@ -14,7 +14,7 @@ ghost use Rattle.lists.specs.Written.{written};
 ghost use Rattle.sets.specs.Sets.{joined, overlapping, containing};
 ghost use Rattle.sets.specs.Regions.{containsAt};
 ghost use Rattle.sets.specs.Marked.{marked};
-ghost use Rattle.sets.specs.Steps.{joins, joiningOf};
+ghost use Rattle.sets.specs.Steps.{twiceContained, joins, joiningOf};
 
 // The heads whose pair with head i is found.
 fn overlapping_head(found: &[u8; 1024], i: usize, n: usize) -> usize
@@ -88,6 +88,22 @@ pub(crate) fn containing_heads(circles: [Circle; 10], n: usize) -> [usize; 10]
     heads
 }
 
+// The heads that two others or more contain. A mask of three heads or more has one of them if one of its heads is contained in all others.
+pub(crate) fn twice_contained(containing: &[usize; 10], n: usize) -> usize
+    requires { ⌜ (n ≤ 10) × ((i : ℕ) → i < n → getD (now containing) i 0 < 2 ^ n) ⌝ }
+    ensures { λ r. ⌜ r ≡ twiceContained n (λ i. getD (now (containing .entry)) i 0) ⌝ }
+{
+    let mut mask: usize = 0;
+    let mut i: usize = 0;
+    while i < n {
+        if 1 < usize::count_ones(containing[i] & !(1 << i)) {
+            mask = mask | 1 << i;
+        }
+        i += 1;
+    }
+    mask
+}
+
 // Whether head i is no head of s, or the other heads of s are all in `heads`.
 fn others_in_if(s: usize, i: usize, heads: usize, n: usize) -> bool
     requires { ⌜ (n ≤ 10) × ((s < 2 ^ n) × (i < n)) ⌝ }
@@ -142,18 +158,23 @@ fn one_in_all(containing: &[usize; 10], s: usize, n: usize) -> bool
     false
 }
 
-// Whether a mask with one head more than one of the level below joins the next level.
+// Whether a mask of three heads or more, with one head more than one of the level below, joins the next level.
 fn joins(
     found: &[u8; 1024],
     overlapping: &[usize; 10],
     containing: &[usize; 10],
+    twice: usize,
     s: usize,
     n: usize,
 ) -> bool
-    requires { ⌜ (n ≤ 10) × (s < 2 ^ n) ⌝ }
+    requires { ⌜ (n ≤ 10) × (s < 2 ^ n) × (3 ≤ ones s) × (twice ≡ twiceContained n (λ i. getD (now containing) i 0)) ⌝ }
     ensures { λ r. ⌜ r ≡ joins n (stands (now (found .entry))) (λ i. getD (now (overlapping .entry)) i 0) (λ i. getD (now (containing .entry)) i 0) s ⌝ }
 {
     if found[s] == 1 {
+        return false;
+    }
+    // Most masks end here, without a look at each head.
+    if s & twice == 0 {
         return false;
     }
     if !all_pairs(overlapping, s, n) {
@@ -168,10 +189,11 @@ fn add_joining(
     found: &[u8; 1024],
     overlapping: &[usize; 10],
     containing: &[usize; 10],
+    twice: usize,
     s: usize,
     n: usize,
 )
-    requires { ⌜ (n ≤ 10) × (s < 2 ^ n) ⌝ }
+    requires { ⌜ (n ≤ 10) × (s < 2 ^ n) × (2 ≤ ones s) × (twice ≡ twiceContained n (λ i. getD (now containing) i 0)) ⌝ }
     ensures { λ r. ⌜ now (level .exit) ≡ marked (joiningOf n (stands (now (found .entry))) (λ i. getD (now (overlapping .entry)) i 0) (λ i. getD (now (containing .entry)) i 0) s) (now (level .entry)) ⌝ }
 {
     let mut i: usize = 0;
@@ -180,7 +202,7 @@ fn add_joining(
             let t = s | 1 << i;
             // It is reached from each of the masks with one head less; once it has joined it is not asked again.
             if level[t] != 1 {
-                if joins(found, overlapping, containing, t, n) {
+                if joins(found, overlapping, containing, twice, t, n) {
                     level[t] = 1;
                 }
             }
@@ -204,9 +226,10 @@ pub(crate) fn levels(
     found: &[u8; 1024],
     overlapping: &[usize; 10],
     containing: &[usize; 10],
+    twice: usize,
     n: usize,
 ) -> [u8; 1024]
-    requires { ⌜ n ≤ 10 ⌝ }
+    requires { ⌜ (n ≤ 10) × (twice ≡ twiceContained n (λ i. getD (now containing) i 0)) ⌝ }
     ensures { λ r. ⌜ r ≡ written (λ S. byte (joined n (stands (now (found .entry))) (λ i. getD (now (overlapping .entry)) i 0) (λ i. getD (now (containing .entry)) i 0) S)) (2 ^ n) (replicate 1024 0) ⌝ }
 {
     let mut level = [0u8; 1024];
@@ -215,7 +238,7 @@ pub(crate) fn levels(
     while s < masks {
         if in_level(found[s], level[s], s) {
             level[s] = 1;
-            add_joining(&mut level, found, overlapping, containing, s, n);
+            add_joining(&mut level, found, overlapping, containing, twice, s, n);
         }
         s += 1;
     }

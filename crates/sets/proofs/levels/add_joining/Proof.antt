@@ -11,6 +11,8 @@ use lib.ListN.{set, getD}
 use Rattle.masks.specs.Mask.{inSet, withHead, shifted}
 use Rattle.masks.specs.Presence.{stands}
 use Rattle.masks.specs.Gather.{gather-lt}
+use Rattle.masks.specs.Operations.{zero-of-in}
+use Rattle.masks.specs.Size.{ones-with}
 use Rattle.sets.specs.Marked.{marked}
 use Rattle.sets.specs.Steps.{joins}
 use Rattle.lists.specs.Some.{some}
@@ -27,12 +29,12 @@ test found overlapping containing s n k =
     not (inSet s k) && joins n (stands found) (λ i. getD overlapping i 0) (λ i. getD containing i 0) (withHead n s k)
 
 abbrev Inv-loop : tie.InvT-loop
-Inv-loop level₀ found overlapping containing s n i₀ level i =
+Inv-loop level₀ found overlapping containing twice s n i₀ level i =
     (n ≤ 10) × (s < 2 ^ n) × (i ≤ n)
     × (level ≡ marked (λ T. some i (λ k. eqb T (withHead n s k) && test found overlapping containing s n k)) level₀)
 
 abbrev μ-loop : tie.MeasureT-loop
-μ-loop level₀ found overlapping containing s n i₀ level i = n - i
+μ-loop level₀ found overlapping containing twice s n i₀ level i = n - i
 
 loop-holds : tie.Need-loop-holds Inv-loop μ-loop
 loop-holds c = let a = c .args in (c .pre .0, c .pre .1, omega arith, marked-none _ (a .level .now) (λ S k. some-zero _))
@@ -46,9 +48,13 @@ element-copy-out-if2 c =
 joins-requires : tie.Need-joins-requires Inv-loop μ-loop
 joins-requires c κs =
     let l = c .before .before .before .before .loop in
-    let a = c .before .before .before .before .before .args in (
+    let s = c .before .before .before .before .before in
+    let a = s .args in
+    let lacks = lacks-at (a .s) (l .i) (omega arith) (c .before .before .if1 .taken) in (
       l .inv .0,
       subst (λ (m : ℕ). m < 2 ^ a .n) (sym (with-at (a .n) (a .s) (l .i) (l .inv .0) (l .inv .1) (omega arith))) (gather-lt (a .n) _),
+      omega (arith, s .pre .2, ones-with 64 (a .s) (l .i) (omega arith) (zero-of-in (a .s) (l .i) lacks)),
+      s .pre .3,
     )
 
 loop-again : tie.Need-loop-again Inv-loop μ-loop

@@ -17,7 +17,7 @@ use Rattle.sets.specs.Sets.{joined}
 use Rattle.sets.specs.Steps.{joiningOf, levelBelow}
 use Rattle.sets.proofs.Masks.{row-lt}
 use Rattle.sets.proofs.Marks.{zeros, marks, marked-at, marked-none}
-use Rattle.sets.proofs.LevelStep.{level-test, level-all, level-beyond, level-next, level-not}
+use Rattle.sets.proofs.LevelStep.{two-heads, level-test, level-all, level-beyond, level-next, level-not}
 use Rattle.sets.proofs.levels.levels.Statement.{statement}
 use borrow.Author.Needs.{needs}
 use Rattle.sets.proofs.levels.levels.Tie as tie
@@ -26,16 +26,34 @@ abbrev below : List ℕ → List ℕ → List ℕ → ℕ → ℕ → ℕ → Bo
 below found overlapping containing n = levelBelow n (stands found) (λ i. getD overlapping i 0) (λ i. getD containing i 0)
 
 abbrev Inv-loop : tie.InvT-loop
-Inv-loop found overlapping containing n level₀ masks s₀ level s =
+Inv-loop found overlapping containing twice n level₀ masks s₀ level s =
     (n ≤ 10) × (masks ≡ 2 ^ n) × (s ≤ masks) × (level ≡ marked (below found overlapping containing n s) (zeros 1024))
 
 abbrev μ-loop : tie.MeasureT-loop
-μ-loop found overlapping containing n level₀ masks s₀ level s = masks - s
+μ-loop found overlapping containing twice n level₀ masks s₀ level s = masks - s
 
 loop-holds : tie.Need-loop-holds Inv-loop μ-loop
 loop-holds c =
     let a = c .args in
-    (c .pre, shifted-is 64 (a .n) (omega arith), search needs, marked-none _ (zeros 1024) (λ S k. some-zero _))
+    (c .pre .0, shifted-is 64 (a .n) (omega arith), search needs, marked-none _ (zeros 1024) (λ S k. some-zero _))
+
+-- the byte of s in the level, before s is looked at; and so the test is that of its level
+in-its : (c : tie.After-in-level Inv-loop μ-loop) → let l = c .before .before .before .loop in let a = c .before .before .before .before .args in
+    c .in-level .result ≡ joined (a .n) (stands (a .found .now)) (λ i. getD (a .overlapping .now) i 0) (λ i. getD (a .containing .now) i 0) (l .s)
+in-its c =
+    let l = c .before .before .before .loop in
+    let a = c .before .before .before .before .args in
+    let f = stands (a .found .now) in
+    let o : ℕ → ℕ = λ i. getD (a .overlapping .now) i 0 in
+    let d : ℕ → ℕ = λ i. getD (a .containing .now) i 0 in
+    let room : l .s < 2 ^ a .n = omega (arith, l .inv .1) in
+    let row : l .s < 1024 = row-lt (a .n) (l .s) (l .inv .0) room in
+    let was : eqb (getD (l .level) (l .s) 0) 1 ≡ levelBelow (a .n) f o d (l .s) (l .s) =
+    ap (λ (t : List ℕ). eqb (getD t (l .s) 0) 1) (l .inv .3)
+    ∙ ap (λ (x : ℕ). eqb x 1) (marked-at (levelBelow (a .n) f o d (l .s)) (zeros 1024) (l .s) (omega (arith, row, length-replicate {A = ℕ} 1024 0))
+    ∙ ap (λ (x : ℕ). cond (levelBelow (a .n) f o d (l .s) (l .s)) 1 x) (getD-replicate 1024 (l .s) 0 0 row))
+    ∙ byte-stands (levelBelow (a .n) f o d (l .s) (l .s)) in
+    c .in-level .ensures ∙ ap (λ (b : Bool). cond (f (l .s)) (eqb (ones (l .s)) 2) b) was ∙ level-test (a .n) f o d (l .s) room
 
 element-copy-out-in-level : tie.Need-element-copy-out-in-level Inv-loop μ-loop
 element-copy-out-in-level c = let l = c .before .loop in row-lt (c .before .before .args .n) (l .s) (l .inv .0) (omega (arith, l .inv .1))
@@ -50,7 +68,17 @@ array-write-level c =
     row-lt (c .before .before .before .before .before .args .n) (l .s) (l .inv .0) (omega (arith, l .inv .1))
 
 add-joining-requires : tie.Need-add-joining-requires Inv-loop μ-loop
-add-joining-requires c κs = let l = c .before .before .before .before .before .loop in (l .inv .0, omega (arith, l .inv .1))
+add-joining-requires c κs =
+    let v = c .before .before in
+    let l = v .before .before .before .loop in
+    let s = v .before .before .before .before in
+    let a = s .args in (
+      l .inv .0,
+      omega (arith, l .inv .1),
+      two-heads (a .n) (stands (a .found .now)) (λ i. getD (a .overlapping .now) i 0) (λ i. getD (a .containing .now) i 0) (l .s)
+          (sym (in-its v) ∙ c .before .if1 .taken),
+      s .pre .1,
+    )
 
 loop-again : tie.Need-loop-again Inv-loop μ-loop
 loop-again c =
@@ -60,15 +88,7 @@ loop-again c =
     let f = stands (a .found .now) in
     let o : ℕ → ℕ = λ i. getD (a .overlapping .now) i 0 in
     let d : ℕ → ℕ = λ i. getD (a .containing .now) i 0 in
-    let room : l .s < 2 ^ a .n = omega (arith, l .inv .1) in
-    let row : l .s < 1024 = row-lt (a .n) (l .s) (l .inv .0) room in
-    let was : eqb (getD (l .level) (l .s) 0) 1 ≡ levelBelow (a .n) f o d (l .s) (l .s) =
-    ap (λ (t : List ℕ). eqb (getD t (l .s) 0) 1) (l .inv .3)
-    ∙ ap (λ (x : ℕ). eqb x 1) (marked-at (levelBelow (a .n) f o d (l .s)) (zeros 1024) (l .s) (omega (arith, row, length-replicate {A = ℕ} 1024 0))
-    ∙ ap (λ (x : ℕ). cond (levelBelow (a .n) f o d (l .s) (l .s)) 1 x) (getD-replicate 1024 (l .s) 0 0 row))
-    ∙ byte-stands (levelBelow (a .n) f o d (l .s) (l .s)) in
-    let got : v .in-level .result ≡ joined (a .n) f o d (l .s) =
-    v .in-level .ensures ∙ ap (λ (b : Bool). cond (f (l .s)) (eqb (ones (l .s)) 2) b) was ∙ level-test (a .n) f o d (l .s) room in (
+    let got = in-its v in (
       l .inv .0,
       l .inv .1,
       omega arith,
