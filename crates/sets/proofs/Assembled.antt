@@ -4,7 +4,6 @@ use mathlib.Core.Path.{_≡_, refl, sym, ap, ap₂, _∙_, subst}
 use mathlib.Core.Bool.{Bool, true, false, not, cond, _&&_, _||_}
 use mathlib.Core.List.{List}
 use Prim.Native.Nat.{ℕ, zero, suc, _+_, _-_, _*_, _^_, _≤_, _<_}
-use native.Mathlib.Nat.{le-refl}
 use native.Mathlib.Omega.{arith}
 use borrow.Author.Tests.{ltb-true, ltb-false, lt-ltb, le-ltb, ne-eqb}
 use lib.Count.{ones}
@@ -20,9 +19,10 @@ use Rattle.lists.specs.Some.{some}
 use Rattle.sets.specs.Sets.{paired, pair, pairsOf, isPair, witnessed, isPart, withParts, allPairs, oneInAll, inLevel, joined, withLevels}
 use Rattle.sets.specs.Sets.{overlapping, containing, isSet}
 use lib.Pow.{pow-mono}
-use Rattle.sets.specs.Steps.{twiceContained, partBelow}
+use Rattle.sets.specs.Steps.{twiceContained, adopted}
 use Rattle.sets.proofs.Marks.{zeros, marks, marked-again}
-use Rattle.sets.proofs.Taken.{part-is, part-below}
+use Rattle.sets.proofs.Singles.{pair-beyond, adopter-parts}
+use Rattle.sets.proofs.Taken.{part-agree}
 use Rattle.sets.proofs.TwiceContained.{nothing-joins}
 use Rattle.lists.proofs.Writing.{length-written, written-before, written-past, written-cong, written-again}
 use Rattle.lists.proofs.Somes.{some-cong, some-none}
@@ -37,15 +37,8 @@ gather-same (suc w) p q h =
     ap₂ (λ (g : ℕ) (b : Bool). g + cond b (2 ^ w) 0) (gather-same w p q (λ i k. h i (omega arith))) (h w (omega arith))
 
 module _ (n : ℕ) (f g : ℕ → Bool) (same : (T : ℕ) → T < 2 ^ n → f T ≡ g T) where
-  part-agree : (S : ℕ) → isPart n f S ≡ isPart n g S
-  unfolding isPart
-  part-agree S =
-      ap (λ (t : Bool). leb 2 (ones S) && t)
-      (some-cong n (λ i. not (inSet S i) && f (withHead n S i)) (λ i. not (inSet S i) && g (withHead n S i))
-      (λ i k. ap (λ (b : Bool). not (inSet S i) && b) (same (withHead n S i) (gather-lt n _))))
-
   pub parts-agree : (S : ℕ) → S < 2 ^ n → withParts n f S ≡ withParts n g S
-  parts-agree S hs = ap₂ _||_ (same S hs) (part-agree S)
+  parts-agree S hs = ap₂ _||_ (same S hs) (part-agree n f g S same)
 
   pub overlapping-agree : (i : ℕ) → overlapping n f i ≡ overlapping n g i
   overlapping-agree i = gather-same n (λ j. f (pair n i j)) (λ j. g (pair n i j)) (λ j k. same (pair n i j) (gather-lt n _))
@@ -69,66 +62,38 @@ module _ (n : ℕ) (f g : ℕ → Bool) (same : (T : ℕ) → T < 2 ^ n → f T 
 says : (p : ℕ → Bool) (m S : ℕ) (l : List ℕ) → S < m → stands (written (λ T. byte (p T)) m l) S ≡ p S
 says p m S l h = ap (λ (x : ℕ). eqb x 1) (written-before (λ T. byte (p T)) m S l 0 h) ∙ byte-stands (p S)
 
-module _ (n : ℕ) (isSingle isAdopters : ℕ → Bool) (meets contains : ℕ → ℕ → Bool) (few : n ≤ 10)
-    (beyond : (S : ℕ) → 2 ^ n ≤ S → isSingle S ≡ false) where
+module _ (n : ℕ) (isSingle isAdopters : ℕ → Bool) (meets contains : ℕ → ℕ → Bool) (ten : n ≤ 10)
+    (beyond : (S : ℕ) → 2 ^ n ≤ S → isSingle S ≡ false) (few : (S : ℕ) → 3 ≤ ones S → isSingle S ≡ false) where
   rows : 2 ^ n ≤ 1024
-  rows = pow-mono {i = n} {j = 10} few
-
-  pair-beyond : (S : ℕ) → 2 ^ n ≤ S → isPair n meets contains S ≡ false
-  unfolding isPair
-  pair-beyond S h =
-      some-none n (λ i. pairsOf n meets contains i S)
-      (λ i k. some-none i (λ j. eqb S (pair n i j) && paired meets contains i j)
-      (λ j l. ap (λ (b : Bool). b && paired meets contains i j)
-      (ne-eqb S (pair n i j) (λ e. omega (arith, gather-lt n (λ m. inSet (single n i) m || eqb m j))))))
-
-  -- steps 1 to 3
-  witnesses : marked (isPair n meets contains) (marked (λ S. ltb S (2 ^ n) && isAdopters S) (marked isSingle (zeros 1024)))
-      ≡ written (λ S. byte (witnessed n isSingle isAdopters meets contains S)) (2 ^ n) (zeros 1024)
-  unfolding witnessed
-  witnesses =
-      ap (marked (isPair n meets contains)) (marked-again isSingle (λ S. ltb S (2 ^ n) && isAdopters S) (zeros 1024))
-      ∙ marked-again (λ S. isSingle S || (ltb S (2 ^ n) && isAdopters S)) (isPair n meets contains) (zeros 1024)
-      ∙ marks (λ S. (isSingle S || (ltb S (2 ^ n) && isAdopters S)) || isPair n meets contains S) (witnessed n isSingle isAdopters meets contains) (2 ^ n) rows
-      (λ S h. ap (λ (b : Bool). (isSingle S || (b && isAdopters S)) || isPair n meets contains S) (lt-ltb S (2 ^ n) h)
-      ∙ assoc (isSingle S) (isAdopters S) (isPair n meets contains S))
-      (λ S h. ap₂ _||_ (ap₂ _||_ (beyond S h) (ap (λ (b : Bool). b && isAdopters S) (le-ltb S (2 ^ n) h))) (pair-beyond S h))
-    where
-      assoc : (a b c : Bool) → ((a || b) || c) ≡ (a || (b || c))
-      assoc true b c = refl
-      assoc false b c = refl
-
-  abbrev w : ℕ → Bool
-  w = witnessed n isSingle isAdopters meets contains
+  rows = pow-mono {i = n} {j = 10} ten
 
   abbrev found : ℕ → Bool
-  found = withParts n w
+  found = withParts n (witnessed n isSingle isAdopters meets contains)
 
-  -- the same as marks on masks of n heads
-  abbrev w' : ℕ → Bool
-  w' S = ltb S (2 ^ n) && w S
-
-  within : (S : ℕ) → S < 2 ^ n → w' S ≡ w S
-  within S h = ap (λ (b : Bool). b && w S) (lt-ltb S (2 ^ n) h)
-
-  without : (S : ℕ) → 2 ^ n ≤ S → w' S ≡ false
-  without S h = ap (λ (b : Bool). b && w S) (le-ltb S (2 ^ n) h)
-
-  marked-w : marked w' (zeros 1024) ≡ written (λ S. byte (w S)) (2 ^ n) (zeros 1024)
-  marked-w = marks w' w (2 ^ n) rows within without
-
-  -- step 4
-  pub found-is : (W F : List ℕ)
-      → W ≡ marked (isPair n meets contains) (marked (λ S. ltb S (2 ^ n) && isAdopters S) (marked isSingle (zeros 1024)))
-      → F ≡ marked (partBelow n (stands W) (2 ^ n)) W
-      → F ≡ written (λ S. byte (found S)) (2 ^ n) (zeros 1024)
-  found-is W F eW eF =
-      let gotW : W ≡ written (λ S. byte (w S)) (2 ^ n) (zeros 1024) = eW ∙ witnesses in
-      let sayW : (T : ℕ) → T < 2 ^ n → stands W T ≡ w T = λ T h. ap (λ (l : List ℕ). stands l T) gotW ∙ says w (2 ^ n) T (zeros 1024) h in
-      eF ∙ ap (marked (partBelow n (stands W) (2 ^ n))) (gotW ∙ sym marked-w) ∙ marked-again w' (partBelow n (stands W) (2 ^ n)) (zeros 1024)
-      ∙ marks (λ S. w' S || partBelow n (stands W) (2 ^ n) S) found (2 ^ n) rows
-      (λ S h. ap₂ _||_ (within S h) (part-is n (stands W) S h ∙ part-agree n (stands W) w sayW S))
-      (λ S h. ap₂ _||_ (without S h) (part-below n (stands W) (2 ^ n) S (le-refl (2 ^ n)) h))
+  -- steps 1 to 4
+  pub found-is : marked isSingle (marked (isPair n meets contains) (marked (adopted n isAdopters) (zeros 1024)))
+      ≡ written (λ S. byte (found S)) (2 ^ n) (zeros 1024)
+  unfolding witnessed
+  found-is =
+      ap (marked isSingle) (marked-again (adopted n isAdopters) (isPair n meets contains) (zeros 1024))
+      ∙ marked-again (λ S. adopted n isAdopters S || isPair n meets contains S) isSingle (zeros 1024)
+      ∙ marks (λ S. (adopted n isAdopters S || isPair n meets contains S) || isSingle S) found (2 ^ n) rows
+      (λ S h. ap₂ (λ (b c : Bool). ((b && (isAdopters S || c)) || isPair n meets contains S) || isSingle S) (lt-ltb S (2 ^ n) h)
+      (sym (adopter-parts n isSingle isAdopters meets contains few S h))
+      ∙ turn (isSingle S) (isAdopters S) (isPair n meets contains S) (isPart n (witnessed n isSingle isAdopters meets contains) S))
+      (λ S h. ap₂ _||_ (ap₂ _||_ (ap (λ (b : Bool). b && withParts n isAdopters S) (le-ltb S (2 ^ n) h)) (pair-beyond n meets contains S h)) (beyond S h))
+    where
+      turn : (a b c d : Bool) → (((b || d) || c) || a) ≡ ((a || (b || c)) || d)
+      turn true true c d = refl
+      turn true false true true = refl
+      turn true false true false = refl
+      turn true false false true = refl
+      turn true false false false = refl
+      turn false true c d = refl
+      turn false false true true = refl
+      turn false false true false = refl
+      turn false false false true = refl
+      turn false false false false = refl
 
   agree : (p q : ℕ → Bool) → ((S : ℕ) → S < 2 ^ n → p S ≡ q S)
       → written (λ S. byte (p S)) (2 ^ n) (zeros 1024) ≡ written (λ S. byte (q S)) (2 ^ n) (zeros 1024)

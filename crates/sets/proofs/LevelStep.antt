@@ -13,23 +13,19 @@ use lib.ListN.{set}
 use Rattle.masks.specs.Mask.{inSet, withHead, withoutHead, shifted}
 use Rattle.masks.specs.Operations.{zero-of-in}
 use Rattle.masks.specs.Gather.{gather-lt, or-withHead}
-use Rattle.masks.specs.Size.{ones-with}
 use Rattle.masks.specs.Subset.{and-both, with-gt}
 use Rattle.lists.specs.Some.{some}
 use Rattle.lists.proofs.Somes.{some-next, some-of, some-none, some-cong}
 use Rattle.sets.specs.Marked.{marked}
 use Rattle.sets.specs.Sets.{allPairs, oneInAll, inLevel, joined}
 use Rattle.sets.specs.Steps.{joins, joiningOf, levelBelow}
-use Rattle.sets.proofs.Masks.{ones-less, less}
+use Rattle.sets.proofs.Masks.{ones-less, ones-more, less}
 use Rattle.sets.proofs.Marks.{mark-next, marked-again, marked-same}
 use Rattle.sets.proofs.Taken.{and-no, same-truth, some-then, with-without, has, lacks, without-with-it, not-yes}
 
--- a mask is smaller than with a head that it lacks, and has one head less
+-- a mask is smaller than with a head that it lacks
 more : (n M i : ℕ) → M < 2 ^ n → i < n → inSet M i ≡ false → M < withHead n M i
 more n M i hm h e = subst (λ (T : ℕ). M < T) (or-withHead n M i hm h) (with-gt n M i h (zero-of-in M i e))
-
-ones-more : (n M i : ℕ) → M < 2 ^ n → i < n → inSet M i ≡ false → ones (withHead n M i) ≡ suc (ones M)
-ones-more n M i hm h e = ap ones (sym (or-withHead n M i hm h)) ∙ ones-with n M i h (zero-of-in M i e)
 
 module _ (n : ℕ) (found : ℕ → Bool) (overlapping containing : ℕ → ℕ) where
   abbrev inIts : ℕ → Bool

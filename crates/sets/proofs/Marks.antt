@@ -59,6 +59,10 @@ mark-next p l v =
         getD-set-other (marked p l) v S 1 0 (eqb-false S v e) ∙ marked-at p l S h
         ∙ neither (p S) (getD l S 0) ∙ ap (λ b. cond (p S || b) 1 (getD l S 0)) (sym e)
 
+-- one mark
+pub mark-one : (l : List ℕ) (v : ℕ) → set l v 1 ≡ marked (λ S. eqb S v) l
+mark-one l v = ap (λ (t : List ℕ). set t v 1) (marked-none (λ S. false) l (λ S h. refl)) ∙ mark-next (λ S. false) l v
+
 -- marked twice
 pub marked-again : (p q : ℕ → Bool) (l : List ℕ) → marked q (marked p l) ≡ marked (λ S. p S || q S) l
 marked-again p q l =

@@ -4,7 +4,6 @@ use crate::levels::containing_heads;
 use crate::levels::levels;
 use crate::levels::overlapping_heads;
 use crate::levels::twice_contained;
-use crate::parts::add_parts;
 use crate::witnessed::add_adopters;
 use crate::witnessed::add_pairs;
 use crate::witnessed::add_singles;
@@ -57,12 +56,11 @@ pub fn discover_regions(circles: [Circle; 10], points: Intersections, n_sets: us
 {
     let n = at_most_ten(n_sets);
     let none = [0u8; 1024];
-    let singles = add_singles(none, n);
-    let adopted = add_adopters(singles, points, n);
+    let adopted = add_adopters(none, points, n);
     let meeting = meeting_heads(points);
     let containing = containing_heads(circles, n);
-    let witnessed = add_pairs(adopted, &meeting, &containing, n);
-    let found = add_parts(witnessed, n);
+    let pairs = add_pairs(adopted, &meeting, &containing, n);
+    let found = add_singles(pairs, n);
     let twice = twice_contained(&containing, n);
     // No mask joins a level.
     if twice == 0 {

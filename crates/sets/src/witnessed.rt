@@ -1,14 +1,13 @@
 // Singles, adopter masks and pairs: the first masks found. Rests on specs/Regions.antt and specs/Steps.antt.
 use intersections::points::Intersections;
 ghost use mathlib.Core.Path.{_≡_};
-ghost use mathlib.Core.Bool.{_&&_};
 ghost use Prim.Native.Nat.{ℕ, _≤_, _<_, _^_};
-ghost use lib.Dec.{ltb};
+ghost use lib.Dec.{eqb};
 ghost use Rattle.intersections.specs.Counted.{pointList};
 ghost use Rattle.sets.specs.Marked.{marked};
 ghost use Rattle.sets.specs.Sets.{paired, pairsOf, isPair};
 ghost use Rattle.sets.specs.Regions.{isOneHead, isAdoptersOf, meetsAt};
-ghost use Rattle.sets.specs.Steps.{inMaskOf};
+ghost use Rattle.sets.specs.Steps.{inMaskOf, partOf, adopted};
 
 // 1. Singles.
 pub(crate) fn add_singles(found: [u8; 1024], n: usize) -> [u8; 1024]
@@ -24,13 +23,39 @@ pub(crate) fn add_singles(found: [u8; 1024], n: usize) -> [u8; 1024]
     bytes
 }
 
-// 2. Every adopter mask.
+// Each mask that is s without one of its heads.
+fn add_parts_of(found: &mut [u8; 1024], s: usize, n: usize)
+    requires { ⌜ (n ≤ 10) × (s < 2 ^ n) ⌝ }
+    ensures { λ r. ⌜ now (found .exit) ≡ marked (partOf n s) (now (found .entry)) ⌝ }
+{
+    let mut i: usize = 0;
+    while i < n {
+        if s & 1 << i != 0 {
+            found[s & !(1 << i)] = 1;
+        }
+        i += 1;
+    }
+}
+
+// The adopters of one meeting point; and, where they are three or more, their mask with each one taken away.
+fn add_adopters_of(found: &mut [u8; 1024], mask: usize, n: usize)
+    requires { ⌜ n ≤ 10 ⌝ }
+    ensures { λ r. ⌜ now (found .exit) ≡ marked (adopted n (λ S. eqb S mask)) (now (found .entry)) ⌝ }
+{
+    if mask < 1usize << n {
+        found[mask] = 1;
+        if 2 < usize::count_ones(mask) {
+            add_parts_of(found, mask, n);
+        }
+    }
+}
+
+// 2. Every adopter mask, and 4. each mask of three or more with one head taken away: no other mask found so far has three.
 pub(crate) fn add_adopters(found: [u8; 1024], points: Intersections, n: usize) -> [u8; 1024]
     requires { ⌜ n ≤ 10 ⌝ }
-    ensures { λ r. ⌜ r ≡ marked (λ S. ltb S (2 ^ n) && isAdoptersOf (pointList points) S) found ⌝ }
+    ensures { λ r. ⌜ r ≡ marked (adopted n (isAdoptersOf (pointList points))) found ⌝ }
 {
     let mut bytes = found;
-    let masks = 1usize << n;
     let count = points.n;
     let mut k: usize = 0;
     while k < 90 {
@@ -39,9 +64,7 @@ pub(crate) fn add_adopters(found: [u8; 1024], points: Intersections, n: usize) -
         }
         let q = points.all[k];
         let mask = q.adopters;
-        if mask < masks {
-            bytes[mask] = 1;
-        }
+        add_adopters_of(&mut bytes, mask, n);
         k += 1;
     }
     bytes

@@ -17,7 +17,7 @@ use Rattle.sets.specs.Steps.{inMaskOf}
 use Rattle.sets.proofs.Marks.{marked-same}
 use Rattle.sets.proofs.Pairing.{containing-in, pairs-agree}
 use Rattle.sets.proofs.Assembled.{found-is, cont-lt, assembled-found, assembled}
-use Rattle.sets.proofs.Singles.{one-head-beyond}
+use Rattle.sets.proofs.Singles.{one-head-beyond, one-head-few}
 use Rattle.sets.proofs.discover.discover_regions.Statement.{statement}
 use borrow.Author.Needs.{needs}
 use Rattle.sets.proofs.discover.discover_regions.Tie as tie
@@ -27,10 +27,10 @@ few : (c : tie.After-at-most-ten) → c .at-most-ten .result ≤ 10
 few c = omega (arith, c .at-most-ten .ensures)
 
 abbrev counted : tie.After-add-pairs → tie.After-at-most-ten
-counted c = c .before .before .before .before .before .before .before
+counted c = c .before .before .before .before .before .before
 
 add-pairs-requires : tie.Need-add-pairs-requires
-add-pairs-requires c κs = few (c .before .before .before .before .before .before)
+add-pairs-requires c κs = few (c .before .before .before .before .before)
 
 -- there are ten circles
 ten-circles : (c : tie.Start) → length (c .args .circles) ≡ 10
@@ -56,19 +56,17 @@ pairs-are c =
     ∙ containing-in n (containsAt (take n (a .circles))) i j k l) S)
 
 -- the masks found before the levels
-found-are : (c : tie.After-add-parts) → let a = counted (c .before) .before .args in let n = counted (c .before) .at-most-ten .result in c .add-parts .result
-    ≡ written (λ S. byte (withParts n (witnessed n (isOneHead n) (isAdoptersOf (pointList (a .points))) (meetsAt (pointList (a .points)))
+found-are : (c : tie.After-add-singles) → let a = counted (c .before) .before .args in let n = counted (c .before) .at-most-ten .result in
+    c .add-singles .result ≡ written (λ S. byte (withParts n (witnessed n (isOneHead n) (isAdoptersOf (pointList (a .points))) (meetsAt (pointList (a .points)))
     (containsAt (take n (a .circles)))) S)) (2 ^ n) (replicate 1024 0)
 found-are c =
     let pai = c .before in
     let ado = pai .before .before .before .before .before in
     let a = counted pai .before .args in
     let n = counted pai .at-most-ten .result in
-    found-is n (isOneHead n) (isAdoptersOf (pointList (a .points))) (meetsAt (pointList (a .points))) (containsAt (take n (a .circles))) (few (counted pai))
-    (one-head-beyond n) (pai .add-pairs .result) (c .add-parts .result)
-    (pairs-are pai ∙ ap (marked (isPair n (meetsAt (pointList (a .points))) (containsAt (take n (a .circles)))))
-    (ado .add-adopters .ensures ∙ ap (marked _) (ado .before .add-singles .ensures)))
-    (c .add-parts .ensures)
+    let p = pointList (a .points) in
+    c .add-singles .ensures ∙ ap (marked (isOneHead n)) (pairs-are pai ∙ ap (marked (isPair n (meetsAt p) (containsAt (take n (a .circles))))) (ado .add-adopters .ensures))
+    ∙ found-is n (isOneHead n) (isAdoptersOf p) (meetsAt p) (containsAt (take n (a .circles))) (few (counted pai)) (one-head-beyond n) (one-head-few n)
 
 -- the sets of n heads are those of the circles taken
 sets-are : (c : tie.After-at-most-ten) → let a = c .before .args in let n = c .at-most-ten .result in
@@ -90,21 +88,21 @@ twice-contained-requires c κs =
     let n = counted pai .at-most-ten .result in
     let p = pointList (a .points) in (
       few (counted pai),
-      cont-lt n (isOneHead n) (isAdoptersOf p) (meetsAt p) (containsAt (take n (a .circles))) (few (counted pai)) (one-head-beyond n)
+      cont-lt n (isOneHead n) (isAdoptersOf p) (meetsAt p) (containsAt (take n (a .circles))) (few (counted pai)) (one-head-beyond n) (one-head-few n)
           (con .containing-heads .result) (con .containing-heads .ensures),
     )
 
 returns : tie.Need-returns
 returns c =
     let twi = c .before in
-    let par = twi .before .before in
-    let pai = par .before in
+    let sin = twi .before .before in
+    let pai = sin .before in
     let con = pai .before .before .before in
     let a = counted pai .before .args in
     let n = counted pai .at-most-ten .result in
     let p = pointList (a .points) in
-    assembled-found n (isOneHead n) (isAdoptersOf p) (meetsAt p) (containsAt (take n (a .circles))) (few (counted pai)) (one-head-beyond n)
-    (con .containing-heads .result) (con .containing-heads .ensures) (par .add-parts .result) (found-are par) (sym (twi .twice-contained .ensures) ∙ c .if1 .taken)
+    assembled-found n (isOneHead n) (isAdoptersOf p) (meetsAt p) (containsAt (take n (a .circles))) (few (counted pai)) (one-head-beyond n) (one-head-few n)
+    (con .containing-heads .result) (con .containing-heads .ensures) (sin .add-singles .result) (found-are sin) (sym (twi .twice-contained .ensures) ∙ c .if1 .taken)
     ∙ sets-are (counted pai)
 
 levels-requires : tie.Need-levels-requires
@@ -119,20 +117,20 @@ returns-2 : tie.Need-returns-2
 returns-2 c =
     let lev = c .before .before in
     let ove = lev .before .before .before .before in
-    let par = ove .before .before .before .before .before in
-    let pai = par .before in
+    let sin = ove .before .before .before .before .before in
+    let pai = sin .before in
     let con = pai .before .before .before in
     let a = counted pai .before .args in
     let n = counted pai .at-most-ten .result in
     let p = pointList (a .points) in
-    assembled n (isOneHead n) (isAdoptersOf p) (meetsAt p) (containsAt (take n (a .circles))) (few (counted pai)) (one-head-beyond n)
-    (con .containing-heads .result) (con .containing-heads .ensures) (par .add-parts .result) (found-are par)
+    assembled n (isOneHead n) (isAdoptersOf p) (meetsAt p) (containsAt (take n (a .circles))) (few (counted pai)) (one-head-beyond n) (one-head-few n)
+    (con .containing-heads .result) (con .containing-heads .ensures) (sin .add-singles .result) (found-are sin)
     (ove .overlapping-heads .result) (lev .levels .result) (c .joined-bytes .result)
     (ove .overlapping-heads .ensures) (lev .levels .ensures) (c .joined-bytes .ensures)
     ∙ sets-are (counted pai)
 
 pub discover-regions-spec : {M : Type 1} → statement M
 discover-regions-spec =
-    tie.close (tie.spec (λ c κs. search needs) (λ c κs. few c) (λ c κs. few (c .before)) (λ c κs. search needs)
-    (λ c κs. few (c .before .before .before)) add-pairs-requires (λ c κs. few (counted c)) twice-contained-requires returns
-    (λ c κs. few (counted (c .before .before .before .before .before))) levels-requires joined-bytes-requires returns-2)
+    tie.close (tie.spec (λ c κs. search needs) (λ c κs. few c) (λ c κs. search needs) (λ c κs. few (c .before .before)) add-pairs-requires
+    (λ c κs. few (counted c)) twice-contained-requires returns (λ c κs. few (counted (c .before .before .before .before .before))) levels-requires
+    joined-bytes-requires returns-2)
