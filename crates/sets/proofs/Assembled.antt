@@ -19,7 +19,7 @@ use Rattle.lists.specs.Some.{some}
 use Rattle.sets.specs.Sets.{paired, pair, pairsOf, isPair, witnessed, isPart, withParts, allPairs, oneInAll, inLevel, joined, withLevels}
 use Rattle.sets.specs.Sets.{overlapping, containing, isSet}
 use lib.Pow.{pow-mono}
-use Rattle.sets.specs.Steps.{twiceContained, adopted}
+use Rattle.sets.specs.Steps.{twiceContained, adopted, joinedBelow}
 use Rattle.sets.proofs.Marks.{zeros, marks, marked-again}
 use Rattle.sets.proofs.Singles.{pair-beyond, adopter-parts}
 use Rattle.sets.proofs.Taken.{part-agree}
@@ -120,19 +120,29 @@ module _ (n : ℕ) (isSingle isAdopters : ℕ → Bool) (meets contains : ℕ �
           (λ S h. sym (nothing-joins n found (overlapping n found) (containing n contains) S h (same ∙ none)))
 
       -- else the masks that join
-      pub assembled : (O L R : List ℕ)
+      pub assembled : (O R : List ℕ)
           → O ≡ written (overlapping n (stands F)) n (zeros 10)
-          → L ≡ written (λ S. byte (joined n (stands F) (λ i. getD O i 0) (λ i. getD C i 0) S)) (2 ^ n) (zeros 1024)
-          → R ≡ written (λ S. byte (stands F S || stands L S)) (2 ^ n) F
+          → R ≡ marked (joinedBelow n (stands F) (λ i. getD O i 0) (λ i. getD C i 0) (2 ^ n)) F
           → R ≡ written (λ S. byte (isSet n isSingle isAdopters meets contains S)) (2 ^ n) (zeros 1024)
       unfolding isSet
-      assembled O L R eO eL eR =
+      assembled O R eO eR =
           let sayF : (T : ℕ) → T < 2 ^ n → stands F T ≡ found T = λ T h. ap (λ (l : List ℕ). stands l T) eF ∙ says found (2 ^ n) T (zeros 1024) h in
           let over : (i : ℕ) → i < n → getD O i 0 ≡ overlapping n found i =
           λ i h. ap (λ (l : List ℕ). getD l i 0) eO ∙ written-before (overlapping n (stands F)) n i (zeros 10) 0 h ∙ overlapping-agree n (stands F) found sayF i in
-          let sayL : (T : ℕ) → T < 2 ^ n → stands L T ≡ joined n found (overlapping n found) (containing n contains) T =
-          λ T h. ap (λ (l : List ℕ). stands l T) eL ∙ says (joined n (stands F) (λ i. getD O i 0) (λ i. getD C i 0)) (2 ^ n) T (zeros 1024) h
-          ∙ level-agree n (stands F) found sayF (λ i. getD O i 0) (overlapping n found) (λ i. getD C i 0) (containing n contains) over cont (ones T - 2) T h in
-          eR ∙ ap (written (λ S. byte (stands F S || stands L S)) (2 ^ n)) eF
-          ∙ written-again (λ S. byte (found S)) (λ S. byte (stands F S || stands L S)) (2 ^ n) (zeros 1024)
-          ∙ agree (λ S. stands F S || stands L S) (withLevels n found (overlapping n found) (containing n contains)) (λ S h. ap₂ _||_ (sayF S h) (sayL S h))
+          let o : ℕ → ℕ = λ i. getD O i 0 in
+          let c : ℕ → ℕ = λ i. getD C i 0 in
+          eR ∙ ap (marked (joinedBelow n (stands F) o c (2 ^ n))) (eF ∙ sym (marks below found (2 ^ n) rows within without))
+          ∙ marked-again below (joinedBelow n (stands F) o c (2 ^ n)) (zeros 1024)
+          ∙ marks (λ S. below S || joinedBelow n (stands F) o c (2 ^ n) S) (withLevels n found (overlapping n found) (containing n contains)) (2 ^ n) rows
+          (λ S h. ap₂ _||_ (within S h) (ap (λ (b : Bool). b && joined n (stands F) o c S) (lt-ltb S (2 ^ n) h)
+          ∙ level-agree n (stands F) found sayF o (overlapping n found) c (containing n contains) over cont (ones S - 2) S h))
+          (λ S h. ap₂ _||_ (without S h) (ap (λ (b : Bool). b && joined n (stands F) o c S) (le-ltb S (2 ^ n) h)))
+        where
+          below : ℕ → Bool
+          below S = ltb S (2 ^ n) && found S
+
+          within : (S : ℕ) → S < 2 ^ n → below S ≡ found S
+          within S h = ap (λ (b : Bool). b && found S) (lt-ltb S (2 ^ n) h)
+
+          without : (S : ℕ) → 2 ^ n ≤ S → below S ≡ false
+          without S h = ap (λ (b : Bool). b && found S) (le-ltb S (2 ^ n) h)

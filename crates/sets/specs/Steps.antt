@@ -35,6 +35,10 @@ module _ (n : ℕ) (found : ℕ → Bool) (overlapping containing : ℕ → ℕ)
   abbrev pub joiningOf : ℕ → ℕ → Bool
   joiningOf M S = some n (λ i. eqb S (withHead n M i) && (not (inSet M i) && joins (withHead n M i)))
 
-  -- S is a mask below m of its level, or joins from one
-  abbrev pub levelBelow : ℕ → ℕ → Bool
-  levelBelow m S = some m (λ M. joined n found overlapping containing M && (eqb S M || joiningOf M S))
+  -- S joins from a mask below m
+  abbrev pub joiningBelow : ℕ → ℕ → Bool
+  joiningBelow m S = some m (λ M. joined n found overlapping containing M && joiningOf M S)
+
+  -- S is a mask below m of its level
+  abbrev pub joinedBelow : ℕ → ℕ → Bool
+  joinedBelow m S = ltb S m && joined n found overlapping containing S

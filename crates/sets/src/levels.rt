@@ -11,10 +11,10 @@ ghost use Rattle.masks.specs.Mask.{inSet, withoutHead, subset, every};
 ghost use Rattle.masks.specs.Presence.{byte, stands};
 ghost use Rattle.lists.specs.Some.{some};
 ghost use Rattle.lists.specs.Written.{written};
-ghost use Rattle.sets.specs.Sets.{joined, overlapping, containing};
+ghost use Rattle.sets.specs.Sets.{overlapping, containing};
 ghost use Rattle.sets.specs.Regions.{containsAt};
 ghost use Rattle.sets.specs.Marked.{marked};
-ghost use Rattle.sets.specs.Steps.{twiceContained, joins, joiningOf};
+ghost use Rattle.sets.specs.Steps.{twiceContained, joins, joiningOf, joinedBelow};
 
 // The heads whose pair with head i is found.
 fn overlapping_head(found: &[u8; 1024], i: usize, n: usize) -> usize
@@ -221,26 +221,28 @@ fn in_level(found: u8, level: u8, s: usize) -> bool
     level == 1
 }
 
-// 5. Level by level, in one pass from the first mask on: a mask with one head more is a larger number, and is looked at later.
-pub(crate) fn levels(
-    found: &[u8; 1024],
+// 5. Level by level, in one pass from the first mask on: a mask with one head more is a larger number, and is looked at later. A mask of a
+// level is marked as found when the pass gets there, so that the masks yet to come are as they were found.
+pub(crate) fn add_levels(
+    found: &mut [u8; 1024],
     overlapping: &[usize; 10],
     containing: &[usize; 10],
     twice: usize,
     n: usize,
-) -> [u8; 1024]
+)
     requires { ⌜ (n ≤ 10) × (twice ≡ twiceContained n (λ i. getD (now containing) i 0)) ⌝ }
-    ensures { λ r. ⌜ r ≡ written (λ S. byte (joined n (stands (now (found .entry))) (λ i. getD (now (overlapping .entry)) i 0) (λ i. getD (now (containing .entry)) i 0) S)) (2 ^ n) (replicate 1024 0) ⌝ }
+    ensures { λ r.
+        ⌜ now (found .exit) ≡
+        marked (joinedBelow n (stands (now (found .entry))) (λ i. getD (now (overlapping .entry)) i 0) (λ i. getD (now (containing .entry)) i 0) (2 ^ n)) (now (found .entry)) ⌝ }
 {
     let mut level = [0u8; 1024];
     let masks = 1usize << n;
     let mut s: usize = 0;
     while s < masks {
         if in_level(found[s], level[s], s) {
-            level[s] = 1;
+            found[s] = 1;
             add_joining(&mut level, found, overlapping, containing, twice, s, n);
         }
         s += 1;
     }
-    level
 }

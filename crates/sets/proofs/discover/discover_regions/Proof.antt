@@ -105,18 +105,13 @@ returns c =
     (con .containing-heads .result) (con .containing-heads .ensures) (sin .add-singles .result) (found-are sin) (sym (twi .twice-contained .ensures) ∙ c .if1 .taken)
     ∙ sets-are (counted pai)
 
-levels-requires : tie.Need-levels-requires
-levels-requires c κs =
+add-levels-requires : tie.Need-add-levels-requires
+add-levels-requires c κs =
     let twi = c .before .before .before .before .before .before in (few (counted (twi .before .before .before)), twi .twice-contained .ensures)
-
-joined-bytes-requires : tie.Need-joined-bytes-requires
-joined-bytes-requires c κs =
-    let twi = c .before .before .before .before .before .before .before .before in few (counted (twi .before .before .before))
 
 returns-2 : tie.Need-returns-2
 returns-2 c =
-    let lev = c .before .before in
-    let ove = lev .before .before .before .before in
+    let ove = c .before .before .before .before in
     let sin = ove .before .before .before .before .before in
     let pai = sin .before in
     let con = pai .before .before .before in
@@ -125,12 +120,11 @@ returns-2 c =
     let p = pointList (a .points) in
     assembled n (isOneHead n) (isAdoptersOf p) (meetsAt p) (containsAt (take n (a .circles))) (few (counted pai)) (one-head-beyond n) (one-head-few n)
     (con .containing-heads .result) (con .containing-heads .ensures) (sin .add-singles .result) (found-are sin)
-    (ove .overlapping-heads .result) (lev .levels .result) (c .joined-bytes .result)
-    (ove .overlapping-heads .ensures) (lev .levels .ensures) (c .joined-bytes .ensures)
+    (ove .overlapping-heads .result) (c .add-levels .last .0) (ove .overlapping-heads .ensures) (c .add-levels .ensures)
     ∙ sets-are (counted pai)
 
 pub discover-regions-spec : {M : Type 1} → statement M
 discover-regions-spec =
     tie.close (tie.spec (λ c κs. search needs) (λ c κs. few c) (λ c κs. search needs) (λ c κs. few (c .before .before)) add-pairs-requires
-    (λ c κs. few (counted c)) twice-contained-requires returns (λ c κs. few (counted (c .before .before .before .before .before))) levels-requires
-    joined-bytes-requires returns-2)
+    (λ c κs. few (counted c)) twice-contained-requires returns (λ c κs. few (counted (c .before .before .before .before .before))) add-levels-requires
+    returns-2)
