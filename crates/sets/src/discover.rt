@@ -4,10 +4,9 @@ use crate::levels::add_levels;
 use crate::levels::containing_heads;
 use crate::levels::overlapping_heads;
 use crate::levels::twice_contained;
-use crate::witnessed::add_adopters;
 use crate::witnessed::add_pairs;
+use crate::witnessed::add_points;
 use crate::witnessed::add_singles;
-use crate::witnessed::meeting_heads;
 use geometry::circle::Circle;
 use intersections::members::at_most_ten;
 use intersections::points::Intersections;
@@ -21,11 +20,10 @@ pub fn discover_regions(circles: [Circle; 10], points: Intersections, n_sets: us
     ensures { λ r. ⌜ r ≡ setBytes (take «n_sets» circles) (pointList points) ⌝ }
 {
     let n = at_most_ten(n_sets);
-    let none = [0u8; 1024];
-    let adopted = add_adopters(none, points, n);
-    let meeting = meeting_heads(points);
+    let mut pairs = [0u8; 1024];
+    let meeting = add_points(&mut pairs, points, n);
     let containing = containing_heads(circles, n);
-    let pairs = add_pairs(adopted, &meeting, &containing, n);
+    add_pairs(&mut pairs, &meeting, &containing, n);
     let mut found = add_singles(pairs, n);
     let twice = twice_contained(&containing, n);
     // No mask joins a level.

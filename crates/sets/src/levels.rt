@@ -57,22 +57,6 @@ fn contains(circle: Circle, other: Circle) -> bool
     circle.contains(other)
 }
 
-// The heads that contain head k.
-fn containing_head(circles: [Circle; 10], k: usize, n: usize) -> usize
-    requires { ⌜ (n ≤ 10) × (k < n) ⌝ }
-    ensures { λ r. ⌜ r ≡ containing n (containsAt (take n circles)) k ⌝ }
-{
-    let mut mask: usize = 0;
-    let mut j: usize = 0;
-    while j < n {
-        if contains(circles[j], circles[k]) {
-            mask = mask | 1 << j;
-        }
-        j += 1;
-    }
-    mask
-}
-
 // For each head the heads that contain it.
 pub(crate) fn containing_heads(circles: [Circle; 10], n: usize) -> [usize; 10]
     requires { ⌜ n ≤ 10 ⌝ }
@@ -81,7 +65,14 @@ pub(crate) fn containing_heads(circles: [Circle; 10], n: usize) -> [usize; 10]
     let mut heads = [0usize; 10];
     let mut k: usize = 0;
     while k < n {
-        let mask = containing_head(circles, k, n);
+        let mut mask: usize = 0;
+        let mut j: usize = 0;
+        while j < n {
+            if contains(circles[j], circles[k]) {
+                mask = mask | 1 << j;
+            }
+            j += 1;
+        }
         heads[k] = mask;
         k += 1;
     }

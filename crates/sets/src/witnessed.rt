@@ -50,29 +50,13 @@ fn add_adopters_of(found: &mut [u8; 1024], mask: usize, n: usize)
     }
 }
 
-// 2. Every adopter mask, and 4. each mask of three or more with one head taken away: no other mask found so far has three.
-pub(crate) fn add_adopters(found: [u8; 1024], points: Intersections, n: usize) -> [u8; 1024]
+// 2. Every adopter mask, and 4. each mask of three or more with one head taken away: no other mask found so far has three. The answer is for
+// each head the heads that it shares a meeting point with: a copy of the points is long, so that they are read here alone.
+pub(crate) fn add_points(found: &mut [u8; 1024], points: Intersections, n: usize) -> [usize; 10]
     requires { ⌜ n ≤ 10 ⌝ }
-    ensures { λ r. ⌜ r ≡ marked (adopted n (isAdoptersOf (pointList points))) found ⌝ }
-{
-    let mut bytes = found;
-    let count = points.n;
-    let mut k: usize = 0;
-    while k < 90 {
-        if count <= k {
-            return bytes;
-        }
-        let q = points.all[k];
-        let mask = q.adopters;
-        add_adopters_of(&mut bytes, mask, n);
-        k += 1;
-    }
-    bytes
-}
-
-// For each head the heads that it shares a meeting point with.
-pub(crate) fn meeting_heads(points: Intersections) -> [usize; 10]
-    ensures { λ r. ⌜ ((i j : ℕ) → i < 10 → j < 10 → inMaskOf r i j ≡ meetsAt (pointList points) i j) ⌝ }
+    ensures { λ r.
+        ⌜ (now (found .exit) ≡ marked (adopted n (isAdoptersOf (pointList points))) (now (found .entry)))
+        × ((i j : ℕ) → i < 10 → j < 10 → inMaskOf r i j ≡ meetsAt (pointList points) i j) ⌝ }
 {
     let mut heads = [0usize; 10];
     let count = points.n;
@@ -82,8 +66,10 @@ pub(crate) fn meeting_heads(points: Intersections) -> [usize; 10]
             return heads;
         }
         let q = points.all[k];
+        let mask = q.adopters;
         let a = q.first;
         let b = q.second;
+        add_adopters_of(found, mask, n);
         if a < 10 {
             if b < 10 {
                 heads[a] = heads[a] | 1 << b;
@@ -133,19 +119,19 @@ fn add_pairs_of(
 
 // 3. Every pair that meets or of which one contains the other, from the masks of the heads that meet and that contain each head.
 pub(crate) fn add_pairs(
-    found: [u8; 1024],
+    found: &mut [u8; 1024],
     meeting: &[usize; 10],
     containing: &[usize; 10],
     n: usize,
-) -> [u8; 1024]
+)
     requires { ⌜ n ≤ 10 ⌝ }
-    ensures { λ r. ⌜ r ≡ marked (isPair n (inMaskOf (now (meeting .entry))) (λ a b. inMaskOf (now (containing .entry)) b a)) found ⌝ }
+    ensures { λ r.
+        ⌜ now (found .exit) ≡
+        marked (isPair n (inMaskOf (now (meeting .entry))) (λ a b. inMaskOf (now (containing .entry)) b a)) (now (found .entry)) ⌝ }
 {
-    let mut bytes = found;
     let mut i: usize = 0;
     while i < n {
-        add_pairs_of(&mut bytes, meeting, containing, i, n);
+        add_pairs_of(found, meeting, containing, i, n);
         i += 1;
     }
-    bytes
 }

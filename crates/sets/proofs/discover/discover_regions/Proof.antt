@@ -27,31 +27,31 @@ few : (c : tie.After-at-most-ten) → c .at-most-ten .result ≤ 10
 few c = omega (arith, c .at-most-ten .ensures)
 
 abbrev counted : tie.After-add-pairs → tie.After-at-most-ten
-counted c = c .before .before .before .before .before .before
+counted c = c .before .before .before .before .before .before .before
 
 add-pairs-requires : tie.Need-add-pairs-requires
-add-pairs-requires c κs = few (c .before .before .before .before .before)
+add-pairs-requires c κs = few (c .before .before .before .before .before .before)
 
 -- there are ten circles
 ten-circles : (c : tie.Start) → length (c .args .circles) ≡ 10
 ten-circles c = search needs
 
 -- the pairs from the masks are those of the circles and points
-pairs-are : (c : tie.After-add-pairs) → let a = counted c .before .args in let n = counted c .at-most-ten .result in c .add-pairs .result
-    ≡ marked (isPair n (meetsAt (pointList (a .points))) (containsAt (take n (a .circles))))
-    (c .before .before .before .before .before .add-adopters .result)
+pairs-are : (c : tie.After-add-pairs) → let a = counted c .before .args in let n = counted c .at-most-ten .result in
+    c .add-pairs .last .0 ≡ marked (isPair n (meetsAt (pointList (a .points))) (containsAt (take n (a .circles))))
+    (c .before .before .before .before .before .add-points .last .0)
 pairs-are c =
-    let con = c .before .before .before in
-    let mee = con .before in
+    let con = c .before .before .before .before in
+    let poi = con .before in
     let a = counted c .before .args in
     let n = counted c .at-most-ten .result in
     let ten : n ≤ 10 = few (counted c) in
     c .add-pairs .ensures
-    ∙ marked-same (isPair n (inMaskOf (mee .meeting-heads .result)) (λ i j. inMaskOf (con .containing-heads .result) j i))
-    (isPair n (meetsAt (pointList (a .points))) (containsAt (take n (a .circles)))) (mee .before .add-adopters .result)
-    (λ S h. pairs-agree n (inMaskOf (mee .meeting-heads .result)) (meetsAt (pointList (a .points)))
+    ∙ marked-same (isPair n (inMaskOf (poi .add-points .result)) (λ i j. inMaskOf (con .containing-heads .result) j i))
+    (isPair n (meetsAt (pointList (a .points))) (containsAt (take n (a .circles)))) (poi .add-points .last .0)
+    (λ S h. pairs-agree n (inMaskOf (poi .add-points .result)) (meetsAt (pointList (a .points)))
     (λ i j. inMaskOf (con .containing-heads .result) j i) (containsAt (take n (a .circles)))
-    (λ i j k l. mee .meeting-heads .ensures i j (omega (arith, ten)) (omega (arith, ten)))
+    (λ i j k l. poi .add-points .ensures .1 i j (omega (arith, ten)) (omega (arith, ten)))
     (λ i j k l. ap (λ (t : List ℕ). inMaskOf t j i) (con .containing-heads .ensures)
     ∙ containing-in n (containsAt (take n (a .circles))) i j k l) S)
 
@@ -61,11 +61,11 @@ found-are : (c : tie.After-add-singles) → let a = counted (c .before) .before 
     (containsAt (take n (a .circles)))) S)) (2 ^ n) (replicate 1024 0)
 found-are c =
     let pai = c .before in
-    let ado = pai .before .before .before .before .before in
+    let poi = pai .before .before .before .before .before in
     let a = counted pai .before .args in
     let n = counted pai .at-most-ten .result in
     let p = pointList (a .points) in
-    c .add-singles .ensures ∙ ap (marked (isOneHead n)) (pairs-are pai ∙ ap (marked (isPair n (meetsAt p) (containsAt (take n (a .circles))))) (ado .add-adopters .ensures))
+    c .add-singles .ensures ∙ ap (marked (isOneHead n)) (pairs-are pai ∙ ap (marked (isPair n (meetsAt p) (containsAt (take n (a .circles))))) (poi .add-points .ensures .0))
     ∙ found-is n (isOneHead n) (isAdoptersOf p) (meetsAt p) (containsAt (take n (a .circles))) (few (counted pai)) (one-head-beyond n) (one-head-few n)
 
 -- the sets of n heads are those of the circles taken
@@ -83,7 +83,7 @@ sets-are c =
 twice-contained-requires : tie.Need-twice-contained-requires
 twice-contained-requires c κs =
     let pai = c .before .before in
-    let con = pai .before .before .before in
+    let con = pai .before .before .before .before in
     let a = counted pai .before .args in
     let n = counted pai .at-most-ten .result in
     let p = pointList (a .points) in (
@@ -97,7 +97,7 @@ returns c =
     let twi = c .before in
     let sin = twi .before .before in
     let pai = sin .before in
-    let con = pai .before .before .before in
+    let con = pai .before .before .before .before in
     let a = counted pai .before .args in
     let n = counted pai .at-most-ten .result in
     let p = pointList (a .points) in
@@ -114,7 +114,7 @@ returns-2 c =
     let ove = c .before .before .before .before in
     let sin = ove .before .before .before .before .before in
     let pai = sin .before in
-    let con = pai .before .before .before in
+    let con = pai .before .before .before .before in
     let a = counted pai .before .args in
     let n = counted pai .at-most-ten .result in
     let p = pointList (a .points) in
@@ -125,6 +125,6 @@ returns-2 c =
 
 pub discover-regions-spec : {M : Type 1} → statement M
 discover-regions-spec =
-    tie.close (tie.spec (λ c κs. search needs) (λ c κs. few c) (λ c κs. search needs) (λ c κs. few (c .before .before)) add-pairs-requires
+    tie.close (tie.spec (λ c κs. search needs) (λ c κs. few (c .before)) (λ c κs. few (c .before .before)) add-pairs-requires
     (λ c κs. few (counted c)) twice-contained-requires returns (λ c κs. few (counted (c .before .before .before .before .before))) add-levels-requires
     returns-2)
