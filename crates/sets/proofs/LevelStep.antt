@@ -212,9 +212,3 @@ joining-later n f g o c s S hs same =
     at i h true e = refl
     at i h false e =
         ap (λ (b : Bool). not b && (allPairs n o (withHead n s i) && oneInAll n c (withHead n s i))) (same (withHead n s i) (more n s i hs h e))
-
--- whether a mask joins, from the three tests
-module _ (n : ℕ) (found : ℕ → Bool) (overlapping containing : ℕ → ℕ) (S : ℕ) where
-  pub joins-by : {a b c : Bool} → found S ≡ a → allPairs n overlapping S ≡ b → oneInAll n containing S ≡ c
-      → (not a && (b && c)) ≡ joins n found overlapping containing S
-  joins-by ea eb ec = sym (ap₂ (λ (x y : Bool). not x && y) ea (ap₂ _&&_ eb ec))

@@ -23,7 +23,7 @@ unfolding isOneHead
 one-head-beyond n S h =
     some-none n (λ i. eqb S (single n i)) (λ i k. ne-eqb S (single n i) (λ e. omega (arith, gather-lt n (λ j. eqb j i))))
 
-ones-single : (n i : ℕ) → i < n → ones (single n i) ≡ 1
+pub ones-single : (n i : ℕ) → i < n → ones (single n i) ≡ 1
 ones-single n i h = ap ones (sym (shifted-single n i h)) ∙ ones-shifted n i h
 
 pub one-head-few : (n S : ℕ) → 3 ≤ ones S → isOneHead n S ≡ false

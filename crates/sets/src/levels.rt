@@ -1,20 +1,21 @@
 // Masks found level by level, each from one of the level below and one head more. Rests on `inLevel` of specs/Sets.antt and on specs/Steps.antt.
 use geometry::circle::Circle;
 ghost use mathlib.Core.Path.{_≡_};
-ghost use mathlib.Core.Bool.{cond, not, _&&_, _||_};
+ghost use mathlib.Core.Bool.{true, cond, not, _&&_};
 ghost use Prim.Native.Nat.{ℕ, _≤_, _<_, _^_};
 ghost use lib.Count.{ones};
 ghost use lib.Dec.{eqb};
 ghost use lib.ListN.{getD, replicate, take};
 ghost use Rattle.geometry.specs.Circle as spec;
-ghost use Rattle.masks.specs.Mask.{inSet, withoutHead, subset, every};
-ghost use Rattle.masks.specs.Presence.{byte, stands};
+ghost use Rattle.masks.specs.Mask.{inSet, withoutHead, subset};
+ghost use Rattle.masks.specs.Presence.{stands};
 ghost use Rattle.lists.specs.Some.{some};
 ghost use Rattle.lists.specs.Written.{written};
-ghost use Rattle.sets.specs.Sets.{overlapping, containing};
+ghost use Rattle.sets.specs.Sets as rule;
+ghost use Rattle.sets.specs.Sets.{overlapping, containing, allPairs, oneInAll};
 ghost use Rattle.sets.specs.Regions.{containsAt};
 ghost use Rattle.sets.specs.Marked.{marked};
-ghost use Rattle.sets.specs.Steps.{twiceContained, joins, joiningOf, joinedBelow};
+ghost use Rattle.sets.specs.Steps.{inMaskOf, twiceContained, joiningOf, joinedBelow};
 
 // The heads whose pair with head i is found.
 fn overlapping_head(found: &[u8; 1024], i: usize, n: usize) -> usize
@@ -95,18 +96,6 @@ pub(crate) fn twice_contained(containing: &[usize; 10], n: usize) -> usize
     mask
 }
 
-// Whether head i is no head of s, or the other heads of s are all in `heads`.
-fn others_in_if(s: usize, i: usize, heads: usize, n: usize) -> bool
-    requires { ⌜ (n ≤ 10) × ((s < 2 ^ n) × (i < n)) ⌝ }
-    ensures { λ r. ⌜ r ≡ (not (inSet s i) || subset n (withoutHead n s i) heads) ⌝ }
-{
-    if s & 1 << i == 0 {
-        return true;
-    }
-    let others = s & !(1 << i);
-    others & heads == others
-}
-
 // Whether head i is a head of s, and the other heads of s are all in `heads`.
 fn others_in(s: usize, i: usize, heads: usize, n: usize) -> bool
     requires { ⌜ (n ≤ 10) × ((s < 2 ^ n) × (i < n)) ⌝ }
@@ -117,21 +106,6 @@ fn others_in(s: usize, i: usize, heads: usize, n: usize) -> bool
     }
     let others = s & !(1 << i);
     others & heads == others
-}
-
-// Whether each head of s overlaps all others.
-fn all_pairs(overlapping: &[usize; 10], s: usize, n: usize) -> bool
-    requires { ⌜ (n ≤ 10) × (s < 2 ^ n) ⌝ }
-    ensures { λ r. ⌜ r ≡ every n (λ i. not (inSet s i) || subset n (withoutHead n s i) (getD (now (overlapping .entry)) i 0)) ⌝ }
-{
-    let mut i: usize = 0;
-    while i < n {
-        if !others_in_if(s, i, overlapping[i], n) {
-            return false;
-        }
-        i += 1;
-    }
-    true
 }
 
 // Whether one head of s is contained in all others.
@@ -149,29 +123,31 @@ fn one_in_all(containing: &[usize; 10], s: usize, n: usize) -> bool
     false
 }
 
-// Whether a mask of three heads or more, with one head more than one of the level below, joins the next level.
+// Whether t, of three heads or more, joins the next level: s, a mask of its level, with a head more that overlaps `heads`. In s each head overlaps
+// all others, so that in t this is asked of that head alone.
 fn joins(
     found: &[u8; 1024],
-    overlapping: &[usize; 10],
+    heads: usize,
     containing: &[usize; 10],
     twice: usize,
     s: usize,
+    t: usize,
     n: usize,
 ) -> bool
-    requires { ⌜ (n ≤ 10) × (s < 2 ^ n) × (3 ≤ ones s) × (twice ≡ twiceContained n (λ i. getD (now containing) i 0)) ⌝ }
-    ensures { λ r. ⌜ r ≡ joins n (stands (now (found .entry))) (λ i. getD (now (overlapping .entry)) i 0) (λ i. getD (now (containing .entry)) i 0) s ⌝ }
+    requires { ⌜ (n ≤ 10) × (s < 2 ^ n) × (t < 2 ^ n) × (3 ≤ ones t) × (twice ≡ twiceContained n (λ i. getD (now containing) i 0)) ⌝ }
+    ensures { λ r. ⌜ r ≡ (not (stands (now (found .entry)) t) && (subset n s heads && oneInAll n (λ i. getD (now (containing .entry)) i 0) t)) ⌝ }
 {
-    if found[s] == 1 {
+    if found[t] == 1 {
         return false;
     }
     // Most masks end here, without a look at each head.
-    if s & twice == 0 {
+    if t & twice == 0 {
         return false;
     }
-    if !all_pairs(overlapping, s, n) {
+    if s & heads != s {
         return false;
     }
-    one_in_all(containing, s, n)
+    one_in_all(containing, t, n)
 }
 
 // The masks of the next level that are s, a mask of its level, and one head more.
@@ -184,7 +160,8 @@ fn add_joining(
     s: usize,
     n: usize,
 )
-    requires { ⌜ (n ≤ 10) × (s < 2 ^ n) × (2 ≤ ones s) × (twice ≡ twiceContained n (λ i. getD (now containing) i 0)) ⌝ }
+    requires { ⌜ (n ≤ 10) × (s < 2 ^ n) × (2 ≤ ones s) × (twice ≡ twiceContained n (λ i. getD (now containing) i 0))
+        × (allPairs n (λ i. getD (now overlapping) i 0) s ≡ true) × ((i j : ℕ) → i < n → j < n → inMaskOf (now overlapping) i j ≡ inMaskOf (now overlapping) j i) ⌝ }
     ensures { λ r. ⌜ now (level .exit) ≡ marked (joiningOf n (stands (now (found .entry))) (λ i. getD (now (overlapping .entry)) i 0) (λ i. getD (now (containing .entry)) i 0) s) (now (level .entry)) ⌝ }
 {
     let mut i: usize = 0;
@@ -193,7 +170,7 @@ fn add_joining(
             let t = s | 1 << i;
             // It is reached from each of the masks with one head less; once it has joined it is not asked again.
             if level[t] != 1 {
-                if joins(found, overlapping, containing, twice, t, n) {
+                if joins(found, overlapping[i], containing, twice, s, t, n) {
                     level[t] = 1;
                 }
             }
@@ -221,7 +198,8 @@ pub(crate) fn add_levels(
     twice: usize,
     n: usize,
 )
-    requires { ⌜ (n ≤ 10) × (twice ≡ twiceContained n (λ i. getD (now containing) i 0)) ⌝ }
+    requires { ⌜ (n ≤ 10) × (twice ≡ twiceContained n (λ i. getD (now containing) i 0))
+        × (now overlapping ≡ written (rule.overlapping n (stands (now found))) n (replicate 10 0)) ⌝ }
     ensures { λ r.
         ⌜ now (found .exit) ≡
         marked (joinedBelow n (stands (now (found .entry))) (λ i. getD (now (overlapping .entry)) i 0) (λ i. getD (now (containing .entry)) i 0) (2 ^ n)) (now (found .entry)) ⌝ }

@@ -107,7 +107,9 @@ returns c =
 
 add-levels-requires : tie.Need-add-levels-requires
 add-levels-requires c κs =
-    let twi = c .before .before .before .before .before .before in (few (counted (twi .before .before .before)), twi .twice-contained .ensures)
+    let ove = c .before .before .before in
+    let twi = ove .before .before .before in
+    (few (counted (twi .before .before .before)), twi .twice-contained .ensures, ove .overlapping-heads .ensures)
 
 returns-2 : tie.Need-returns-2
 returns-2 c =

@@ -13,12 +13,14 @@ use lib.ListN.{getD, set, replicate, length-replicate, getD-replicate}
 use Rattle.masks.specs.Operations.{shifted-is}
 use Rattle.masks.specs.Presence.{stands, byte-stands}
 use Rattle.lists.proofs.Somes.{some-zero}
+use Rattle.lists.proofs.Writing.{written-before}
 use Rattle.sets.specs.Marked.{marked}
-use Rattle.sets.specs.Sets.{joined}
+use Rattle.sets.specs.Sets.{overlapping, joined}
 use Rattle.sets.specs.Steps.{joiningOf, joiningBelow, joinedBelow}
 use Rattle.sets.proofs.Masks.{row-lt}
 use Rattle.sets.proofs.Marks.{zeros, marked-at, marked-none, marked-same}
 use Rattle.sets.proofs.LevelStep.{two-heads, level-test, level-next, level-not, found-next, found-not, as-found, joining-later}
+use Rattle.sets.proofs.Overlapping.{over-turned, level-pairs}
 use Rattle.sets.proofs.levels.add_levels.Statement.{statement}
 use borrow.Author.Needs.{needs}
 use Rattle.sets.proofs.levels.add_levels.Tie as tie
@@ -76,11 +78,20 @@ add-joining-requires c κs =
     let v = c .before .before .before in
     let l = v .before .before .before .loop in
     let b = v .before .before .before .before in
-    let a = b .args in (
+    let a = b .args in
+    let f = stands (a .found .now) in
+    let o = heads (a .overlapping .now) in
+    let d = heads (a .containing .now) in
+    let room : l .s < 2 ^ a .n = omega (arith, l .inv .1) in
+    let its = sym (in-its v) ∙ c .before .before .if1 .taken in
+    let over : (i : ℕ) → i < a .n → o i ≡ overlapping (a .n) f i =
+    λ i h. ap (λ (t : List ℕ). getD t i 0) (b .pre .2) ∙ written-before (overlapping (a .n) f) (a .n) i (replicate 10 0) 0 h in (
       l .inv .0,
-      omega (arith, l .inv .1),
-      two-heads (a .n) (stands (a .found .now)) (heads (a .overlapping .now)) (heads (a .containing .now)) (l .s) (sym (in-its v) ∙ c .before .before .if1 .taken),
+      room,
+      two-heads (a .n) f o d (l .s) its,
       b .pre .1,
+      level-pairs (a .n) f o over d (l .s) room its,
+      over-turned (a .n) f o over,
     )
 
 loop-again : tie.Need-loop-again Inv-loop μ-loop
