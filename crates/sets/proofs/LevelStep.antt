@@ -1,35 +1,31 @@
 -- One pass from the first mask on gives the masks of all levels: what joins from a mask is a larger number, and a mask that was not found is in
 -- its level exactly if it joins from one before it.
 use mathlib.Core.Path.{_≡_, refl, sym, ap, ap₂, _∙_, subst}
-use mathlib.Core.Bool.{Bool, true, false, not, cond, _&&_, _||_, or-false, or-assoc, false≢true}
+use mathlib.Core.Bool.{Bool, true, false, not, cond, _&&_, _||_, or-false, false≢true}
 use mathlib.Core.List.{List}
 use Prim.Native.Nat.{ℕ, zero, suc, _+_, _-_, _^_, _≤_, _<_}
 use native.Mathlib.Omega.{arith}
-use borrow.Author.Tests.{eqb-true, eqb-false, eq-eqb, ne-eqb, leb-true, leb-false}
+use borrow.Author.Tests.{eqb-true, eqb-false, eq-eqb, ne-eqb, leb-true, leb-false, ltb-true, ltb-false, lt-ltb, le-ltb}
 use lib.Bits.{bitOr}
 use lib.Count.{ones}
-use lib.Dec.{eqb, leb}
-use lib.ListN.{set}
+use lib.Dec.{eqb, leb, ltb}
+use lib.ListN.{getD, set}
 use Rattle.masks.specs.Mask.{inSet, withHead, withoutHead, shifted}
 use Rattle.masks.specs.Operations.{zero-of-in}
 use Rattle.masks.specs.Gather.{gather-lt, or-withHead}
-use Rattle.masks.specs.Size.{ones-with}
 use Rattle.masks.specs.Subset.{and-both, with-gt}
 use Rattle.lists.specs.Some.{some}
 use Rattle.lists.proofs.Somes.{some-next, some-of, some-none, some-cong}
 use Rattle.sets.specs.Marked.{marked}
 use Rattle.sets.specs.Sets.{allPairs, oneInAll, inLevel, joined}
-use Rattle.sets.specs.Steps.{joins, joiningOf, levelBelow}
-use Rattle.sets.proofs.Masks.{ones-less, less}
-use Rattle.sets.proofs.Marks.{mark-next, marked-again, marked-same}
+use Rattle.sets.specs.Steps.{joins, joiningOf, joiningBelow, joinedBelow}
+use Rattle.sets.proofs.Masks.{ones-less, ones-more, less}
+use Rattle.sets.proofs.Marks.{mark-next, marked-again, marked-same, marked-not}
 use Rattle.sets.proofs.Taken.{and-no, same-truth, some-then, with-without, has, lacks, without-with-it, not-yes}
 
--- a mask is smaller than with a head that it lacks, and has one head less
+-- a mask is smaller than with a head that it lacks
 more : (n M i : ℕ) → M < 2 ^ n → i < n → inSet M i ≡ false → M < withHead n M i
 more n M i hm h e = subst (λ (T : ℕ). M < T) (or-withHead n M i hm h) (with-gt n M i h (zero-of-in M i e))
-
-ones-more : (n M i : ℕ) → M < 2 ^ n → i < n → inSet M i ≡ false → ones (withHead n M i) ≡ suc (ones M)
-ones-more n M i hm h e = ap ones (sym (or-withHead n M i hm h)) ∙ ones-with n M i h (zero-of-in M i e)
 
 module _ (n : ℕ) (found : ℕ → Bool) (overlapping containing : ℕ → ℕ) where
   abbrev inIts : ℕ → Bool
@@ -42,7 +38,7 @@ module _ (n : ℕ) (found : ℕ → Bool) (overlapping containing : ℕ → ℕ)
   from = joiningOf n found overlapping containing
 
   -- a mask of a level has two heads or more
-  two-heads : (S : ℕ) → inIts S ≡ true → 2 ≤ ones S
+  pub two-heads : (S : ℕ) → inIts S ≡ true → 2 ≤ ones S
   unfolding inLevel
   two-heads S e = go (leb 2 (ones S)) refl
     where
@@ -54,7 +50,7 @@ module _ (n : ℕ) (found : ℕ → Bool) (overlapping containing : ℕ → ℕ)
           ∙ sym (ap (λ (d : ℕ). inLevel n found overlapping containing d S) z) ∙ e))
 
   -- in its level, of a mask of three heads or more
-  is-more : (S : ℕ) → S < 2 ^ n → 3 ≤ ones S
+  pub is-more : (S : ℕ) → S < 2 ^ n → 3 ≤ ones S
       → inIts S ≡ (not (found S) && (allPairs n overlapping S && (oneInAll n containing S && some n (λ i. inSet S i && inIts (withoutHead n S i)))))
   unfolding inLevel
   is-more S hs h =
@@ -72,7 +68,7 @@ module _ (n : ℕ) (found : ℕ → Bool) (overlapping containing : ℕ → ℕ)
       at i k false e = refl
 
   -- of fewer
-  is-few : (S : ℕ) → ones S ≤ 2 → inIts S ≡ (eqb (ones S) 2 && found S)
+  pub is-few : (S : ℕ) → ones S ≤ 2 → inIts S ≡ (eqb (ones S) 2 && found S)
   unfolding inLevel
   is-few S h =
       let z : ones S - 2 ≡ 0 = omega (arith, h) in
@@ -97,15 +93,11 @@ module _ (n : ℕ) (found : ℕ → Bool) (overlapping containing : ℕ → ℕ)
       (ap₂ _&&_ (has n M i h) (ap inIts (sym (without-with-it n M i hm out)) ∙ e))))))
 
   -- a mask of a level that was not found is one of the level below with one head more
-  joined-base : (S : ℕ) → S < 2 ^ n → found S ≡ false → inIts S ≡ true → some S (λ M. inIts M && (eqb S M || from M S)) ≡ true
+  joined-base : (S : ℕ) → S < 2 ^ n → found S ≡ false → inIts S ≡ true → some S (λ M. inIts M && from M S) ≡ true
   joined-base S hs f e = go (leb 3 (ones S)) refl
     where
       whole : Bool
-      whole = some S (λ M. inIts M && (eqb S M || from M S))
-
-      or-right : (a : Bool) {b : Bool} → b ≡ true → (a || b) ≡ true
-      or-right true k = refl
-      or-right false k = k
+      whole = some S (λ M. inIts M && from M S)
 
       go : (b : Bool) → leb 3 (ones S) ≡ b → whole ≡ true
       go true k =
@@ -120,11 +112,11 @@ module _ (n : ℕ) (found : ℕ → Bool) (overlapping containing : ℕ → ℕ)
           let M = withoutHead n S i in
           let five = and-both (inSet S i) (inIts M) l in
           let back : withHead n M i ≡ S = with-without n S i hs h (five .0) in
-          some-of S (λ M. inIts M && (eqb S M || from M S)) M (less n S i hs h (five .0))
-          (ap₂ _&&_ (five .1) (or-right (eqb S M)
+          some-of S (λ M. inIts M && from M S) M (less n S i hs h (five .0))
+          (ap₂ _&&_ (five .1)
           (some-of n (λ j. eqb S (withHead n M j) && (not (inSet M j) && free (withHead n M j))) i h
           (ap₂ _&&_ (eq-eqb S (withHead n M i) (sym back))
-          (ap₂ _&&_ (ap not (lacks n S i h)) (ap free back ∙ ap₂ _&&_ (two .0) (ap₂ _&&_ (three .0) (four .0)))))))))
+          (ap₂ _&&_ (ap not (lacks n S i h)) (ap free back ∙ ap₂ _&&_ (two .0) (ap₂ _&&_ (three .0) (four .0))))))))
           (four .1)
       go false k =
           absurd (false≢true (sym (is-few S (omega (arith, leb-false 3 (ones S) k)) ∙ and-no (eqb (ones S) 2) (found S) f) ∙ e))
@@ -132,7 +124,7 @@ module _ (n : ℕ) (found : ℕ → Bool) (overlapping containing : ℕ → ℕ)
   -- ---- the pass
 
   -- a mask is in its level by its byte among those found, or by what joined from the masks before it
-  pub level-test : (S : ℕ) → S < 2 ^ n → cond (found S) (eqb (ones S) 2) (levelBelow n found overlapping containing S S) ≡ inIts S
+  pub level-test : (S : ℕ) → S < 2 ^ n → cond (found S) (eqb (ones S) 2) (joiningBelow n found overlapping containing S S) ≡ inIts S
   level-test S hs = go (found S) refl
     where
       and-yes : (a b : Bool) → b ≡ true → a ≡ (a && b)
@@ -147,59 +139,76 @@ module _ (n : ℕ) (found : ℕ → Bool) (overlapping containing : ℕ → ℕ)
       pair-or-not f false k =
           and-yes (eqb (ones S) 2) (found S) f ∙ sym (is-few S (omega (arith, leb-false 3 (ones S) k)))
 
-      go : (b : Bool) → found S ≡ b → cond b (eqb (ones S) 2) (levelBelow n found overlapping containing S S) ≡ inIts S
+      go : (b : Bool) → found S ≡ b → cond b (eqb (ones S) 2) (joiningBelow n found overlapping containing S S) ≡ inIts S
       go true f = pair-or-not f (leb 3 (ones S)) refl
       go false f =
-          same-truth (levelBelow n found overlapping containing S S) (inIts S)
-          (some-then S (λ M. inIts M && (eqb S M || from M S)) (inIts S)
-          (λ M h k. let two = and-both (inIts M) (eqb S M || from M S) k in
-          joined-from M S (omega (arith, h, hs)) (two .0)
-          (sym (ap (λ (b : Bool). b || from M S) (ne-eqb S M (λ e. omega (arith, e, h)))) ∙ two .1)))
+          same-truth (joiningBelow n found overlapping containing S S) (inIts S)
+          (some-then S (λ M. inIts M && from M S) (inIts S)
+          (λ M h k. let two = and-both (inIts M) (from M S) k in joined-from M S (omega (arith, h, hs)) (two .0) (two .1)))
           (joined-base S hs f)
 
-  -- after all masks
-  pub level-all : (S : ℕ) → S < 2 ^ n → levelBelow n found overlapping containing (2 ^ n) S ≡ inIts S
-  level-all S hs =
-      same-truth (levelBelow n found overlapping containing (2 ^ n) S) (inIts S)
-      (some-then (2 ^ n) (λ M. inIts M && (eqb S M || from M S)) (inIts S)
-      (λ M h k. let two = and-both (inIts M) (eqb S M || from M S) k in which M h (two .0) (eqb S M) refl (two .1)))
-      (λ e. some-of (2 ^ n) (λ M. inIts M && (eqb S M || from M S)) S hs
-      (ap₂ _&&_ e (ap (λ (b : Bool). b || from S S) (eq-eqb S S refl))))
-    where
-      which : (M : ℕ) → M < 2 ^ n → inIts M ≡ true → (b : Bool) → eqb S M ≡ b → (b || from M S) ≡ true → inIts S ≡ true
-      which M h e true k l = ap inIts (eqb-true S M k) ∙ e
-      which M h e false k l = joined-from M S h e l
-
-  pub level-beyond : (S : ℕ) → 2 ^ n ≤ S → levelBelow n found overlapping containing (2 ^ n) S ≡ false
-  level-beyond S hs =
-      some-none (2 ^ n) (λ M. inIts M && (eqb S M || from M S))
-      (λ M h. and-no (inIts M) (eqb S M || from M S)
-      (ap₂ _||_ (ne-eqb S M (λ e. omega (arith, e, h, hs)))
-      (some-none n (λ i. eqb S (withHead n M i) && (not (inSet M i) && free (withHead n M i)))
-      (λ i k. ap (λ (b : Bool). b && (not (inSet M i) && free (withHead n M i)))
-      (ne-eqb S (withHead n M i) (λ e. omega (arith, e, hs, gather-lt n (λ j. inSet M j || eqb j i))))))))
-
   module _ (s : ℕ) (l : List ℕ) where
-    next-is : (S : ℕ) → levelBelow n found overlapping containing (s + 1) S ≡ (levelBelow n found overlapping containing s S || (inIts s && (eqb S s || from s S)))
-    next-is S = some-next s (λ M. inIts M && (eqb S M || from M S))
+    -- what joins from one mask more
+    joining-next : (S : ℕ) → joiningBelow n found overlapping containing (s + 1) S ≡ (joiningBelow n found overlapping containing s S || (inIts s && from s S))
+    joining-next S = some-next s (λ M. inIts M && from M S)
 
     pub level-next : inIts s ≡ true
-        → marked (from s) (set (marked (levelBelow n found overlapping containing s) l) s 1) ≡ marked (levelBelow n found overlapping containing (s + 1)) l
+        → marked (from s) (marked (joiningBelow n found overlapping containing s) l) ≡ marked (joiningBelow n found overlapping containing (s + 1)) l
     level-next e =
-        ap (marked (from s)) (mark-next (levelBelow n found overlapping containing s) l s)
-        ∙ marked-again (λ S. levelBelow n found overlapping containing s S || eqb S s) (from s) l
-        ∙ marked-same (λ S. (levelBelow n found overlapping containing s S || eqb S s) || from s S) (levelBelow n found overlapping containing (s + 1)) l
-        (λ S h. or-assoc (levelBelow n found overlapping containing s S) (eqb S s) (from s S)
-        ∙ sym (next-is S ∙ ap (λ (b : Bool). levelBelow n found overlapping containing s S || (b && (eqb S s || from s S))) e))
+        marked-again (joiningBelow n found overlapping containing s) (from s) l
+        ∙ marked-same (λ S. joiningBelow n found overlapping containing s S || from s S) (joiningBelow n found overlapping containing (s + 1)) l
+        (λ S h. sym (joining-next S ∙ ap (λ (b : Bool). joiningBelow n found overlapping containing s S || (b && from s S)) e))
 
-    pub level-not : inIts s ≡ false → marked (levelBelow n found overlapping containing s) l ≡ marked (levelBelow n found overlapping containing (s + 1)) l
+    pub level-not : inIts s ≡ false → marked (joiningBelow n found overlapping containing s) l ≡ marked (joiningBelow n found overlapping containing (s + 1)) l
     level-not e =
-        marked-same (levelBelow n found overlapping containing s) (levelBelow n found overlapping containing (s + 1)) l
-        (λ S h. sym (next-is S ∙ ap (λ (b : Bool). levelBelow n found overlapping containing s S || (b && (eqb S s || from s S))) e
-        ∙ or-false (levelBelow n found overlapping containing s S)))
+        marked-same (joiningBelow n found overlapping containing s) (joiningBelow n found overlapping containing (s + 1)) l
+        (λ S h. sym (joining-next S ∙ ap (λ (b : Bool). joiningBelow n found overlapping containing s S || (b && from s S)) e
+        ∙ or-false (joiningBelow n found overlapping containing s S)))
 
--- whether a mask joins, from the three tests
-module _ (n : ℕ) (found : ℕ → Bool) (overlapping containing : ℕ → ℕ) (S : ℕ) where
-  pub joins-by : {a b c : Bool} → found S ≡ a → allPairs n overlapping S ≡ b → oneInAll n containing S ≡ c
-      → (not a && (b && c)) ≡ joins n found overlapping containing S
-  joins-by ea eb ec = sym (ap₂ (λ (x y : Bool). not x && y) ea (ap₂ _&&_ eb ec))
+    -- one mask more that is marked as found
+    abbrev below : ℕ → ℕ → Bool
+    below = joinedBelow n found overlapping containing
+
+    below-next : (S : ℕ) → below (s + 1) S ≡ (below s S || (eqb S s && inIts s))
+    below-next S = go (eqb S s) refl
+      where
+        past : (b : Bool) → (S ≡ s → ⊥) → ltb S s ≡ b → ltb S (s + 1) ≡ b
+        past true f e = lt-ltb S (s + 1) (omega (arith, ltb-true S s e))
+        past false f e = let h = ltb-false S s e in le-ltb S (s + 1) (omega (arith, h, f))
+
+        go : (b : Bool) → eqb S s ≡ b → below (s + 1) S ≡ (below s S || (b && inIts s))
+        go true e =
+            let same = eqb-true S s e in
+            ap (λ (b : Bool). b && inIts S) (lt-ltb S (s + 1) (omega (arith, same))) ∙ ap inIts same
+            ∙ sym (ap (λ (b : Bool). (b && inIts S) || inIts s) (le-ltb S s (omega (arith, same))))
+        go false e = ap (λ (b : Bool). b && inIts S) (past (ltb S s) (eqb-false S s e) refl) ∙ sym (or-false (below s S))
+
+    pub found-next : inIts s ≡ true → set (marked (below s) l) s 1 ≡ marked (below (s + 1)) l
+    found-next e =
+        mark-next (below s) l s
+        ∙ marked-same (λ S. below s S || eqb S s) (below (s + 1)) l
+        (λ S h. sym (below-next S ∙ ap (λ (b : Bool). below s S || b) (ap (λ (b : Bool). eqb S s && b) e ∙ and-true (eqb S s))))
+      where
+        and-true : (b : Bool) → (b && true) ≡ b
+        and-true true = refl
+        and-true false = refl
+
+    pub found-not : inIts s ≡ false → marked (below s) l ≡ marked (below (s + 1)) l
+    found-not e =
+        marked-same (below s) (below (s + 1)) l
+        (λ S h. sym (below-next S ∙ ap (λ (b : Bool). below s S || b) (and-no (eqb S s) (inIts s) e) ∙ or-false (below s S)))
+
+    -- the masks from m on are as they were
+    pub as-found : (m S : ℕ) → m ≤ S → getD (marked (below m) l) S 0 ≡ getD l S 0
+    as-found m S h = marked-not (below m) l S (ap (λ (b : Bool). b && inIts S) (le-ltb S m h))
+
+-- what joins from s are larger masks, so that other answers for s and the masks before it change nothing
+pub joining-later : (n : ℕ) (f g : ℕ → Bool) (o c : ℕ → ℕ) (s S : ℕ) → s < 2 ^ n → ((T : ℕ) → s < T → f T ≡ g T) → joiningOf n f o c s S ≡ joiningOf n g o c s S
+joining-later n f g o c s S hs same =
+    some-cong n (λ i. eqb S (withHead n s i) && (not (inSet s i) && joins n f o c (withHead n s i)))
+    (λ i. eqb S (withHead n s i) && (not (inSet s i) && joins n g o c (withHead n s i))) (λ i h. ap (λ (b : Bool). eqb S (withHead n s i) && b) (at i h (inSet s i) refl))
+  where
+    at : (i : ℕ) → i < n → (b : Bool) → inSet s i ≡ b → (not b && joins n f o c (withHead n s i)) ≡ (not b && joins n g o c (withHead n s i))
+    at i h true e = refl
+    at i h false e =
+        ap (λ (b : Bool). not b && (allPairs n o (withHead n s i) && oneInAll n c (withHead n s i))) (same (withHead n s i) (more n s i hs h e))

@@ -1,8 +1,8 @@
 -- Laws of presence bytes of which some are set to 1, and of a loop that sets them.
 use mathlib.Core.Path.{_≡_, refl, sym, ap, _∙_}
 use mathlib.Core.Bool.{Bool, true, false, cond, _&&_, _||_, or-false}
-use mathlib.Core.List.{List}
-use Prim.Native.Nat.{ℕ, _+_, _≤_, _<_}
+use mathlib.Core.List.{List, [], _∷_}
+use Prim.Native.Nat.{ℕ, zero, suc, _+_, _≤_, _<_}
 use native.Mathlib.Omega.{arith}
 use borrow.Author.Tests.{eqb-true, eqb-false, ltb-true, ltb-false}
 use lib.Dec.{eqb, ltb}
@@ -22,6 +22,21 @@ length-marked p l = length-tab (λ S. cond (p S) 1 (getD l S 0)) (length l)
 pub marked-at : (p : ℕ → Bool) (l : List ℕ) (S : ℕ) → S < length l → getD (marked p l) S 0 ≡ cond (p S) 1 (getD l S 0)
 unfolding marked
 marked-at p l S h = getD-tab (λ S. cond (p S) 1 (getD l S 0)) (length l) S 0 h
+
+-- a byte that is not marked
+pub marked-not : (p : ℕ → Bool) (l : List ℕ) (S : ℕ) → p S ≡ false → getD (marked p l) S 0 ≡ getD l S 0
+marked-not p l S e = go (ltb S (length l)) refl
+  where
+    past : (m : List ℕ) (T : ℕ) → length m ≤ T → _≡_ {A = ℕ} (getD m T 0) 0
+    past [] T h = refl
+    past (x ∷ m) zero h = absurd (omega arith)
+    past (x ∷ m) (suc T) h = past m T (omega arith)
+
+    go : (b : Bool) → ltb S (length l) ≡ b → getD (marked p l) S 0 ≡ getD l S 0
+    go true k = marked-at p l S (ltb-true S (length l) k) ∙ ap (λ b. cond b 1 (getD l S 0)) e
+    go false k =
+        let h = ltb-false S (length l) k in
+        past (marked p l) S (omega (arith, h, length-marked p l)) ∙ sym (past l S h)
 
 pub marked-same : (p q : ℕ → Bool) (l : List ℕ) → ((S : ℕ) → S < length l → p S ≡ q S) → marked p l ≡ marked q l
 unfolding marked
@@ -58,6 +73,10 @@ mark-next p l v =
     go S h false e =
         getD-set-other (marked p l) v S 1 0 (eqb-false S v e) ∙ marked-at p l S h
         ∙ neither (p S) (getD l S 0) ∙ ap (λ b. cond (p S || b) 1 (getD l S 0)) (sym e)
+
+-- one mark
+pub mark-one : (l : List ℕ) (v : ℕ) → set l v 1 ≡ marked (λ S. eqb S v) l
+mark-one l v = ap (λ (t : List ℕ). set t v 1) (marked-none (λ S. false) l (λ S h. refl)) ∙ mark-next (λ S. false) l v
 
 -- marked twice
 pub marked-again : (p q : ℕ → Bool) (l : List ℕ) → marked q (marked p l) ≡ marked (λ S. p S || q S) l

@@ -9,8 +9,8 @@ use lib.Bits.{bitAnd, bitOr}
 use lib.Dec.{eqb}
 use lib.Pow.{pow-mono, pow-lt}
 use Rattle.masks.specs.Mask.{inSet, single, withHead, withoutHead, shifted, complement}
-use Rattle.masks.specs.Operations.{shifted-is, shifted-lt, in-minus, in-shifted, in-of-zero, in-of-one, zero-by-mask, one-by-mask, without-below, one-of-in}
-use Rattle.masks.specs.Size.{ones-without}
+use Rattle.masks.specs.Operations.{shifted-is, shifted-lt, in-minus, in-shifted, in-of-zero, in-of-one, zero-by-mask, one-by-mask, without-below, one-of-in, zero-of-in}
+use Rattle.masks.specs.Size.{ones-with, ones-without}
 use Rattle.masks.specs.Subset.{without-lt}
 use Rattle.sets.specs.Sets.{pair}
 use Rattle.masks.specs.Gather.{gather-unique, gather-lt, shifted-single, or-withHead, and-withoutHead}
@@ -62,6 +62,10 @@ ones-less n S i hs h e = ap (λ (m : ℕ). suc (ones m)) (sym (and-withoutHead n
 
 pub less : (n S i : ℕ) → S < 2 ^ n → i < n → inSet S i ≡ true → withoutHead n S i < S
 less n S i hs h e = subst (λ (m : ℕ). m < S) (and-withoutHead n S i hs h) (without-lt n S i hs h (one-of-in S i e))
+
+-- S with a head that it lacks: one head more
+pub ones-more : (n S i : ℕ) → S < 2 ^ n → i < n → inSet S i ≡ false → ones (withHead n S i) ≡ suc (ones S)
+ones-more n S i hs h e = ap ones (sym (or-withHead n S i hs h)) ∙ ones-with n S i h (zero-of-in S i e)
 
 -- `1 << i | 1 << j`
 pub pair-at : (n i j : ℕ) → n ≤ 10 → i < n → j < n → bitOr (shifted 64 i) (shifted 64 j) ≡ pair n i j

@@ -1,28 +1,22 @@
--- A mask is a part of a mask found exactly if with one head more it is found; and parts of the masks below m are below m.
+-- One head taken from a mask and put back; and the parts of one mask, and of masks that are found by one of two tests.
 use mathlib.Core.Path.{_≡_, refl, sym, ap, ap₂, _∙_, subst}
 use mathlib.Core.Bool.{Bool, true, false, not, cond, _&&_, _||_, or-false, false≢true}
-use mathlib.Core.List.{List}
 use Prim.Native.Nat.{ℕ, zero, suc, _+_, _^_, _≤_, _<_}
-use native.Mathlib.Nat.{le-refl}
 use native.Mathlib.Omega.{arith}
 use borrow.Author.Tests.{eqb-true, eqb-false, eq-eqb, ne-eqb, le-leb, leb-true}
 use lib.Bits.{bitAnd, bitOr}
 use lib.Count.{ones}
 use lib.Dec.{eqb, leb}
-use lib.ListN.{getD, length}
 use Rattle.masks.specs.Mask.{inSet, gather, withHead, withoutHead, shifted, complement}
 use Rattle.masks.specs.Operations.{one-of-in}
 use Rattle.masks.specs.Gather.{gather-lt, in-gather, gather-unique, or-withHead, and-withoutHead}
 use Rattle.masks.specs.Size.{without-with}
 use Rattle.masks.specs.Subset.{and-both}
 use Rattle.lists.specs.Some.{some}
-use Rattle.lists.proofs.Somes.{some-next, some-of, some-none}
-use Rattle.masks.specs.Presence.{stands}
-use Rattle.sets.specs.Marked.{marked}
+use Rattle.lists.proofs.Somes.{some-cong, some-of, some-none}
 use Rattle.sets.specs.Sets.{isPart}
-use Rattle.sets.specs.Steps.{partOf, partBelow}
-use Rattle.sets.proofs.Masks.{ones-less, less}
-use Rattle.sets.proofs.Marks.{marked-at, marked-again, marked-same}
+use Rattle.sets.specs.Steps.{partOf}
+use Rattle.sets.proofs.Masks.{ones-less, ones-more}
 
 -- ---- tests
 
@@ -42,6 +36,16 @@ some-then (suc n) p q f e = go (p n) refl (some-then n p q (λ i h. f i (omega a
     go true k below = f n (omega arith) k
     go false k below = below (sym (or-false (some n p)) ∙ ap (λ (b : Bool). some n p || b) (sym k) ∙ e)
 
+pub or-swap : (a b c d : Bool) → ((a || b) || (c || d)) ≡ ((a || c) || (b || d))
+or-swap true b c d = refl
+or-swap false true true d = refl
+or-swap false true false d = refl
+or-swap false false c d = refl
+
+pub and-or : (a b c : Bool) → (a && (b || c)) ≡ ((a && b) || (a && c))
+and-or true b c = refl
+and-or false b c = refl
+
 pub and-no : (a b : Bool) → b ≡ false → (a && b) ≡ false
 and-no true b e = e
 and-no false b e = refl
@@ -49,6 +53,12 @@ and-no false b e = refl
 pub not-yes : (a : Bool) → not a ≡ true → a ≡ false
 not-yes true e = sym e
 not-yes false e = refl
+
+-- one of two tests
+some-or : (n : ℕ) (p q : ℕ → Bool) → some n (λ i. p i || q i) ≡ (some n p || some n q)
+unfolding some
+some-or zero p q = refl
+some-or (suc n) p q = ap (λ (b : Bool). b || (p n || q n)) (some-or n p q) ∙ or-swap (some n p) (some n q) (p n) (q n)
 
 -- ---- one head taken away, and put back
 
@@ -88,77 +98,72 @@ without-with-it n S i hs e =
 
 -- ---- parts
 
-module _ (n : ℕ) (found : ℕ → Bool) (S : ℕ) (hs : S < 2 ^ n) where
-  -- from the mask and the head that is taken away
-  to-part : (M i : ℕ) → M < 2 ^ n → i < n → found M ≡ true → leb 3 (ones M) ≡ true → S ≡ withoutHead n M i → inSet M i ≡ true → isPart n found S ≡ true
+module _ (n : ℕ) (f g : ℕ → Bool) (S : ℕ) where
+  -- of masks found by tests that agree on masks of n heads
+  pub part-agree : ((T : ℕ) → T < 2 ^ n → f T ≡ g T) → isPart n f S ≡ isPart n g S
   unfolding isPart
-  to-part M i hm h f l e k =
+  part-agree same =
+      ap (λ (t : Bool). leb 2 (ones S) && t)
+      (some-cong n (λ i. not (inSet S i) && f (withHead n S i)) (λ i. not (inSet S i) && g (withHead n S i))
+      (λ i k. ap (λ (b : Bool). not (inSet S i) && b) (same (withHead n S i) (gather-lt n _))))
+
+  -- of masks found by one of two tests
+  pub part-or : isPart n (λ T. f T || g T) S ≡ (isPart n f S || isPart n g S)
+  unfolding isPart
+  part-or =
+      ap (λ (t : Bool). leb 2 (ones S) && t)
+      (some-cong n (λ i. not (inSet S i) && (f (withHead n S i) || g (withHead n S i)))
+      (λ i. (not (inSet S i) && f (withHead n S i)) || (not (inSet S i) && g (withHead n S i)))
+      (λ i k. and-or (not (inSet S i)) (f (withHead n S i)) (g (withHead n S i)))
+      ∙ some-or n (λ i. not (inSet S i) && f (withHead n S i)) (λ i. not (inSet S i) && g (withHead n S i)))
+      ∙ and-or (leb 2 (ones S)) (some n (λ i. not (inSet S i) && f (withHead n S i))) (some n (λ i. not (inSet S i) && g (withHead n S i)))
+
+-- of one mask M
+module _ (n S M : ℕ) where
+  -- from the head that is taken away
+  to-part : (i : ℕ) → M < 2 ^ n → i < n → leb 3 (ones M) ≡ true → S ≡ withoutHead n M i → inSet M i ≡ true → isPart n (λ T. eqb T M) S ≡ true
+  unfolding isPart
+  to-part i hm h l e k =
       let same : ones S ≡ ones (withoutHead n M i) = ap ones e in
       ap₂ _&&_ (le-leb 2 (ones S) (omega (arith, leb-true 3 (ones M) l, ones-less n M i hm h k, same)))
-      (some-of n (λ j. not (inSet S j) && found (withHead n S j)) i h
+      (some-of n (λ j. not (inSet S j) && eqb (withHead n S j) M) i h
       (ap₂ _&&_ (ap not (ap (λ (T : ℕ). inSet T i) e ∙ lacks n M i h))
-      (ap (λ (T : ℕ). found (withHead n T i)) e ∙ ap found (with-without n M i hm h k) ∙ f)))
+      (ap (λ (T : ℕ). eqb (withHead n T i) M) e ∙ eq-eqb (withHead n (withoutHead n M i) i) M (with-without n M i hm h k))))
 
-  -- to the mask with the head put back
-  from-part : (i : ℕ) → i < n → leb 2 (ones S) ≡ true → not (inSet S i) ≡ true → found (withHead n S i) ≡ true → partBelow n found (2 ^ n) S ≡ true
-  from-part i h l k f =
-      let M = withHead n S i in
-      let out : inSet S i ≡ false = not-yes (inSet S i) k in
-      let back : S ≡ withoutHead n M i = without-with-it n S i hs out in
-      let same : ones S ≡ ones (withoutHead n M i) = ap ones back in
-      some-of (2 ^ n) (λ M. (found M && leb 3 (ones M)) && partOf n M S) M (gather-lt n _)
-      (ap₂ _&&_ (ap₂ _&&_ f (le-leb 3 (ones M) (omega (arith, leb-true 2 (ones S) l, ones-less n M i (gather-lt n _) h (has n S i h), same))))
-      (some-of n (λ j. eqb S (withoutHead n M j) && inSet M j) i h (ap₂ _&&_ (eq-eqb S (withoutHead n M i) back) (has n S i h))))
+  -- to the head that is put back
+  from-part : (i : ℕ) → S < 2 ^ n → i < n → leb 2 (ones S) ≡ true → inSet S i ≡ false → withHead n S i ≡ M → (leb 3 (ones M) && partOf n M S) ≡ true
+  from-part i hs h l out e =
+      let in-m : inSet M i ≡ true = ap (λ (T : ℕ). inSet T i) (sym e) ∙ has n S i h in
+      let back : S ≡ withoutHead n M i = without-with-it n S i hs out ∙ ap (λ (T : ℕ). withoutHead n T i) e in
+      let same : ones (withHead n S i) ≡ ones M = ap ones e in
+      ap₂ _&&_ (le-leb 3 (ones M) (omega (arith, leb-true 2 (ones S) l, ones-more n S i hs h out, same)))
+      (some-of n (λ j. eqb S (withoutHead n M j) && inSet M j) i h (ap₂ _&&_ (eq-eqb S (withoutHead n M i) back) in-m))
 
-  pub part-is : partBelow n found (2 ^ n) S ≡ isPart n found S
+  pub part-of-is : S < 2 ^ n → M < 2 ^ n → isPart n (λ T. eqb T M) S ≡ (leb 3 (ones M) && partOf n M S)
   unfolding isPart
-  part-is =
-      same-truth (partBelow n found (2 ^ n) S) (isPart n found S)
-      (some-then (2 ^ n) (λ M. (found M && leb 3 (ones M)) && partOf n M S) (isPart n found S)
-      (λ M hm e. let two = and-both (found M && leb 3 (ones M)) (partOf n M S) e in
-      let three = and-both (found M) (leb 3 (ones M)) (two .0) in
-      some-then n (λ i. eqb S (withoutHead n M i) && inSet M i) (isPart n found S)
-      (λ i h k. let four = and-both (eqb S (withoutHead n M i)) (inSet M i) k in
-      to-part M i hm h (three .0) (three .1) (eqb-true S (withoutHead n M i) (four .0)) (four .1)) (two .1)))
-      (λ e. let two = and-both (leb 2 (ones S)) (some n (λ i. not (inSet S i) && found (withHead n S i))) e in
-      some-then n (λ i. not (inSet S i) && found (withHead n S i)) (partBelow n found (2 ^ n) S)
-      (λ i h k. let three = and-both (not (inSet S i)) (found (withHead n S i)) k in from-part i h (two .0) (three .0) (three .1)) (two .1))
+  part-of-is hs hm =
+      same-truth (isPart n (λ T. eqb T M) S) (leb 3 (ones M) && partOf n M S)
+      (λ e. let two = and-both (leb 2 (ones S)) (some n (λ i. not (inSet S i) && eqb (withHead n S i) M)) e in
+      some-then n (λ i. not (inSet S i) && eqb (withHead n S i) M) (leb 3 (ones M) && partOf n M S)
+      (λ i h k. let three = and-both (not (inSet S i)) (eqb (withHead n S i) M) k in
+      from-part i hs h (two .0) (not-yes (inSet S i) (three .0)) (eqb-true (withHead n S i) M (three .1))) (two .1))
+      (λ e. let two = and-both (leb 3 (ones M)) (partOf n M S) e in
+      some-then n (λ i. eqb S (withoutHead n M i) && inSet M i) (isPart n (λ T. eqb T M) S)
+      (λ i h k. let three = and-both (eqb S (withoutHead n M i)) (inSet M i) k in
+      to-part i hm h (two .0) (eqb-true S (withoutHead n M i) (three .0)) (three .1)) (two .1))
 
--- no part of a mask below m is m or more
-pub part-below : (n : ℕ) (found : ℕ → Bool) (m S : ℕ) → m ≤ 2 ^ n → m ≤ S → partBelow n found m S ≡ false
-part-below n found m S hm hs =
-    some-none m (λ M. (found M && leb 3 (ones M)) && partOf n M S)
-    (λ M h. and-no (found M && leb 3 (ones M)) (partOf n M S)
-    (some-none n (λ i. eqb S (withoutHead n M i) && inSet M i) (λ i k. at M h i k (inSet M i) refl)))
-  where
-    at : (M : ℕ) → M < m → (i : ℕ) → i < n → (b : Bool) → inSet M i ≡ b → (eqb S (withoutHead n M i) && inSet M i) ≡ false
-    at M h i k true e =
-        ap (λ (b : Bool). b && inSet M i) (ne-eqb S (withoutHead n M i) (λ f. omega (arith, f, less n M i (omega (arith, h, hm)) k e)))
-    at M h i k false e = and-no (eqb S (withoutHead n M i)) (inSet M i) e
+  -- with a head more it is a mask of n heads, and so not M
+  pub part-past : 2 ^ n ≤ M → isPart n (λ T. eqb T M) S ≡ false
+  unfolding isPart
+  part-past h =
+      and-no (leb 2 (ones S)) (some n (λ i. not (inSet S i) && eqb (withHead n S i) M))
+      (some-none n (λ i. not (inSet S i) && eqb (withHead n S i) M)
+      (λ i k. and-no (not (inSet S i)) (eqb (withHead n S i) M)
+      (ne-eqb (withHead n S i) M (λ e. omega (arith, e, gather-lt n (λ j. inSet S j || eqb j i))))))
 
--- ---- the pass: one mask more
-
-module _ (n : ℕ) (l : List ℕ) (s : ℕ) where
-  abbrev test : Bool
-  test = stands l s && leb 3 (ones s)
-
-  next-is : (S : ℕ) → partBelow n (stands l) (s + 1) S ≡ (partBelow n (stands l) s S || (test && partOf n s S))
-  next-is S = some-next s (λ M. (stands l M && leb 3 (ones M)) && partOf n M S)
-
-  -- the parts of the mask s, if it has three heads and is found
-  pub parts-next : test ≡ true → marked (partOf n s) (marked (partBelow n (stands l) s) l) ≡ marked (partBelow n (stands l) (s + 1)) l
-  parts-next e =
-      marked-again (partBelow n (stands l) s) (partOf n s) l
-      ∙ marked-same (λ S. partBelow n (stands l) s S || partOf n s S) (partBelow n (stands l) (s + 1)) l
-      (λ S h. sym (next-is S ∙ ap (λ (b : Bool). partBelow n (stands l) s S || (b && partOf n s S)) e))
-
-  pub parts-not : test ≡ false → marked (partBelow n (stands l) s) l ≡ marked (partBelow n (stands l) (s + 1)) l
-  parts-not e =
-      marked-same (partBelow n (stands l) s) (partBelow n (stands l) (s + 1)) l
-      (λ S h. sym (next-is S ∙ ap (λ (b : Bool). partBelow n (stands l) s S || (b && partOf n s S)) e ∙ or-false (partBelow n (stands l) s S)))
-
-  -- byte s is still the one that was found
-  pub as-found : s < length l → s ≤ 2 ^ n → getD (marked (partBelow n (stands l) s) l) s 0 ≡ getD l s 0
-  as-found h k =
-      marked-at (partBelow n (stands l) s) l s h
-      ∙ ap (λ (b : Bool). cond b 1 (getD l s 0)) (part-below n (stands l) s s k (le-refl s))
+  -- the mask without a head is one of n heads
+  pub part-of-past : 2 ^ n ≤ S → partOf n M S ≡ false
+  part-of-past h =
+      some-none n (λ i. eqb S (withoutHead n M i) && inSet M i)
+      (λ i k. ap (λ (b : Bool). b && inSet M i)
+      (ne-eqb S (withoutHead n M i) (λ e. omega (arith, e, gather-lt n (λ j. inSet M j && not (eqb j i))))))

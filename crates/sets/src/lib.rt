@@ -2,5 +2,4 @@
 // Rests on the meeting points of `intersections` and on the laws of masks.
 pub mod discover;
 mod levels;
-mod parts;
 mod witnessed;

@@ -1,42 +1,61 @@
--- `levels::joins`: the three tests, one after another.
-use mathlib.Core.Path.{_≡_, refl, sym, _∙_}
+-- `levels::joins`: the three tests, one after another; where no head is contained twice, the third fails.
+use mathlib.Core.Path.{_≡_, refl, sym, ap, ap₂, _∙_}
+use mathlib.Core.Bool.{Bool, not, _&&_}
 use Prim.Native.Nat.{ℕ}
-use borrow.Author.Tests.{eq-eqb, ne-eqb, not-true, not-false}
+use borrow.Author.Tests.{eq-eqb, ne-eqb}
+use lib.Bits.{bitAnd}
 use lib.ListN.{getD}
+use Rattle.masks.specs.Mask.{subset}
 use Rattle.masks.specs.Presence.{stands}
-use Rattle.sets.specs.Sets.{allPairs, oneInAll}
+use Rattle.masks.specs.Subset.{and-test}
+use Rattle.sets.specs.Sets.{oneInAll}
 use Rattle.sets.proofs.Masks.{row-lt}
-use Rattle.sets.proofs.LevelStep.{joins-by}
+use Rattle.sets.proofs.Taken.{and-no}
+use Rattle.sets.proofs.TwiceContained.{one-in-all-not}
 use Rattle.sets.proofs.levels.joins.Statement.{statement}
 use borrow.Author.Needs.{needs}
 use Rattle.sets.proofs.levels.joins.Tie as tie
 
 element-copy-out-if1 : tie.Need-element-copy-out-if1
-element-copy-out-if1 c = row-lt (c .args .n) (c .args .s) (c .pre .0) (c .pre .1)
+element-copy-out-if1 c = row-lt (c .args .n) (c .args .t) (c .pre .0) (c .pre .2)
+
+-- the answer from those to the three tests
+by-tests : (x y z : Bool) {a b c : Bool} → x ≡ a → y ≡ b → z ≡ c → (not a && (b && c)) ≡ (not x && (y && z))
+by-tests x y z e f g = sym (ap₂ (λ (u v : Bool). not u && v) e (ap₂ _&&_ f g))
+
+abbrev one : tie.Start → Bool
+one c = let a = c .args in oneInAll (a .n) (λ i. getD (a .containing .now) i 0) (a .t)
 
 returns : tie.Need-returns
 returns c =
-    let a = c .before .before .args in
-    joins-by (a .n) (stands (a .found .now)) (λ i. getD (a .overlapping .now) i 0) (λ i. getD (a .containing .now) i 0) (a .s) (eq-eqb _ _ (c .if1 .taken)) refl refl
+    let s = c .before .before in
+    let a = s .args in
+    by-tests (stands (a .found .now) (a .t)) (subset (a .n) (a .s) (a .heads)) (one s) (eq-eqb _ _ (c .if1 .taken)) refl refl
 
 returns-2 : tie.Need-returns-2
-unfolding allPairs
 returns-2 c =
-    let p = c .before in
-    let q = p .before in
-    let a = q .before .before .args in
-    joins-by (a .n) (stands (a .found .now)) (λ i. getD (a .overlapping .now) i 0) (λ i. getD (a .containing .now) i 0) (a .s) (ne-eqb _ _ (q .if1 .left))
-    (sym (p .all-pairs .ensures) ∙ not-true (p .all-pairs .result) (c .if2 .taken)) refl
+    let s = c .before .before .before in
+    let a = s .args in
+    let none = ap (bitAnd (a .t)) (sym (s .pre .4)) ∙ c .if2 .taken in
+    sym (and-no (subset (a .n) (a .s) (a .heads)) _ refl)
+    ∙ by-tests (stands (a .found .now) (a .t)) (subset (a .n) (a .s) (a .heads)) (one s) (ne-eqb _ _ (c .before .if1 .left)) refl
+    (one-in-all-not (a .n) (λ i. getD (a .containing .now) i 0) (a .t) (s .pre .2) (s .pre .3) none)
 
 returns-3 : tie.Need-returns-3
-unfolding allPairs oneInAll
 returns-3 c =
+    let s = c .before .before .before .before in
+    let a = s .args in
+    by-tests (stands (a .found .now) (a .t)) (subset (a .n) (a .s) (a .heads)) (one s) (ne-eqb _ _ (c .before .before .if1 .left))
+    (sym (and-test (a .n) (a .s) (a .heads) (s .pre .1)) ∙ ne-eqb (bitAnd (a .s) (a .heads)) (a .s) (c .if3 .taken)) refl
+
+returns-4 : tie.Need-returns-4
+unfolding oneInAll
+returns-4 c =
     let e = c .before in
-    let p = e .before in
-    let q = p .before in
-    let a = q .before .before .args in
-    joins-by (a .n) (stands (a .found .now)) (λ i. getD (a .overlapping .now) i 0) (λ i. getD (a .containing .now) i 0) (a .s) (ne-eqb _ _ (q .if1 .left))
-    (sym (p .all-pairs .ensures) ∙ not-false (p .all-pairs .result) (e .if2 .left)) (sym (c .one-in-all .ensures))
+    let s = e .before .before .before .before in
+    let a = s .args in
+    by-tests (stands (a .found .now) (a .t)) (subset (a .n) (a .s) (a .heads)) (one s) (ne-eqb _ _ (e .before .before .if1 .left))
+    (sym (and-test (a .n) (a .s) (a .heads) (s .pre .1)) ∙ eq-eqb (bitAnd (a .s) (a .heads)) (a .s) (e .if3 .left)) (sym (c .one-in-all .ensures))
 
 pub joins-spec : {M : Type 1} → statement M
-joins-spec = tie.close (tie.spec element-copy-out-if1 returns (λ c κs. search needs) returns-2 (λ c κs. search needs) returns-3)
+joins-spec = tie.close (tie.spec element-copy-out-if1 returns returns-2 returns-3 (λ c κs. search needs) returns-4)

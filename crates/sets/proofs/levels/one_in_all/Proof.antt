@@ -9,7 +9,6 @@ use Rattle.masks.specs.Mask.{inSet, withoutHead, subset, every}
 use Rattle.masks.specs.Presence.{stands}
 use Rattle.lists.specs.Some.{some}
 use Rattle.lists.proofs.Somes.{some-zero, some-next, some-of}
-use Rattle.sets.proofs.EveryHead.{every-zero, every-next, every-none}
 use Rattle.sets.proofs.levels.one_in_all.Statement.{statement}
 use borrow.Author.Needs.{needs}
 use Rattle.sets.proofs.levels.one_in_all.Tie as tie

@@ -18,18 +18,18 @@ abbrev pairsOfHead : List ℕ → List ℕ → ℕ → ℕ → ℕ → Bool
 pairsOfHead meeting containing n = pairsOf n (inMaskOf meeting) (λ a b. inMaskOf containing b a)
 
 abbrev Inv-loop : tie.InvT-loop
-Inv-loop meeting containing n bytes₀ i₀ bytes i =
-    (n ≤ 10) × (i ≤ n) × (bytes ≡ marked (λ S. some i (λ k. pairsOfHead meeting containing n k S)) bytes₀)
+Inv-loop found₀ meeting containing n i₀ found i =
+    (n ≤ 10) × (i ≤ n) × (found ≡ marked (λ S. some i (λ k. pairsOfHead meeting containing n k S)) found₀)
 
 abbrev μ-loop : tie.MeasureT-loop
-μ-loop meeting containing n bytes₀ i₀ bytes i = n - i
+μ-loop found₀ meeting containing n i₀ found i = n - i
 
 loop-holds : tie.Need-loop-holds Inv-loop μ-loop
 loop-holds c =
     let a = c .args in (
       c .pre,
       omega arith,
-      marked-none _ (a .found)
+      marked-none _ (a .found .now)
           (λ S k. some-zero (λ k. pairsOfHead (a .meeting .now) (a .containing .now) (a .n) k S)),
     )
 
@@ -42,8 +42,8 @@ loop-again c =
     let p : ℕ → ℕ → Bool = λ S k. pairsOfHead (a .meeting .now) (a .containing .now) (a .n) k S in (
       l .inv .0,
       omega arith,
-      c .add-pairs-of .ensures ∙ ap (marked (λ S. p S (l .i))) (l .inv .2) ∙ marked-again (λ S. some (l .i) (p S)) (λ S. p S (l .i)) (a .found)
-          ∙ marked-same (λ S. some (l .i) (p S) || p S (l .i)) (λ S. some (l .i + 1) (p S)) (a .found) (λ S h. sym (some-next (l .i) (p S))),
+      c .add-pairs-of .ensures ∙ ap (marked (λ S. p S (l .i))) (l .inv .2) ∙ marked-again (λ S. some (l .i) (p S)) (λ S. p S (l .i)) (a .found .now)
+          ∙ marked-same (λ S. some (l .i) (p S) || p S (l .i)) (λ S. some (l .i + 1) (p S)) (a .found .now) (λ S h. sym (some-next (l .i) (p S))),
     )
 
 returns : tie.Need-returns Inv-loop μ-loop
@@ -51,7 +51,7 @@ unfolding isPair
 returns c =
     let l = c .before .loop in let a = c .before .before .args in
     let e : l .i ≡ a .n = omega arith in
-    l .inv .2 ∙ ap (λ (m : ℕ). marked (λ S. some m (λ k. pairsOfHead (a .meeting .now) (a .containing .now) (a .n) k S)) (a .found)) e
+    l .inv .2 ∙ ap (λ (m : ℕ). marked (λ S. some m (λ k. pairsOfHead (a .meeting .now) (a .containing .now) (a .n) k S)) (a .found .now)) e
 
 pub add-pairs-spec : {M : Type 1} → statement M
 add-pairs-spec =

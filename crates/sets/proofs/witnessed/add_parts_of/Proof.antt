@@ -1,4 +1,4 @@
--- `parts::add_parts_of` meets its contract. The invariant: s without each of its heads below i is marked.
+-- `witnessed::add_parts_of` meets its contract. The invariant: s without each of its heads below i is marked.
 use mathlib.Core.Path.{_≡_, refl, sym, ap, _∙_}
 use mathlib.Core.Bool.{Bool, _&&_}
 use mathlib.Core.List.{List}
@@ -14,9 +14,9 @@ use Rattle.lists.specs.Some.{some}
 use Rattle.lists.proofs.Somes.{some-zero}
 use Rattle.sets.proofs.Masks.{without-at, without-row, has-at, lacks-at}
 use Rattle.sets.proofs.Marks.{marked-none, mark-if, mark-not}
-use Rattle.sets.proofs.parts.add_parts_of.Statement.{statement}
+use Rattle.sets.proofs.witnessed.add_parts_of.Statement.{statement}
 use borrow.Author.Needs.{needs}
-use Rattle.sets.proofs.parts.add_parts_of.Tie as tie
+use Rattle.sets.proofs.witnessed.add_parts_of.Tie as tie
 
 abbrev Inv-loop : tie.InvT-loop
 Inv-loop found₀ s n i₀ found i =
