@@ -6,3 +6,4 @@ pub mod Set
 pub mod Counted
 pub mod NoArc
 pub mod Identical
+pub mod Measured

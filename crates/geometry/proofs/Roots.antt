@@ -1,4 +1,4 @@
--- The root of a number against another, from comparisons with squares as they are rounded.
+-- A product as it is rounded against another number, and from that the root of a number against another.
 use Prim.{tt}
 use mathlib.Core.Path.{_≡_, refl, sym, ap, _∙_}
 use mathlib.Core.Bool.{Bool, true, false, not, _&&_, false≢true}
@@ -23,7 +23,7 @@ use Rattle.elementary.proofs.root.Squares.{root-most, root-le-float, root-ge-fl
 use Rattle.geometry.specs.Moderate.{twoToThe64, Above}
 
 -- what lies between two finite numbers is finite
-finite-between : (x y z : Float) → T (fits binary64 x) → Finite y → Finite z → lt y x ≡ true → lt x z ≡ true → Finite x
+pub finite-between : (x y z : Float) → T (fits binary64 x) → Finite y → Finite z → lt y x ≡ true → lt x z ≡ true → Finite x
 unfolding lt
 finite-between nan y z t h k d e = absurd (false≢true e)
 finite-between (inf s) y nan t h k d e = absurd (k .number)
@@ -40,10 +40,10 @@ both true false e = absurd (false≢true e)
 both false b e = absurd (false≢true e)
 
 -- 1 + 2^-10
-abbrev justAboveOne : Float
+abbrev pub justAboveOne : Float
 justAboveOne = ofBits binary64 0x3FF0_0400_0000_0000
 
-just-most : Most 2 1074 justAboveOne
+pub just-most : Most 2 1074 justAboveOne
 unfolding mag pow2 ofBits
 just-most = literal-most 0x3FF0_0400_0000_0000 2 1074 tt tt
 
@@ -73,29 +73,33 @@ module _ (x : Float) (t : T (fits binary64 x)) (e : (lt zero64 x && lt x twoToTh
         omega (arith, units-of-lt moderate-finite (top-most .finite) (tests .1), moderate-minus, plus-minus x, plus-minus twoToThe64, top-most .bound);
   }
 
--- The square of a number without a sign, rounded, against another: on which side of it that lies, it lies of the square itself.
-module _ {s r : Float} (fs : Finite s) (fr : Finite r) (fq : Finite (mul binary64 r r)) (ms : minus s ≡ 0) (mr : minus r ≡ 0) where
-  square : Rounded (mul binary64 r r) (plus r * plus r + minus r * minus r) (plus r * minus r + minus r * plus r) one
-  square = result-rounded one-pos (mul-result fr fr) fq
+-- The product of two numbers without a sign, rounded, against another: on which side of it that lies, it lies of the product itself.
+module _ {s x y : Float} (fs : Finite s) (fx : Finite x) (fy : Finite y) (fq : Finite (mul binary64 x y)) (ms : minus s ≡ 0) (mx : minus x ≡ 0)
+    (my : minus y ≡ 0) where
+  product : Rounded (mul binary64 x y) (plus x * plus y + minus x * minus y) (plus x * minus y + minus x * plus y) one
+  product = result-rounded one-pos (mul-result fx fy) fq
 
-  whole : plus r ≡ mag r
-  whole = omega (arith, plus-minus r, mr)
+  whole-x : plus x ≡ mag x
+  whole-x = omega (arith, plus-minus x, mx)
 
-  below : lt s (mul binary64 r r) ≡ true → mag s * one ≤ mag r * mag r
-  below e = ⊎-elim (λ h. le-of-lt h) (λ h. absurd (clash h)) (lt-or-ge (mag s * one) (mag r * mag r))
+  whole-y : plus y ≡ mag y
+  whole-y = omega (arith, plus-minus y, my)
+
+  pub product-below : lt s (mul binary64 x y) ≡ true → mag s * one ≤ mag x * mag y
+  product-below e = ⊎-elim (λ h. le-of-lt h) (λ h. absurd (clash h)) (lt-or-ge (mag s * one) (mag x * mag y))
     where
-      clash : mag r * mag r ≤ mag s * one → ⊥
+      clash : mag x * mag y ≤ mag s * one → ⊥
       clash h =
-          let l = plus-le one-pos square (mag-digits fs) (rw (mr, whole) (omega (arith, h))) in
+          let l = plus-le one-pos product (mag-digits fs) (rw (mx, my, whole-x, whole-y) (omega (arith, h))) in
           omega (arith, l, units-of-lt fs fq e, ms, plus-minus s)
 
-  above : lt (mul binary64 r r) s ≡ true → mag r * mag r ≤ mag s * one
-  above e = ⊎-elim (λ h. le-of-lt h) (λ h. absurd (clash h)) (lt-or-ge (mag r * mag r) (mag s * one))
+  pub product-above : lt (mul binary64 x y) s ≡ true → mag x * mag y ≤ mag s * one
+  product-above e = ⊎-elim (λ h. le-of-lt h) (λ h. absurd (clash h)) (lt-or-ge (mag x * mag y) (mag s * one))
     where
-      clash : mag s * one ≤ mag r * mag r → ⊥
+      clash : mag s * one ≤ mag x * mag y → ⊥
       clash h =
-          let l = plus-ge one-pos square (mag-digits fs) (rw (mr, whole) (omega (arith, h))) in
-          let none : minus (mul binary64 r r) ≡ 0 = minus-none one-pos square (rw (mr) (omega arith)) in
+          let l = plus-ge one-pos product (mag-digits fs) (rw (mx, my, whole-x, whole-y) (omega (arith, h))) in
+          let none : minus (mul binary64 x y) ≡ 0 = minus-none one-pos product (rw (mx, my) (omega arith)) in
           omega (arith, l, units-of-lt fq fs e, ms, plus-minus s)
 
 -- The root of a moderate s against a moderate r.
@@ -111,7 +115,7 @@ module _ (s r : Float) (ts : T (fits binary64 s)) (tr : T (fits binary64 r)) (es
   at-most e =
       let q = mul-most (moderate-most r tr er) (moderate-most r tr er) 1202 refl (omega arith) (omega arith) in
       root-le-float fs fr (moderate-minus s ts es) (moderate-minus r tr er)
-      (below fs fr (q .finite) (moderate-minus s ts es) (moderate-minus r tr er) e)
+      (product-below fs fr fr (q .finite) (moderate-minus s ts es) (moderate-minus r tr er) (moderate-minus r tr er) e)
 
   abbrev more : Float
   more = mul binary64 r justAboveOne
@@ -126,7 +130,7 @@ module _ (s r : Float) (ts : T (fits binary64 s)) (tr : T (fits binary64 r)) (es
       let q = mul-most m m 1202 refl (omega arith) (omega arith) in
       let u = units-of-lt fr (m .finite) k in
       let none : minus more ≡ 0 = ⊎-elim (λ w. w .1) (λ w. omega (arith, w .0, u, moderate-minus r tr er)) (one-sided more) in
-      let g = root-ge-float fs (m .finite) (moderate-minus s ts es) none (above fs (m .finite) (q .finite) (moderate-minus s ts es) none e) in
+      let g = root-ge-float fs (m .finite) (moderate-minus s ts es) none (product-above fs (m .finite) (m .finite) (q .finite) (moderate-minus s ts es) none none e) in
       let w = root-finite s (fs .fit) in
       let l = lt-of-units fr w (omega (arith, u, units-of-le (m .finite) w g)) in
       record { over = l; not-within = le-not-lt w fr ∙ ap not l; bound = fr; most = root-most fs (moderate-minus s ts es) 1 1138 (omega arith) wide }
