@@ -1,10 +1,10 @@
 // Masks found level by level, each from one of the level below and one head more. Rests on `inLevel` of specs/Sets.antt and on specs/Steps.antt.
+use crate::witnessed::add_pairs;
 use geometry::circle::Circle;
 ghost use mathlib.Core.Path.{_≡_};
-ghost use mathlib.Core.Bool.{true, cond, not, _&&_};
+ghost use mathlib.Core.Bool.{true, not, _&&_};
 ghost use Prim.Native.Nat.{ℕ, _≤_, _<_, _^_};
 ghost use lib.Count.{ones};
-ghost use lib.Dec.{eqb};
 ghost use lib.ListN.{getD, replicate, take};
 ghost use Rattle.geometry.specs.Circle as spec;
 ghost use Rattle.masks.specs.Mask.{inSet, withoutHead, subset};
@@ -179,16 +179,6 @@ fn add_joining(
     }
 }
 
-// Whether s is in its level, from its byte among the masks found and its byte once all masks before it have been looked at.
-fn in_level(found: u8, level: u8, s: usize) -> bool
-    ensures { λ r. ⌜ r ≡ cond (eqb found 1) (eqb (ones s) 2) (eqb level 1) ⌝ }
-{
-    if found == 1 {
-        return usize::count_ones(s) == 2;
-    }
-    level == 1
-}
-
 // 5. Level by level, in one pass from the first mask on: a mask with one head more is a larger number, and is looked at later. A mask of a
 // level is marked as found when the pass gets there, so that the masks yet to come are as they were found.
 pub(crate) fn add_levels(
@@ -205,10 +195,12 @@ pub(crate) fn add_levels(
         marked (joinedBelow n (stands (now (found .entry))) (λ i. getD (now (overlapping .entry)) i 0) (λ i. getD (now (containing .entry)) i 0) (2 ^ n)) (now (found .entry)) ⌝ }
 {
     let mut level = [0u8; 1024];
+    // The first level: the pairs found.
+    add_pairs(&mut level, overlapping, overlapping, n);
     let masks = 1usize << n;
     let mut s: usize = 0;
     while s < masks {
-        if in_level(found[s], level[s], s) {
+        if level[s] == 1 {
             found[s] = 1;
             add_joining(&mut level, found, overlapping, containing, twice, s, n);
         }
