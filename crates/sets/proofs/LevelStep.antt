@@ -3,19 +3,18 @@
 use mathlib.Core.Path.{_≡_, refl, sym, ap, ap₂, _∙_, subst}
 use mathlib.Core.Bool.{Bool, true, false, not, _&&_, _||_, or-false, false≢true}
 use mathlib.Core.List.{List}
-use Prim.Native.Nat.{ℕ, zero, suc, _+_, _-_, _^_, _≤_, _<_}
+use Prim.Native.Nat.{ℕ, suc, _+_, _-_, _^_, _≤_, _<_}
 use native.Mathlib.Omega.{arith}
 use borrow.Author.Tests.{eqb-true, eqb-false, eq-eqb, ne-eqb, leb-true, leb-false, ltb-true, ltb-false, lt-ltb, le-ltb}
-use lib.Bits.{bitOr}
 use lib.Count.{ones}
 use lib.Dec.{eqb, leb, ltb}
 use lib.ListN.{getD, set}
-use Rattle.masks.specs.Mask.{inSet, withHead, withoutHead, shifted}
+use Rattle.masks.specs.Mask.{inSet, withHead, withoutHead}
 use Rattle.masks.specs.Operations.{zero-of-in}
 use Rattle.masks.specs.Gather.{gather-lt, or-withHead}
 use Rattle.masks.specs.Subset.{and-both, with-gt}
 use Rattle.lists.specs.Some.{some}
-use Rattle.lists.proofs.Somes.{some-next, some-of, some-none, some-cong}
+use Rattle.lists.proofs.Somes.{some-next, some-of, some-cong}
 use Rattle.sets.specs.Marked.{marked}
 use Rattle.sets.specs.Sets.{allPairs, oneInAll, inLevel, joined}
 use Rattle.sets.specs.Steps.{joins, joiningOf, joiningBelow, joinedBelow}

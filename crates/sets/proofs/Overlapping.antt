@@ -2,12 +2,12 @@
 -- of overlapping heads are the masks of two heads that are found.
 use mathlib.Core.Path.{_≡_, refl, sym, ap, ap₂, _∙_}
 use mathlib.Core.Bool.{Bool, true, false, not, _&&_, _||_, or-false, false≢true}
-use Prim.Native.Nat.{ℕ, suc, _+_, _^_, _≤_, _<_}
+use Prim.Native.Nat.{ℕ, suc, _^_, _≤_, _<_}
 use native.Mathlib.Omega.{arith}
 use borrow.Author.Tests.{eqb-true, eqb-false, eq-eqb, ne-eqb, leb-true, leb-false, ltb-true, ltb-false}
 use lib.Count.{ones}
 use lib.Dec.{eqb, leb, ltb}
-use Rattle.masks.specs.Mask.{inSet, single, withHead, withoutHead, subset, Subset}
+use Rattle.masks.specs.Mask.{inSet, single, withHead, withoutHead, subset}
 use Rattle.masks.specs.Operations.{bit-of-zero, in-of-zero, in-beyond, in-ext}
 use Rattle.masks.specs.Gather.{gather-lt, in-gather, gather-unique}
 use Rattle.masks.specs.Size.{ones-of-zero, ones-subset-eq}

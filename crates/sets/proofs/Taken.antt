@@ -1,13 +1,13 @@
 -- One head taken from a mask and put back; and the parts of one mask, and of masks that are found by one of two tests.
-use mathlib.Core.Path.{_≡_, refl, sym, ap, ap₂, _∙_, subst}
-use mathlib.Core.Bool.{Bool, true, false, not, cond, _&&_, _||_, or-false, false≢true}
-use Prim.Native.Nat.{ℕ, zero, suc, _+_, _^_, _≤_, _<_}
+use mathlib.Core.Path.{_≡_, refl, sym, ap, ap₂, _∙_}
+use mathlib.Core.Bool.{Bool, true, false, not, _&&_, _||_, or-false, false≢true}
+use Prim.Native.Nat.{ℕ, zero, suc, _^_, _≤_, _<_}
 use native.Mathlib.Omega.{arith}
-use borrow.Author.Tests.{eqb-true, eqb-false, eq-eqb, ne-eqb, le-leb, leb-true}
-use lib.Bits.{bitAnd, bitOr}
+use borrow.Author.Tests.{eqb-true, eq-eqb, ne-eqb, le-leb, leb-true}
+use lib.Bits.{bitOr}
 use lib.Count.{ones}
 use lib.Dec.{eqb, leb}
-use Rattle.masks.specs.Mask.{inSet, gather, withHead, withoutHead, shifted, complement}
+use Rattle.masks.specs.Mask.{inSet, withHead, withoutHead, shifted}
 use Rattle.masks.specs.Operations.{one-of-in}
 use Rattle.masks.specs.Gather.{gather-lt, in-gather, gather-unique, or-withHead, and-withoutHead}
 use Rattle.masks.specs.Size.{without-with}

@@ -1,10 +1,9 @@
 -- `discover::discover_regions` meets its contract: the steps are those of specs/Sets.antt, by proofs/Assembled.antt.
-use mathlib.Core.Path.{_≡_, refl, sym, ap, ap₂, _∙_}
+use mathlib.Core.Path.{_≡_, sym, ap, ap₂, _∙_}
 use mathlib.Core.List.{List}
 use Prim.Native.Nat.{ℕ, _^_, _≤_, min}
 use native.Mathlib.Omega.{arith}
 use lib.ListN.{length, take, replicate, length-take}
-use lib.Seq.{take-all}
 use Rattle.geometry.specs.declared.circle.Circle.{Circle}
 use Rattle.intersections.specs.Counted.{pointList}
 use Rattle.lists.specs.Written.{written}
