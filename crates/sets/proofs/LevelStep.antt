@@ -212,7 +212,8 @@ module _ (n : ℕ) (found : ℕ → Bool) (overlapping containing : ℕ → ℕ)
 pub joining-later : (n : ℕ) (f g : ℕ → Bool) (o c : ℕ → ℕ) (s S : ℕ) → s < 2 ^ n → ((T : ℕ) → s < T → f T ≡ g T) → joiningOf n f o c s S ≡ joiningOf n g o c s S
 joining-later n f g o c s S hs same =
     some-cong n (λ i. eqb S (withHead n s i) && (not (inSet s i) && joins n f o c (withHead n s i)))
-    (λ i. eqb S (withHead n s i) && (not (inSet s i) && joins n g o c (withHead n s i))) (λ i h. ap (λ (b : Bool). eqb S (withHead n s i) && b) (at i h (inSet s i) refl))
+    (λ i. eqb S (withHead n s i) && (not (inSet s i) && joins n g o c (withHead n s i)))
+    (λ i h. ap (λ (b : Bool). eqb S (withHead n s i) && b) (at i h (inSet s i) refl))
   where
     at : (i : ℕ) → i < n → (b : Bool) → inSet s i ≡ b → (not b && joins n f o c (withHead n s i)) ≡ (not b && joins n g o c (withHead n s i))
     at i h true e = refl

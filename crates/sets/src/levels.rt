@@ -123,8 +123,8 @@ fn one_in_all(containing: &[usize; 10], s: usize, n: usize) -> bool
     false
 }
 
-// Whether t, of three heads or more, joins the next level: s, a mask of its level, with a head more that overlaps `heads`. In s each head overlaps
-// all others, so that in t this is asked of that head alone.
+// Whether t joins the next level: s, a mask of its level, with one head more, which overlaps `heads`. In s each head overlaps all others, so that
+// in t this is asked of that head alone.
 fn joins(
     found: &[u8; 1024],
     heads: usize,
@@ -161,8 +161,11 @@ fn add_joining(
     n: usize,
 )
     requires { ⌜ (n ≤ 10) × (s < 2 ^ n) × (2 ≤ ones s) × (twice ≡ twiceContained n (λ i. getD (now containing) i 0))
-        × (allPairs n (λ i. getD (now overlapping) i 0) s ≡ true) × ((i j : ℕ) → i < n → j < n → inMaskOf (now overlapping) i j ≡ inMaskOf (now overlapping) j i) ⌝ }
-    ensures { λ r. ⌜ now (level .exit) ≡ marked (joiningOf n (stands (now (found .entry))) (λ i. getD (now (overlapping .entry)) i 0) (λ i. getD (now (containing .entry)) i 0) s) (now (level .entry)) ⌝ }
+        × (allPairs n (λ i. getD (now overlapping) i 0) s ≡ true)
+        × ((i j : ℕ) → i < n → j < n → inMaskOf (now overlapping) i j ≡ inMaskOf (now overlapping) j i) ⌝ }
+    ensures { λ r.
+        ⌜ now (level .exit) ≡ marked (joiningOf n (stands (now (found .entry))) (λ i. getD (now (overlapping .entry)) i 0)
+        (λ i. getD (now (containing .entry)) i 0) s) (now (level .entry)) ⌝ }
 {
     let mut i: usize = 0;
     while i < n {
@@ -191,8 +194,8 @@ pub(crate) fn add_levels(
     requires { ⌜ (n ≤ 10) × (twice ≡ twiceContained n (λ i. getD (now containing) i 0))
         × (now overlapping ≡ written (rule.overlapping n (stands (now found))) n (replicate 10 0)) ⌝ }
     ensures { λ r.
-        ⌜ now (found .exit) ≡
-        marked (joinedBelow n (stands (now (found .entry))) (λ i. getD (now (overlapping .entry)) i 0) (λ i. getD (now (containing .entry)) i 0) (2 ^ n)) (now (found .entry)) ⌝ }
+        ⌜ now (found .exit) ≡ marked (joinedBelow n (stands (now (found .entry))) (λ i. getD (now (overlapping .entry)) i 0)
+        (λ i. getD (now (containing .entry)) i 0) (2 ^ n)) (now (found .entry)) ⌝ }
 {
     let mut level = [0u8; 1024];
     // The first level: the pairs found.

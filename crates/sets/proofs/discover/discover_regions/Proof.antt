@@ -64,7 +64,8 @@ found-are c =
     let a = counted pai .before .args in
     let n = counted pai .at-most-ten .result in
     let p = pointList (a .points) in
-    c .add-singles .ensures ∙ ap (marked (isOneHead n)) (pairs-are pai ∙ ap (marked (isPair n (meetsAt p) (containsAt (take n (a .circles))))) (poi .add-points .ensures .0))
+    c .add-singles .ensures
+    ∙ ap (marked (isOneHead n)) (pairs-are pai ∙ ap (marked (isPair n (meetsAt p) (containsAt (take n (a .circles))))) (poi .add-points .ensures .0))
     ∙ found-is n (isOneHead n) (isAdoptersOf p) (meetsAt p) (containsAt (take n (a .circles))) (few (counted pai)) (one-head-beyond n) (one-head-few n)
 
 -- the sets of n heads are those of the circles taken
@@ -101,7 +102,8 @@ returns c =
     let n = counted pai .at-most-ten .result in
     let p = pointList (a .points) in
     assembled-found n (isOneHead n) (isAdoptersOf p) (meetsAt p) (containsAt (take n (a .circles))) (few (counted pai)) (one-head-beyond n) (one-head-few n)
-    (con .containing-heads .result) (con .containing-heads .ensures) (sin .add-singles .result) (found-are sin) (sym (twi .twice-contained .ensures) ∙ c .if1 .taken)
+    (con .containing-heads .result) (con .containing-heads .ensures) (sin .add-singles .result) (found-are sin)
+    (sym (twi .twice-contained .ensures) ∙ c .if1 .taken)
     ∙ sets-are (counted pai)
 
 add-levels-requires : tie.Need-add-levels-requires
