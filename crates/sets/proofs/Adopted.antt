@@ -69,7 +69,8 @@ pub adopted-next : (n : ℕ) (all : List IntersectionPoint) (k : ℕ) (found : L
 adopted-next n all k found h =
     marked-again (adopted n (isAdoptersOf (take k all))) (adopted n (λ S. eqb S v)) found
     ∙ marked-same (λ S. adopted n (isAdoptersOf (take k all)) S || adopted n (λ T. eqb T v) S) (adopted n (isAdoptersOf (take (k + 1) all))) found
-    (λ S l. sym (ap (λ (b : Bool). ltb S (2 ^ n) && b) (with-more S) ∙ and-or (ltb S (2 ^ n)) (withParts n (isAdoptersOf (take k all)) S) (withParts n (λ T. eqb T v) S)))
+    (λ S l. sym (ap (λ (b : Bool). ltb S (2 ^ n) && b) (with-more S)
+    ∙ and-or (ltb S (2 ^ n)) (withParts n (isAdoptersOf (take k all)) S) (withParts n (λ T. eqb T v) S)))
   where
     v : ℕ
     v = getD all k noPoint .adopters

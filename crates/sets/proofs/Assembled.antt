@@ -3,20 +3,18 @@
 use mathlib.Core.Path.{_≡_, refl, sym, ap, ap₂, _∙_, subst}
 use mathlib.Core.Bool.{Bool, true, false, not, cond, _&&_, _||_}
 use mathlib.Core.List.{List}
-use Prim.Native.Nat.{ℕ, zero, suc, _+_, _-_, _*_, _^_, _≤_, _<_}
+use Prim.Native.Nat.{ℕ, zero, suc, _+_, _-_, _^_, _≤_, _<_}
 use native.Mathlib.Omega.{arith}
-use borrow.Author.Tests.{ltb-true, ltb-false, lt-ltb, le-ltb, ne-eqb}
+use borrow.Author.Tests.{lt-ltb, le-ltb}
 use lib.Count.{ones}
 use lib.Dec.{eqb, leb, ltb}
-use lib.ListN.{length, getD, replicate, length-replicate, getD-replicate}
-use lib.Seq.{ext-getD}
-use Rattle.masks.specs.Mask.{inSet, gather, every, single, withHead, withoutHead, subset}
+use lib.ListN.{getD}
+use Rattle.masks.specs.Mask.{inSet, gather, withoutHead, subset}
 use Rattle.masks.specs.Gather.{gather-lt}
 use Rattle.lists.specs.Written.{written}
 use Rattle.sets.specs.Marked.{marked}
 use Rattle.masks.specs.Presence.{byte, stands, byte-stands}
-use Rattle.lists.specs.Some.{some}
-use Rattle.sets.specs.Sets.{paired, pair, pairsOf, isPair, witnessed, isPart, withParts, allPairs, oneInAll, inLevel, joined, withLevels}
+use Rattle.sets.specs.Sets.{pair, isPair, witnessed, isPart, withParts, allPairs, oneInAll, inLevel, joined, withLevels}
 use Rattle.sets.specs.Sets.{overlapping, containing, isSet}
 use lib.Pow.{pow-mono}
 use Rattle.sets.specs.Steps.{twiceContained, adopted, joinedBelow}
@@ -24,8 +22,8 @@ use Rattle.sets.proofs.Marks.{zeros, marks, marked-again}
 use Rattle.sets.proofs.Singles.{pair-beyond, adopter-parts}
 use Rattle.sets.proofs.Taken.{part-agree}
 use Rattle.sets.proofs.TwiceContained.{nothing-joins}
-use Rattle.lists.proofs.Writing.{length-written, written-before, written-past, written-cong, written-again}
-use Rattle.lists.proofs.Somes.{some-cong, some-none}
+use Rattle.lists.proofs.Writing.{written-before, written-cong}
+use Rattle.lists.proofs.Somes.{some-cong}
 use Rattle.intersections.proofs.Masks.{every-cong}
 
 -- ---- tests that agree on masks of n heads

@@ -1,21 +1,20 @@
 -- One pass from the first mask on gives the masks of all levels: what joins from a mask is a larger number, and a mask that was not found is in
 -- its level exactly if it joins from one before it.
 use mathlib.Core.Path.{_≡_, refl, sym, ap, ap₂, _∙_, subst}
-use mathlib.Core.Bool.{Bool, true, false, not, cond, _&&_, _||_, or-false, false≢true}
+use mathlib.Core.Bool.{Bool, true, false, not, _&&_, _||_, or-false, false≢true}
 use mathlib.Core.List.{List}
-use Prim.Native.Nat.{ℕ, zero, suc, _+_, _-_, _^_, _≤_, _<_}
+use Prim.Native.Nat.{ℕ, suc, _+_, _-_, _^_, _≤_, _<_}
 use native.Mathlib.Omega.{arith}
 use borrow.Author.Tests.{eqb-true, eqb-false, eq-eqb, ne-eqb, leb-true, leb-false, ltb-true, ltb-false, lt-ltb, le-ltb}
-use lib.Bits.{bitOr}
 use lib.Count.{ones}
 use lib.Dec.{eqb, leb, ltb}
 use lib.ListN.{getD, set}
-use Rattle.masks.specs.Mask.{inSet, withHead, withoutHead, shifted}
+use Rattle.masks.specs.Mask.{inSet, withHead, withoutHead}
 use Rattle.masks.specs.Operations.{zero-of-in}
 use Rattle.masks.specs.Gather.{gather-lt, or-withHead}
 use Rattle.masks.specs.Subset.{and-both, with-gt}
 use Rattle.lists.specs.Some.{some}
-use Rattle.lists.proofs.Somes.{some-next, some-of, some-none, some-cong}
+use Rattle.lists.proofs.Somes.{some-next, some-of, some-cong}
 use Rattle.sets.specs.Marked.{marked}
 use Rattle.sets.specs.Sets.{allPairs, oneInAll, inLevel, joined}
 use Rattle.sets.specs.Steps.{joins, joiningOf, joiningBelow, joinedBelow}
@@ -123,29 +122,36 @@ module _ (n : ℕ) (found : ℕ → Bool) (overlapping containing : ℕ → ℕ)
 
   -- ---- the pass
 
-  -- a mask is in its level by its byte among those found, or by what joined from the masks before it
-  pub level-test : (S : ℕ) → S < 2 ^ n → cond (found S) (eqb (ones S) 2) (joiningBelow n found overlapping containing S S) ≡ inIts S
-  level-test S hs = go (found S) refl
+  -- a mask is in its level where it is a pair that was found, or joins from one before it
+  pub level-test : (S : ℕ) → S < 2 ^ n → ((eqb (ones S) 2 && found S) || joiningBelow n found overlapping containing S S) ≡ inIts S
+  level-test S hs =
+      same-truth ((eqb (ones S) 2 && found S) || joiningBelow n found overlapping containing S S) (inIts S)
+      (either (eqb (ones S) 2 && found S) refl) (back (found S) refl)
     where
-      and-yes : (a b : Bool) → b ≡ true → a ≡ (a && b)
-      and-yes true b e = sym e
-      and-yes false b e = refl
+      joining : joiningBelow n found overlapping containing S S ≡ true → inIts S ≡ true
+      joining =
+          some-then S (λ M. inIts M && from M S) (inIts S)
+          (λ M h k. let two = and-both (inIts M) (from M S) k in joined-from M S (omega (arith, h, hs)) (two .0) (two .1))
 
-      pair-or-not : found S ≡ true → (b : Bool) → leb 3 (ones S) ≡ b → eqb (ones S) 2 ≡ inIts S
-      pair-or-not f true k =
-          let h = leb-true 3 (ones S) k in
-          ne-eqb (ones S) 2 (λ e. omega (arith, e, h)) ∙ sym (is-more S hs h ∙ ap (λ (b : Bool). not b && (allPairs n overlapping S &&
-          (oneInAll n containing S && some n (λ i. inSet S i && inIts (withoutHead n S i))))) f)
-      pair-or-not f false k =
-          and-yes (eqb (ones S) 2) (found S) f ∙ sym (is-few S (omega (arith, leb-false 3 (ones S) k)))
+      either : (b : Bool) → (eqb (ones S) 2 && found S) ≡ b → (b || joiningBelow n found overlapping containing S S) ≡ true → inIts S ≡ true
+      either true k e =
+          let two = and-both (eqb (ones S) 2) (found S) k in
+          is-few S (omega (arith, eqb-true (ones S) 2 (two .0))) ∙ k
+      either false k e = joining e
 
-      go : (b : Bool) → found S ≡ b → cond b (eqb (ones S) 2) (joiningBelow n found overlapping containing S S) ≡ inIts S
-      go true f = pair-or-not f (leb 3 (ones S)) refl
-      go false f =
-          same-truth (joiningBelow n found overlapping containing S S) (inIts S)
-          (some-then S (λ M. inIts M && from M S) (inIts S)
-          (λ M h k. let two = and-both (inIts M) (from M S) k in joined-from M S (omega (arith, h, hs)) (two .0) (two .1)))
-          (joined-base S hs f)
+      few : (b : Bool) → leb 3 (ones S) ≡ b → found S ≡ true → inIts S ≡ true → (eqb (ones S) 2 && found S) ≡ true
+      few true k f e =
+          absurd (false≢true (sym (is-more S hs (leb-true 3 (ones S) k) ∙ ap (λ (b : Bool). not b && (allPairs n overlapping S &&
+          (oneInAll n containing S && some n (λ i. inSet S i && inIts (withoutHead n S i))))) f) ∙ e))
+      few false k f e = sym (is-few S (omega (arith, leb-false 3 (ones S) k))) ∙ e
+
+      or-yes : (a b : Bool) → b ≡ true → (a || b) ≡ true
+      or-yes true b e = refl
+      or-yes false b e = e
+
+      back : (b : Bool) → found S ≡ b → inIts S ≡ true → ((eqb (ones S) 2 && found S) || joiningBelow n found overlapping containing S S) ≡ true
+      back true f e = ap (λ (b : Bool). b || joiningBelow n found overlapping containing S S) (few (leb 3 (ones S)) refl f e)
+      back false f e = or-yes (eqb (ones S) 2 && found S) (joiningBelow n found overlapping containing S S) (joined-base S hs f e)
 
   module _ (s : ℕ) (l : List ℕ) where
     -- what joins from one mask more
@@ -206,7 +212,8 @@ module _ (n : ℕ) (found : ℕ → Bool) (overlapping containing : ℕ → ℕ)
 pub joining-later : (n : ℕ) (f g : ℕ → Bool) (o c : ℕ → ℕ) (s S : ℕ) → s < 2 ^ n → ((T : ℕ) → s < T → f T ≡ g T) → joiningOf n f o c s S ≡ joiningOf n g o c s S
 joining-later n f g o c s S hs same =
     some-cong n (λ i. eqb S (withHead n s i) && (not (inSet s i) && joins n f o c (withHead n s i)))
-    (λ i. eqb S (withHead n s i) && (not (inSet s i) && joins n g o c (withHead n s i))) (λ i h. ap (λ (b : Bool). eqb S (withHead n s i) && b) (at i h (inSet s i) refl))
+    (λ i. eqb S (withHead n s i) && (not (inSet s i) && joins n g o c (withHead n s i)))
+    (λ i h. ap (λ (b : Bool). eqb S (withHead n s i) && b) (at i h (inSet s i) refl))
   where
     at : (i : ℕ) → i < n → (b : Bool) → inSet s i ≡ b → (not b && joins n f o c (withHead n s i)) ≡ (not b && joins n g o c (withHead n s i))
     at i h true e = refl

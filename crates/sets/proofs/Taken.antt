@@ -1,13 +1,13 @@
 -- One head taken from a mask and put back; and the parts of one mask, and of masks that are found by one of two tests.
-use mathlib.Core.Path.{_≡_, refl, sym, ap, ap₂, _∙_, subst}
-use mathlib.Core.Bool.{Bool, true, false, not, cond, _&&_, _||_, or-false, false≢true}
-use Prim.Native.Nat.{ℕ, zero, suc, _+_, _^_, _≤_, _<_}
+use mathlib.Core.Path.{_≡_, refl, sym, ap, ap₂, _∙_}
+use mathlib.Core.Bool.{Bool, true, false, not, _&&_, _||_, or-false, false≢true}
+use Prim.Native.Nat.{ℕ, zero, suc, _^_, _≤_, _<_}
 use native.Mathlib.Omega.{arith}
-use borrow.Author.Tests.{eqb-true, eqb-false, eq-eqb, ne-eqb, le-leb, leb-true}
-use lib.Bits.{bitAnd, bitOr}
+use borrow.Author.Tests.{eqb-true, eq-eqb, ne-eqb, le-leb, leb-true}
+use lib.Bits.{bitOr}
 use lib.Count.{ones}
 use lib.Dec.{eqb, leb}
-use Rattle.masks.specs.Mask.{inSet, gather, withHead, withoutHead, shifted, complement}
+use Rattle.masks.specs.Mask.{inSet, withHead, withoutHead, shifted}
 use Rattle.masks.specs.Operations.{one-of-in}
 use Rattle.masks.specs.Gather.{gather-lt, in-gather, gather-unique, or-withHead, and-withoutHead}
 use Rattle.masks.specs.Size.{without-with}
@@ -98,31 +98,11 @@ without-with-it n S i hs e =
 
 -- ---- parts
 
-module _ (n : ℕ) (f g : ℕ → Bool) (S : ℕ) where
-  -- of masks found by tests that agree on masks of n heads
-  pub part-agree : ((T : ℕ) → T < 2 ^ n → f T ≡ g T) → isPart n f S ≡ isPart n g S
-  unfolding isPart
-  part-agree same =
-      ap (λ (t : Bool). leb 2 (ones S) && t)
-      (some-cong n (λ i. not (inSet S i) && f (withHead n S i)) (λ i. not (inSet S i) && g (withHead n S i))
-      (λ i k. ap (λ (b : Bool). not (inSet S i) && b) (same (withHead n S i) (gather-lt n _))))
-
-  -- of masks found by one of two tests
-  pub part-or : isPart n (λ T. f T || g T) S ≡ (isPart n f S || isPart n g S)
-  unfolding isPart
-  part-or =
-      ap (λ (t : Bool). leb 2 (ones S) && t)
-      (some-cong n (λ i. not (inSet S i) && (f (withHead n S i) || g (withHead n S i)))
-      (λ i. (not (inSet S i) && f (withHead n S i)) || (not (inSet S i) && g (withHead n S i)))
-      (λ i k. and-or (not (inSet S i)) (f (withHead n S i)) (g (withHead n S i)))
-      ∙ some-or n (λ i. not (inSet S i) && f (withHead n S i)) (λ i. not (inSet S i) && g (withHead n S i)))
-      ∙ and-or (leb 2 (ones S)) (some n (λ i. not (inSet S i) && f (withHead n S i))) (some n (λ i. not (inSet S i) && g (withHead n S i)))
-
 -- of one mask M
 module _ (n S M : ℕ) where
   -- from the head that is taken away
-  to-part : (i : ℕ) → M < 2 ^ n → i < n → leb 3 (ones M) ≡ true → S ≡ withoutHead n M i → inSet M i ≡ true → isPart n (λ T. eqb T M) S ≡ true
-  unfolding isPart
+  to-part : (i : ℕ) → M < 2 ^ n → i < n → leb 3 (ones M) ≡ true → S ≡ withoutHead n M i → inSet M i ≡ true
+      → (leb 2 (ones S) && some n (λ j. not (inSet S j) && eqb (withHead n S j) M)) ≡ true
   to-part i hm h l e k =
       let same : ones S ≡ ones (withoutHead n M i) = ap ones e in
       ap₂ _&&_ (le-leb 2 (ones S) (omega (arith, leb-true 3 (ones M) l, ones-less n M i hm h k, same)))
@@ -167,3 +147,23 @@ module _ (n S M : ℕ) where
       some-none n (λ i. eqb S (withoutHead n M i) && inSet M i)
       (λ i k. ap (λ (b : Bool). b && inSet M i)
       (ne-eqb S (withoutHead n M i) (λ e. omega (arith, e, gather-lt n (λ j. inSet M j && not (eqb j i))))))
+
+module _ (n : ℕ) (f g : ℕ → Bool) (S : ℕ) where
+  -- of masks found by tests that agree on masks of n heads
+  pub part-agree : ((T : ℕ) → T < 2 ^ n → f T ≡ g T) → isPart n f S ≡ isPart n g S
+  unfolding isPart
+  part-agree same =
+      ap (λ (t : Bool). leb 2 (ones S) && t)
+      (some-cong n (λ i. not (inSet S i) && f (withHead n S i)) (λ i. not (inSet S i) && g (withHead n S i))
+      (λ i k. ap (λ (b : Bool). not (inSet S i) && b) (same (withHead n S i) (gather-lt n _))))
+
+  -- of masks found by one of two tests
+  pub part-or : isPart n (λ T. f T || g T) S ≡ (isPart n f S || isPart n g S)
+  unfolding isPart
+  part-or =
+      ap (λ (t : Bool). leb 2 (ones S) && t)
+      (some-cong n (λ i. not (inSet S i) && (f (withHead n S i) || g (withHead n S i)))
+      (λ i. (not (inSet S i) && f (withHead n S i)) || (not (inSet S i) && g (withHead n S i)))
+      (λ i k. and-or (not (inSet S i)) (f (withHead n S i)) (g (withHead n S i)))
+      ∙ some-or n (λ i. not (inSet S i) && f (withHead n S i)) (λ i. not (inSet S i) && g (withHead n S i)))
+      ∙ and-or (leb 2 (ones S)) (some n (λ i. not (inSet S i) && f (withHead n S i))) (some n (λ i. not (inSet S i) && g (withHead n S i)))

@@ -1,7 +1,7 @@
 -- What the steps of the code look at, and what they add from one mask; proofs/Adopted.antt and proofs/LevelStep.antt show that a pass over
 -- all points, and over all masks, adds what specs/Sets.antt says.
 use Prim.Native.Nat.{ℕ, _^_}
-use mathlib.Core.Bool.{Bool, not, _&&_, _||_}
+use mathlib.Core.Bool.{Bool, not, _&&_}
 use mathlib.Core.List.{List}
 use lib.Count.{ones}
 use lib.Dec.{eqb, leb, ltb}

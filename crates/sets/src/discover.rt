@@ -26,7 +26,7 @@ pub fn discover_regions(circles: [Circle; 10], points: Intersections, n_sets: us
     add_pairs(&mut pairs, &meeting, &containing, n);
     let mut found = add_singles(pairs, n);
     let twice = twice_contained(&containing, n);
-    // No mask joins a level.
+    // Then no mask joins a level.
     if twice == 0 {
         return found;
     }

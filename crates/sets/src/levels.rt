@@ -1,10 +1,10 @@
 // Masks found level by level, each from one of the level below and one head more. Rests on `inLevel` of specs/Sets.antt and on specs/Steps.antt.
+use crate::witnessed::add_pairs;
 use geometry::circle::Circle;
 ghost use mathlib.Core.Path.{_≡_};
-ghost use mathlib.Core.Bool.{true, cond, not, _&&_};
+ghost use mathlib.Core.Bool.{true, not, _&&_};
 ghost use Prim.Native.Nat.{ℕ, _≤_, _<_, _^_};
 ghost use lib.Count.{ones};
-ghost use lib.Dec.{eqb};
 ghost use lib.ListN.{getD, replicate, take};
 ghost use Rattle.geometry.specs.Circle as spec;
 ghost use Rattle.masks.specs.Mask.{inSet, withoutHead, subset};
@@ -123,8 +123,8 @@ fn one_in_all(containing: &[usize; 10], s: usize, n: usize) -> bool
     false
 }
 
-// Whether t, of three heads or more, joins the next level: s, a mask of its level, with a head more that overlaps `heads`. In s each head overlaps
-// all others, so that in t this is asked of that head alone.
+// Whether t joins the next level: s, a mask of its level, with one head more, which overlaps `heads`. In s each head overlaps all others, so that
+// in t this is asked of that head alone.
 fn joins(
     found: &[u8; 1024],
     heads: usize,
@@ -161,8 +161,11 @@ fn add_joining(
     n: usize,
 )
     requires { ⌜ (n ≤ 10) × (s < 2 ^ n) × (2 ≤ ones s) × (twice ≡ twiceContained n (λ i. getD (now containing) i 0))
-        × (allPairs n (λ i. getD (now overlapping) i 0) s ≡ true) × ((i j : ℕ) → i < n → j < n → inMaskOf (now overlapping) i j ≡ inMaskOf (now overlapping) j i) ⌝ }
-    ensures { λ r. ⌜ now (level .exit) ≡ marked (joiningOf n (stands (now (found .entry))) (λ i. getD (now (overlapping .entry)) i 0) (λ i. getD (now (containing .entry)) i 0) s) (now (level .entry)) ⌝ }
+        × (allPairs n (λ i. getD (now overlapping) i 0) s ≡ true)
+        × ((i j : ℕ) → i < n → j < n → inMaskOf (now overlapping) i j ≡ inMaskOf (now overlapping) j i) ⌝ }
+    ensures { λ r.
+        ⌜ now (level .exit) ≡ marked (joiningOf n (stands (now (found .entry))) (λ i. getD (now (overlapping .entry)) i 0)
+        (λ i. getD (now (containing .entry)) i 0) s) (now (level .entry)) ⌝ }
 {
     let mut i: usize = 0;
     while i < n {
@@ -179,16 +182,6 @@ fn add_joining(
     }
 }
 
-// Whether s is in its level, from its byte among the masks found and its byte once all masks before it have been looked at.
-fn in_level(found: u8, level: u8, s: usize) -> bool
-    ensures { λ r. ⌜ r ≡ cond (eqb found 1) (eqb (ones s) 2) (eqb level 1) ⌝ }
-{
-    if found == 1 {
-        return usize::count_ones(s) == 2;
-    }
-    level == 1
-}
-
 // 5. Level by level, in one pass from the first mask on: a mask with one head more is a larger number, and is looked at later. A mask of a
 // level is marked as found when the pass gets there, so that the masks yet to come are as they were found.
 pub(crate) fn add_levels(
@@ -201,14 +194,16 @@ pub(crate) fn add_levels(
     requires { ⌜ (n ≤ 10) × (twice ≡ twiceContained n (λ i. getD (now containing) i 0))
         × (now overlapping ≡ written (rule.overlapping n (stands (now found))) n (replicate 10 0)) ⌝ }
     ensures { λ r.
-        ⌜ now (found .exit) ≡
-        marked (joinedBelow n (stands (now (found .entry))) (λ i. getD (now (overlapping .entry)) i 0) (λ i. getD (now (containing .entry)) i 0) (2 ^ n)) (now (found .entry)) ⌝ }
+        ⌜ now (found .exit) ≡ marked (joinedBelow n (stands (now (found .entry))) (λ i. getD (now (overlapping .entry)) i 0)
+        (λ i. getD (now (containing .entry)) i 0) (2 ^ n)) (now (found .entry)) ⌝ }
 {
     let mut level = [0u8; 1024];
+    // The first level: the pairs found.
+    add_pairs(&mut level, overlapping, overlapping, n);
     let masks = 1usize << n;
     let mut s: usize = 0;
     while s < masks {
-        if in_level(found[s], level[s], s) {
+        if level[s] == 1 {
             found[s] = 1;
             add_joining(&mut level, found, overlapping, containing, twice, s, n);
         }

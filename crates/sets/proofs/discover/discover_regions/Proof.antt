@@ -1,10 +1,9 @@
 -- `discover::discover_regions` meets its contract: the steps are those of specs/Sets.antt, by proofs/Assembled.antt.
-use mathlib.Core.Path.{_≡_, refl, sym, ap, ap₂, _∙_}
+use mathlib.Core.Path.{_≡_, sym, ap, ap₂, _∙_}
 use mathlib.Core.List.{List}
 use Prim.Native.Nat.{ℕ, _^_, _≤_, min}
 use native.Mathlib.Omega.{arith}
 use lib.ListN.{length, take, replicate, length-take}
-use lib.Seq.{take-all}
 use Rattle.geometry.specs.declared.circle.Circle.{Circle}
 use Rattle.intersections.specs.Counted.{pointList}
 use Rattle.lists.specs.Written.{written}
@@ -65,7 +64,8 @@ found-are c =
     let a = counted pai .before .args in
     let n = counted pai .at-most-ten .result in
     let p = pointList (a .points) in
-    c .add-singles .ensures ∙ ap (marked (isOneHead n)) (pairs-are pai ∙ ap (marked (isPair n (meetsAt p) (containsAt (take n (a .circles))))) (poi .add-points .ensures .0))
+    c .add-singles .ensures
+    ∙ ap (marked (isOneHead n)) (pairs-are pai ∙ ap (marked (isPair n (meetsAt p) (containsAt (take n (a .circles))))) (poi .add-points .ensures .0))
     ∙ found-is n (isOneHead n) (isAdoptersOf p) (meetsAt p) (containsAt (take n (a .circles))) (few (counted pai)) (one-head-beyond n) (one-head-few n)
 
 -- the sets of n heads are those of the circles taken
@@ -102,7 +102,8 @@ returns c =
     let n = counted pai .at-most-ten .result in
     let p = pointList (a .points) in
     assembled-found n (isOneHead n) (isAdoptersOf p) (meetsAt p) (containsAt (take n (a .circles))) (few (counted pai)) (one-head-beyond n) (one-head-few n)
-    (con .containing-heads .result) (con .containing-heads .ensures) (sin .add-singles .result) (found-are sin) (sym (twi .twice-contained .ensures) ∙ c .if1 .taken)
+    (con .containing-heads .result) (con .containing-heads .ensures) (sin .add-singles .result) (found-are sin)
+    (sym (twi .twice-contained .ensures) ∙ c .if1 .taken)
     ∙ sets-are (counted pai)
 
 add-levels-requires : tie.Need-add-levels-requires

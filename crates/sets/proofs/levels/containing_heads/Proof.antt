@@ -1,10 +1,10 @@
 -- `levels::containing_heads` meets its contract. The invariants: the heads below k have their mask, and the mask of head k has the heads below j
 -- that contain it.
 use mathlib.Core.Path.{_≡_, refl, sym, ap, ap₂, _∙_}
-use mathlib.Core.Bool.{Bool, true, false}
+use mathlib.Core.Bool.{Bool}
 use mathlib.Core.List.{List}
 use mathlib.Core.Logic.{⊎-elim}
-use Prim.Native.Nat.{ℕ, _+_, _-_, _≤_, _<_}
+use Prim.Native.Nat.{ℕ, _-_, _≤_}
 use native.Mathlib.Omega.{arith}
 use lib.ListN.{take, set, replicate, length-replicate}
 use lib.Seq.{getD-take}

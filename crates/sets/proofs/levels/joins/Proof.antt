@@ -1,7 +1,6 @@
 -- `levels::joins`: the three tests, one after another; where no head is contained twice, the third fails.
 use mathlib.Core.Path.{_≡_, refl, sym, ap, ap₂, _∙_}
 use mathlib.Core.Bool.{Bool, not, _&&_}
-use Prim.Native.Nat.{ℕ}
 use borrow.Author.Tests.{eq-eqb, ne-eqb}
 use lib.Bits.{bitAnd}
 use lib.ListN.{getD}

@@ -1,12 +1,11 @@
 -- `levels::one_in_all` meets its contract. The invariant: no head below i is contained in all others.
-use mathlib.Core.Path.{_≡_, refl, sym, ap, ap₂, _∙_}
-use mathlib.Core.Bool.{Bool, true, false, not, _&&_, _||_}
+use mathlib.Core.Path.{_≡_, sym, ap, ap₂, _∙_}
+use mathlib.Core.Bool.{Bool, false, _&&_, _||_}
 use mathlib.Core.List.{List}
-use Prim.Native.Nat.{ℕ, _+_, _-_, _≤_}
+use Prim.Native.Nat.{ℕ, _-_, _≤_}
 use native.Mathlib.Omega.{arith}
 use lib.ListN.{getD}
-use Rattle.masks.specs.Mask.{inSet, withoutHead, subset, every}
-use Rattle.masks.specs.Presence.{stands}
+use Rattle.masks.specs.Mask.{inSet, withoutHead, subset}
 use Rattle.lists.specs.Some.{some}
 use Rattle.lists.proofs.Somes.{some-zero, some-next, some-of}
 use Rattle.sets.proofs.levels.one_in_all.Statement.{statement}

@@ -1,15 +1,14 @@
 -- `levels::twice_contained` meets its contract. The invariant: the mask has the heads below i that two others or more contain.
-use mathlib.Core.Path.{_≡_, refl, sym, ap, _∙_}
-use mathlib.Core.Bool.{Bool, true, false}
+use mathlib.Core.Path.{_≡_, refl, ap, _∙_}
+use mathlib.Core.Bool.{Bool}
 use mathlib.Core.Logic.{⊎-elim}
-use Prim.Native.Nat.{ℕ, _+_, _-_, _^_, _≤_, _<_}
+use Prim.Native.Nat.{ℕ, _-_, _≤_, _<_}
 use native.Mathlib.Omega.{arith}
 use borrow.Author.Tests.{le-leb, lt-leb}
-use lib.Bits.{bitAnd}
 use lib.Count.{ones}
 use lib.Dec.{leb}
 use lib.ListN.{getD}
-use Rattle.masks.specs.Mask.{gather, withoutHead, shifted, complement}
+use Rattle.masks.specs.Mask.{gather, withoutHead}
 use Rattle.sets.proofs.Masks.{without-at}
 use Rattle.intersections.proofs.Adopting.{gather-with, gather-without}
 use Rattle.sets.proofs.levels.twice_contained.Statement.{statement}

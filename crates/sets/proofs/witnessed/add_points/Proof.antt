@@ -1,7 +1,7 @@
 -- `witnessed::add_points` meets its contract. The invariant: the adopter masks of the points before k are marked, with their parts, and the
 -- masks of the heads have the parents of these points.
-use mathlib.Core.Path.{_≡_, refl, sym, ap, ap₂, _∙_}
-use mathlib.Core.Bool.{Bool, true, false, _||_, or-false}
+use mathlib.Core.Path.{_≡_, refl, sym, ap, _∙_}
+use mathlib.Core.Bool.{Bool, false, _||_, or-false}
 use mathlib.Core.List.{List}
 use mathlib.Core.Logic.{⊎-elim}
 use Prim.Native.Nat.{ℕ, _+_, _-_, _≤_, _<_}
@@ -11,7 +11,6 @@ use lib.Seq.{take-all}
 use Rattle.intersections.specs.declared.points.IntersectionPoint.{IntersectionPoint}
 use Rattle.intersections.specs.Members.{noPoint}
 use Rattle.lists.proofs.Arrays.{length-of-values}
-use Rattle.lists.specs.Some.{any}
 use Rattle.lists.proofs.Somes.{any-none, any-next}
 use Rattle.sets.specs.Regions.{isAdoptersOf, parents, meetsAt}
 use Rattle.sets.proofs.Pairing.{empty-masks, noted, noted-length, parents-in, first-beyond, second-beyond}
