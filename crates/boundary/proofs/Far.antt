@@ -1,12 +1,12 @@
 -- Points so far from the edge of a circle that no division is needed to tell on which side they lie (specs/Measured.antt).
 use Prim.{tt}
 use mathlib.Core.Path.{_≡_, refl, sym, ap, _∙_}
-use mathlib.Core.Bool.{true, false, not, false≢true}
+use mathlib.Core.Bool.{true, false, not}
 use Prim.Native.Nat.{ℕ, _+_, _*_, _^_, _≤_, _<_}
 use native.Mathlib.Nat.{le-refl, lt-of-lt-of-le, mul-le-mul}
 use native.Mathlib.Omega.{arith}
 use lib.Dec.{T, leb→le}
-use lib.Ieee.{Float, nan, inf, fin, binary64, fits, lt, le, add, sub, mul, div, ofBits}
+use lib.Ieee.{Float, binary64, fits, lt, le, add, sub, mul, div, ofBits}
 use Rattle.binary64.specs.Constants.{zero64, one64, two64}
 use Rattle.binary64.specs.Functions.{absolute, largerOf}
 use Rattle.binary64.specs.Magnitude.{Most, Least}
@@ -17,12 +17,12 @@ use Rattle.binary64.proofs.Functions.{larger-most, absolute-finite, absolute-ma
 use Rattle.binary64.proofs.Magnitude.{literal-most, add-most, sub-most, mul-most, div-most}
 use Rattle.binary64.proofs.Operations.{result-rounded, add-result, sub-result, mul-result, div-result}
 use Rattle.binary64.proofs.Rounding.{plus-le, plus-ge, minus-ge, minus-none}
-use Rattle.binary64.proofs.Units.{one-pos, zero64-finite, zero64-plus, zero64-minus, plus-is, plus-minus, mag-digits, above-zero}
-use Rattle.binary64.proofs.Units.{units-of-lt, units-of-le, lt-of-units, not-lt-of-units, le-not-lt}
+use Rattle.binary64.proofs.Units.{one-pos, zero64-finite, zero64-plus, zero64-minus, plus-is, plus-minus, mag-digits}
+use Rattle.binary64.proofs.Units.{units-of-lt, units-of-le, le-of-units, lt-of-units, not-lt-of-units, le-not-lt}
 use Rattle.geometry.specs.declared.circle.Circle.{Circle}
 use Rattle.geometry.specs.Tolerances.{coincidence, coincidenceShare}
 use Rattle.geometry.specs.Moderate.{twoToThe64}
-use Rattle.geometry.proofs.Roots.{justAboveOne, top-most, finite-between, product-below, product-above}
+use Rattle.geometry.proofs.Roots.{justAboveOne, top-most, finite-between, not-below, product-below, product-above}
 use Rattle.boundary.specs.Measured.{Measured, FarIn}
 use Rattle.boundary.specs.Outline.{tolerance}
 use Rattle.boundary.proofs.Identical.{one-plus}
@@ -101,37 +101,26 @@ radius-top : Most 1 1094 (ofBits binary64 0x4130_0000_0000_0000)
 unfolding mag pow2 ofBits
 radius-top = literal-most 0x4130_0000_0000_0000 1 1094 tt tt
 
-finite-from : (x y z : Float) → T (fits binary64 x) → Finite y → Finite z → le y x ≡ true → lt x z ≡ true → Finite x
-unfolding le lt
-finite-from nan y z t h k d e = absurd (false≢true e)
-finite-from (inf s) y nan t h k d e = absurd (k .number)
-finite-from (inf s) y (inf u) t h k d e = absurd (k .number)
-finite-from (inf false) y (fin u n q) t h k d e = absurd (false≢true e)
-finite-from (inf true) nan (fin u n q) t h k d e = absurd (h .number)
-finite-from (inf true) (inf v) (fin u n q) t h k d e = absurd (h .number)
-finite-from (inf true) (fin v m p) (fin u n q) t h k d e = absurd (false≢true d)
-finite-from (fin s m p) y z t h k d e = record { fit = t; number = tt }
-
 pub measured : (r s : Float) → T (fits binary64 r) → T (fits binary64 s) → le one64 r ≡ true → lt r (ofBits binary64 0x4130_0000_0000_0000) ≡ true
-    → lt zero64 s ≡ true → lt s twoToThe64 ≡ true → Measured r s
+    → le zero64 s ≡ true → lt s twoToThe64 ≡ true → Measured r s
 measured r s fr fs a b d e =
-    let f = finite-from r one64 (ofBits binary64 0x4130_0000_0000_0000) fr (one64-most .finite) (radius-top .finite) a b in
+    let f = finite-between r one64 (ofBits binary64 0x4130_0000_0000_0000) fr (one64-most .finite) (radius-top .finite) a b in
     let g = finite-between s zero64 twoToThe64 fs zero64-finite (top-most .finite) d e in
     let u = units-of-le (one64-most .finite) f a in
-    let p = above-zero f (lt-of-units zero64-finite f (omega (arith, u, one-plus .0, one-plus .1, one-pos, zero64-plus, zero64-minus))) in
-    let q = above-zero g d in
+    let p = not-below f (le-of-units zero64-finite f (omega (arith, u, one-plus .0, one-plus .1, zero64-plus, zero64-minus))) in
+    let q = not-below g d in
     record {
       radius-most = record {
         finite = f;
-        bound = omega (arith, units-of-lt f (radius-top .finite) b, p .1, plus-minus r, plus-minus (ofBits binary64 0x4130_0000_0000_0000), radius-top .bound);
+        bound = omega (arith, units-of-lt f (radius-top .finite) b, p, plus-minus r, plus-minus (ofBits binary64 0x4130_0000_0000_0000), radius-top .bound);
       };
-      radius-least = record { finite = f; bound = omega (arith, u, p .1, one-plus .0, one-plus .1, plus-minus r) };
-      radius-minus = p .1;
+      radius-least = record { finite = f; bound = omega (arith, u, p, one-plus .0, one-plus .1, plus-minus r) };
+      radius-minus = p;
       squared-most = record {
         finite = g;
-        bound = omega (arith, units-of-lt g (top-most .finite) e, q .1, plus-minus s, plus-minus twoToThe64, top-most .bound);
+        bound = omega (arith, units-of-lt g (top-most .finite) e, q, plus-minus s, plus-minus twoToThe64, top-most .bound);
       };
-      squared-minus = q .1;
+      squared-minus = q;
     }
 
 -- ---- the tolerance of a circle of radius 1 or more

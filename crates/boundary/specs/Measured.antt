@@ -10,7 +10,7 @@ use Rattle.binary64.specs.Units.{minus}
 use Rattle.geometry.specs.declared.circle.Circle.{Circle}
 use Rattle.boundary.specs.Outline.{tolerance}
 
--- r is from 1 to 2^20, and s above zero and at most 2^64
+-- r is from 1 to 2^20, and s not below zero and at most 2^64
 pub record Measured (r s : Float) : Type 0 where
   pub radius-most : Most 1 1094 r
   pub radius-least : Least 1 1074 r

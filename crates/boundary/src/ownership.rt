@@ -47,7 +47,7 @@ fn measured(r: f64, squared: f64) -> bool
 {
     if 1.0 <= r {
         if r < 1048576.0 {
-            if 0.0 < squared {
+            if 0.0 <= squared {
                 return squared < 18446744073709551616.0;
             }
         }

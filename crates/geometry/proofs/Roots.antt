@@ -13,7 +13,7 @@ use Rattle.binary64.specs.Units.{pow2, one, mag, plus, minus, Finite}
 use Rattle.binary64.specs.Magnitude.{Most}
 use Rattle.binary64.specs.Rounding.{Rounded}
 use Rattle.binary64.proofs.Naturals.{lt-or-ge}
-use Rattle.binary64.proofs.Units.{one-pos, plus-minus, mag-digits, zero64-finite, above-zero, units-of-lt, units-of-le, lt-of-units, le-not-lt, one-sided}
+use Rattle.binary64.proofs.Units.{one-pos, plus-minus, mag-digits, zero64-finite, zero64-plus, zero64-minus, units-of-lt, units-of-le, lt-of-units, le-not-lt, one-sided}
 use Rattle.binary64.proofs.Rounding.{plus-le, plus-ge, minus-none}
 use Rattle.binary64.proofs.Operations.{result-rounded, add-result, mul-result}
 use Rattle.binary64.proofs.Magnitude.{literal-most, add-most, mul-most}
@@ -23,8 +23,8 @@ use Rattle.elementary.proofs.root.Squares.{root-most, root-le-float, root-ge-fl
 use Rattle.geometry.specs.Moderate.{twoToThe64, Above}
 
 -- what lies between two finite numbers is finite
-pub finite-between : (x y z : Float) → T (fits binary64 x) → Finite y → Finite z → lt y x ≡ true → lt x z ≡ true → Finite x
-unfolding lt
+pub finite-between : (x y z : Float) → T (fits binary64 x) → Finite y → Finite z → le y x ≡ true → lt x z ≡ true → Finite x
+unfolding le lt
 finite-between nan y z t h k d e = absurd (false≢true e)
 finite-between (inf s) y nan t h k d e = absurd (k .number)
 finite-between (inf s) y (inf u) t h k d e = absurd (k .number)
@@ -55,16 +55,20 @@ one-within : one ≤ 1 * pow2 1138
 unfolding pow2
 one-within = leb→le (pow2 1074) (1 * pow2 1138) tt
 
+-- a number from 0.0 on has no sign
+pub not-below : {x : Float} → Finite x → le zero64 x ≡ true → minus x ≡ 0
+not-below {x} f e = ⊎-elim (λ w. w .1) (λ w. omega (arith, w .0, units-of-le zero64-finite f e, zero64-plus, zero64-minus)) (one-sided x)
+
 -- A moderate number has no sign, and is at most 2^64.
-module _ (x : Float) (t : T (fits binary64 x)) (e : (lt zero64 x && lt x twoToThe64) ≡ true) where
-  tests : (lt zero64 x ≡ true) × (lt x twoToThe64 ≡ true)
-  tests = both (lt zero64 x) (lt x twoToThe64) e
+module _ (x : Float) (t : T (fits binary64 x)) (e : (le zero64 x && lt x twoToThe64) ≡ true) where
+  tests : (le zero64 x ≡ true) × (lt x twoToThe64 ≡ true)
+  tests = both (le zero64 x) (lt x twoToThe64) e
 
   moderate-finite : Finite x
   moderate-finite = finite-between x zero64 twoToThe64 t zero64-finite (top-most .finite) (tests .0) (tests .1)
 
   moderate-minus : minus x ≡ 0
-  moderate-minus = above-zero moderate-finite (tests .0) .1
+  moderate-minus = not-below moderate-finite (tests .0)
 
   moderate-most : Most 1 1138 x
   moderate-most = record {
@@ -103,8 +107,8 @@ module _ {s x y : Float} (fs : Finite s) (fx : Finite x) (fy : Finite y) (fq : F
           omega (arith, l, units-of-lt fq fs e, ms, plus-minus s)
 
 -- The root of a moderate s against a moderate r.
-module _ (s r : Float) (ts : T (fits binary64 s)) (tr : T (fits binary64 r)) (es : (lt zero64 s && lt s twoToThe64) ≡ true)
-    (er : (lt zero64 r && lt r twoToThe64) ≡ true) where
+module _ (s r : Float) (ts : T (fits binary64 s)) (tr : T (fits binary64 r)) (es : (le zero64 s && lt s twoToThe64) ≡ true)
+    (er : (le zero64 r && lt r twoToThe64) ≡ true) where
   fs : Finite s
   fs = moderate-finite s ts es
 
@@ -136,7 +140,7 @@ module _ (s r : Float) (ts : T (fits binary64 s)) (tr : T (fits binary64 r)) (es
       record { over = l; not-within = le-not-lt w fr ∙ ap not l; bound = fr; most = root-most fs (moderate-minus s ts es) 1 1138 (omega arith) wide }
 
 -- What is added to a number without a sign does not bring it down, as rounded too.
-pub sum-past : (t w r : Float) → Above t w → minus w ≡ 0 → T (fits binary64 r) → (lt zero64 r && lt r twoToThe64) ≡ true
+pub sum-past : (t w r : Float) → Above t w → minus w ≡ 0 → T (fits binary64 r) → (le zero64 r && lt r twoToThe64) ≡ true
     → le (add binary64 w r) t ≡ false
 sum-past t w r a none fit e =
     let m = moderate-most r fit e in

@@ -61,7 +61,7 @@ impl Circle {
         ensures { λ r. ⌜ r ≡ spec.contains self other ⌝ }
     {
         let squared = squared_distance(self.center, other.center);
-        // a sum with a radius above zero is no less, as rounded too
+        // a sum with a radius that is not below zero is no less, as rounded too
         if moderate(other.radius) {
             if root_above(squared, self.radius) {
                 return false;
@@ -171,11 +171,11 @@ fn squared_distance(p: Point, q: Point) -> f64
     dx * dx + dy * dy
 }
 
-// Whether a number is above zero and below 2^64, so that its square is finite.
+// Whether a number is not below zero and below 2^64, so that its square is finite.
 fn moderate(x: f64) -> bool
-    ensures { λ r. ⌜ r ≡ ((zero64 <ᶠ x) && (x <ᶠ twoToThe64)) ⌝ }
+    ensures { λ r. ⌜ r ≡ ((zero64 ≤ᶠ x) && (x <ᶠ twoToThe64)) ⌝ }
 {
-    0.0 < x && x < 18446744073709551616.0
+    0.0 <= x && x < 18446744073709551616.0
 }
 
 // Whether the root of s is seen to be above t without being worked out: s is above the square, as rounded, of a number above t.
