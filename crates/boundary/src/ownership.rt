@@ -55,8 +55,8 @@ fn measured(r: f64, squared: f64) -> bool
     false
 }
 
-// Whether the point is seen to be beyond the circle c, or well within it: then neither the implicit form nor the tolerance, a division each, is
-// worked out.
+// Whether the point at this squared distance is seen to be beyond the circle: then neither the implicit form nor the tolerance, a division
+// each, is worked out.
 fn far_out(squared: f64, c: Circle) -> bool
     ensures { λ b. ⌜ (b ≡ true → (one64 +ᶠ tolerance c <ᶠ squared /ᶠ (c .radius *ᶠ c .radius)) ≡ true) ⌝ }
 {
@@ -67,6 +67,7 @@ fn far_out(squared: f64, c: Circle) -> bool
     false
 }
 
+// Whether it is seen to be well within the circle.
 fn far_in(squared: f64, c: Circle) -> bool
     ensures { λ b. ⌜ (b ≡ true → FarIn squared c) ⌝ }
 {

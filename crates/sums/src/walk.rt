@@ -73,7 +73,8 @@ fn round_to(b: usize, n: usize, first: usize) -> usize
     first
 }
 
-// The arcs of head j in the set, listed: gap by gap round the circle, each by the one call, which is worth putting in place there, or the whole of it where no point is counted for the set there.
+// The arcs of head j in the set, listed: gap by gap round the circle, or the whole of it where no point is counted for the set there. The
+// gap back to the first point goes through the same call as the others: a function that is called in one place is compiled into that place.
 fn list_head(
     mask: usize,
     c: &[f64; 30],
