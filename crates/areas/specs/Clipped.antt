@@ -5,42 +5,42 @@ use Rattle.geometry.specs.declared.bounds.Bounds.{Bounds}
 use Rattle.geometry.specs.declared.circle.Circle.{Circle}
 use Rattle.geometry.specs.declared.point.Point.{Point}
 use Rattle.plan.specs.declared.Plan.{Plan}
-use Rattle.drawn.specs.Drawn.{boxOf}
+use Rattle.drawn.specs.Drawn.{box_of}
 use Rattle.boundary.specs.Outline.{outline}
-use Rattle.clip.specs.Area.{clippedArea}
-use Rattle.clip.specs.Gradient.{WithGradient, clippedGradient}
-use Rattle.regions.specs.Edit.{present, afreshRow}
-use Rattle.regions.specs.Table.{Exclusives, Method, planMembers, areaAt, afresh}
+use Rattle.clip.specs.Area.{clipped_area}
+use Rattle.clip.specs.Gradient.{WithGradient, clipped_gradient}
+use Rattle.regions.specs.Edit.{present, afresh_row}
+use Rattle.regions.specs.Table.{Exclusives, Method, plan_members, area_at, afresh}
 
 -- the area in a box of one member alone comes from its full circle
-pub clipped-alone : (box : Bounds) (c : Circle) (ps qs : List Point)
-    → clippedArea box (record { circle = c; points = ps } ∷ []) ≡ clippedArea box (record { circle = c; points = qs } ∷ [])
-unfolding clippedArea outline
-clipped-alone box c ps qs = refl
+pub clipped_alone : (box : Bounds) (c : Circle) (ps qs : List Point)
+    → clipped_area box (record { circle = c; points = ps } ∷ []) ≡ clipped_area box (record { circle = c; points = qs } ∷ [])
+unfolding clipped_area outline
+clipped_alone box c ps qs = refl
 
 -- How a plan's table of rows in its box is worked out, for any list of sets and any exclusives: row 0 is the box's area.
-abbrev pub clippedMethod : (Plan → ℕ → Bool) → Exclusives → Method
-clippedMethod sets exclusives =
+abbrev pub clipped_method : (Plan → ℕ → Bool) → Exclusives → Method
+clipped_method sets exclusives =
     record {
-      area = λ g. clippedArea (bounds (boxOf g));
-      alone = λ g. clipped-alone (bounds (boxOf g));
-      hasBox = true;
-      boxArea = λ g. area (boxOf g);
+      area = λ g. clipped_area (bounds (box_of g));
+      alone = λ g. clipped_alone (bounds (box_of g));
+      has_box = true;
+      box_area = λ g. area (box_of g);
       sets = sets;
       exclusives = exclusives;
     }
 
 -- "Row 0 has byte 1 and the box area."
-pub clipped-row-zero : (sets : Plan → ℕ → Bool) (exclusives : Exclusives) (p : Plan)
-    → afresh (clippedMethod sets exclusives) p 0 ≡ present (area (boxOf p.ground))
-unfolding afreshRow
-clipped-row-zero sets exclusives p = refl
+pub clipped_row_zero : (sets : Plan → ℕ → Bool) (exclusives : Exclusives) (p : Plan)
+    → afresh (clipped_method sets exclusives) p 0 ≡ present (area (box_of p.ground))
+unfolding afresh_row
+clipped_row_zero sets exclusives p = refl
 
 -- the area of row S and its gradient by position: three entries a member, in the order of the members, then the box's four
-abbrev pub clippedGradientRow : Plan → ℕ → WithGradient
-clippedGradientRow p S = clippedGradient (bounds (boxOf p.ground)) (planMembers p S)
+abbrev pub clipped_gradient_row : Plan → ℕ → WithGradient
+clipped_gradient_row p S = clipped_gradient (bounds (box_of p.ground)) (plan_members p S)
 
 -- The area inside the box that the code works out for a set of a plan's heads is the row of that set.
 pub clipped-row : (sets : Plan → ℕ → Bool) (exclusives : Exclusives) (p : Plan) (S : ℕ)
-    → areaAt (clippedMethod sets exclusives) p S ≡ clippedArea (bounds (boxOf p.ground)) (planMembers p S)
+    → area_at (clipped_method sets exclusives) p S ≡ clipped_area (bounds (box_of p.ground)) (plan_members p S)
 clipped-row sets exclusives p S = refl

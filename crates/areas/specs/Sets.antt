@@ -2,10 +2,10 @@
 -- of sets; this is the one of the plan's own calls.
 use Rattle.std.specs.Prelude.{ℕ, Bool}
 use Rattle.plan.specs.declared.Plan.{Plan}
-use Rattle.drawn.specs.Drawn.{planCircles}
+use Rattle.drawn.specs.Drawn.{plan_circles}
 use Rattle.intersections.specs.Points.{collected}
-use Rattle.sets.specs.Regions.{inRegions}
+use Rattle.sets.specs.Regions.{in_regions}
 
 -- which masks are among a plan's sets
-unfoldable pub planSets : Plan → ℕ → Bool
-planSets p S = inRegions (planCircles p) (collected (planCircles p)) S
+unfoldable pub plan_sets : Plan → ℕ → Bool
+plan_sets p S = in_regions (plan_circles p) (collected (plan_circles p)) S

@@ -10,11 +10,11 @@ use lib.Ieee.Compare.{differs_from_itself}
 use Rattle.binary64.specs.Units.{Finite, mag, negative, plus, minus}
 use Rattle.binary64.specs.Constants.{zero64}
 use Rattle.binary64.specs.Magnitude.{Most, Least}
-use Rattle.binary64.specs.Functions.{absolute, unit, signumOf, clampToZero, largerOf, smallerOf}
-use Rattle.binary64.proofs.Units.{neg-finite, plus-is, zero64-finite, zero64-sign, zero64-plus, zero64-minus, above_zero, not-above-zero, not-nan, le-units}
-use Rattle.binary64.proofs.Magnitude.{most-either, most-zero}
-use Rattle.binary64.proofs.Whole.{ofInt-finite, lt-ofInt}
-use Rattle.binary64.proofs.Patterns.{pattern-sign}
+use Rattle.binary64.specs.Functions.{absolute, unit, signum_of, clamp_to_zero, larger_of, smaller_of}
+use Rattle.binary64.proofs.Units.{neg_finite, plus_is, zero64_finite, zero64_sign, zero64_plus, zero64_minus, above_zero, not_above_zero, not_nan, le_units}
+use Rattle.binary64.proofs.Magnitude.{most_either, most_zero}
+use Rattle.binary64.proofs.Whole.{of_int_finite, lt_of_int}
+use Rattle.binary64.proofs.Patterns.{pattern_sign}
 
 -- ---- x == x fails just for a NaN
 
@@ -40,22 +40,22 @@ is-nan x e = ap is_nan (only_nan x e)
 pub sign_of_bits : (x : Float) → T (fits binary64 x) → is_nan x ≡ false → leb (2 ^ 63) (to_bits binary64 x) ≡ negative x
 sign_of_bits x f n =
     let e = of_bits-to_bits binary64 x f in
-    sym (pattern-sign (to_bits binary64 x) (subst (λ (y : Float). T (not (is_nan y))) (sym e) (subst (λ (b : Bool). T (not b)) (sym n) tt))) ∙ ap negative e
+    sym (pattern_sign (to_bits binary64 x) (subst (λ (y : Float). T (not (is_nan y))) (sym e) (subst (λ (b : Bool). T (not b)) (sym n) tt))) ∙ ap negative e
 
 -- With the sign bit set |x| is -x, and otherwise x.
-pub absolute-of-negative : (x : Float) → negative x ≡ true → neg x ≡ absolute x
+pub absolute_of_negative : (x : Float) → negative x ≡ true → neg x ≡ absolute x
 unfolding neg
-absolute-of-negative nan e = refl
-absolute-of-negative (inf s) e = ap (λ (b : Bool). inf (not b)) e
-absolute-of-negative (fin s m d) e = ap (λ (b : Bool). fin (not b) m d) e
+absolute_of_negative nan e = refl
+absolute_of_negative (inf s) e = ap (λ (b : Bool). inf (not b)) e
+absolute_of_negative (fin s m d) e = ap (λ (b : Bool). fin (not b) m d) e
 
-pub absolute-of-other : (x : Float) → negative x ≡ false → x ≡ absolute x
-absolute-of-other nan e = refl
-absolute-of-other (inf s) e = ap inf e
-absolute-of-other (fin s m d) e = ap (λ (b : Bool). fin b m d) e
+pub absolute_of_other : (x : Float) → negative x ≡ false → x ≡ absolute x
+absolute_of_other nan e = refl
+absolute_of_other (inf s) e = ap inf e
+absolute_of_other (fin s m d) e = ap (λ (b : Bool). fin b m d) e
 
 -- The signum of a number is 1 or -1 by the sign bit.
-pub signum_of_number : (x : Float) (s : Bool) → is_nan x ≡ false → negative x ≡ s → signumOf x ≡ unit s
+pub signum_of_number : (x : Float) (s : Bool) → is_nan x ≡ false → negative x ≡ s → signum_of x ≡ unit s
 unfolding is_nan
 signum_of_number nan s n e = absurd (true≢false n)
 signum_of_number (inf t) s n e = ap unit e
@@ -63,103 +63,103 @@ signum_of_number (fin t m d) s n e = ap unit e
 
 -- a finite float is no NaN
 number : {x : Float} → Finite x → is_nan x ≡ false
-number {x} h = is_false (is_nan x) (not-nan h)
+number {x} h = is_false (is_nan x) (not_nan h)
 
 -- ---- abs
 
 -- |x| has no sign bit, and x's magnitude.
-pub absolute-sign : (x : Float) → negative (absolute x) ≡ false
-absolute-sign nan = refl
-absolute-sign (inf s) = refl
-absolute-sign (fin s m e) = refl
+pub absolute_sign : (x : Float) → negative (absolute x) ≡ false
+absolute_sign nan = refl
+absolute_sign (inf s) = refl
+absolute_sign (fin s m e) = refl
 
-pub absolute-mag : (x : Float) → mag (absolute x) ≡ mag x
+pub absolute_mag : (x : Float) → mag (absolute x) ≡ mag x
 unfolding mag
-absolute-mag nan = refl
-absolute-mag (inf s) = refl
-absolute-mag (fin s m e) = refl
+absolute_mag nan = refl
+absolute_mag (inf s) = refl
+absolute_mag (fin s m e) = refl
 
-pub absolute-finite : {x : Float} → Finite x → Finite (absolute x)
-absolute-finite {x} h = go (negative x) refl
+pub absolute_finite : {x : Float} → Finite x → Finite (absolute x)
+absolute_finite {x} h = go (negative x) refl
   where
     go : (s : Bool) → negative x ≡ s → Finite (absolute x)
-    go true e = subst (λ (y : Float). Finite y) (absolute-of-negative x e) (neg-finite h)
-    go false e = subst (λ (y : Float). Finite y) (absolute-of-other x e) h
+    go true e = subst (λ (y : Float). Finite y) (absolute_of_negative x e) (neg_finite h)
+    go false e = subst (λ (y : Float). Finite y) (absolute_of_other x e) h
 
 -- |x| is as large as x, and above zero.
-pub absolute-most : {j a : ℕ} {x : Float} → Most j a x → Most j a (absolute x)
-absolute-most {x = x} m = record { finite = absolute-finite m.finite; bound = le_trans (le_of_eq (absolute-mag x)) m.bound }
+pub absolute_most : {j a : ℕ} {x : Float} → Most j a x → Most j a (absolute x)
+absolute_most {x = x} m = record { finite = absolute_finite m.finite; bound = le_trans (le_of_eq (absolute_mag x)) m.bound }
 
-pub absolute-least : {j a : ℕ} {x : Float} → Least j a x → Least j a (absolute x)
-absolute-least {x = x} m = record { finite = absolute-finite m.finite; bound = le_trans m.bound (le_of_eq (sym (absolute-mag x))) }
+pub absolute_least : {j a : ℕ} {x : Float} → Least j a x → Least j a (absolute x)
+absolute_least {x = x} m = record { finite = absolute_finite m.finite; bound = le_trans m.bound (le_of_eq (sym (absolute_mag x))) }
 
 -- All of |x| is above zero.
-pub absolute-parts : (x : Float) → (plus (absolute x) ≡ mag x) × (minus (absolute x) ≡ 0)
-absolute-parts x = let w = plus-is (absolute x) (absolute-sign x) in (w.0 ∙ absolute-mag x, w.1)
+pub absolute_parts : (x : Float) → (plus (absolute x) ≡ mag x) × (minus (absolute x) ≡ 0)
+absolute_parts x = let w = plus_is (absolute x) (absolute_sign x) in (w.0 ∙ absolute_mag x, w.1)
 
 -- Where |x| ≤ y for a number y, x is a number,
-pub absolute-number : (x y : Float) → T (fits binary64 x) → Finite y → le (absolute x) y ≡ true → Finite x
+pub absolute_number : (x y : Float) → T (fits binary64 x) → Finite y → le (absolute x) y ≡ true → Finite x
 unfolding le lt eq
-absolute-number (fin s m e) y f h t = record { fit = f; number = tt }
-absolute-number nan y f h t = absurd (false≢true t)
-absolute-number (inf s) nan f h t = absurd h.number
-absolute-number (inf s) (inf r) f h t = absurd h.number
-absolute-number (inf s) (fin r m e) f h t = absurd (false≢true t)
+absolute_number (fin s m e) y f h t = record { fit = f; number = tt }
+absolute_number nan y f h t = absurd (false≢true t)
+absolute_number (inf s) nan f h t = absurd h.number
+absolute_number (inf s) (inf r) f h t = absurd h.number
+absolute_number (inf s) (fin r m e) f h t = absurd (false≢true t)
 
 -- and among numbers the test is one of magnitudes, where y has no sign bit.
-pub absolute-test : {x y : Float} → Finite x → Finite y → negative y ≡ false → le (absolute x) y ≡ leb (mag x) (mag y)
-absolute-test {x} {y} f h s =
-    let w = absolute-parts x in
-    let b = plus-is y s in
-    le-units (absolute-finite f) h
+pub absolute_test : {x y : Float} → Finite x → Finite y → negative y ≡ false → le (absolute x) y ≡ leb (mag x) (mag y)
+absolute_test {x} {y} f h s =
+    let w = absolute_parts x in
+    let b = plus_is y s in
+    le_units (absolute_finite f) h
     ∙ ap₂ leb (ap₂ (λ (i k : ℕ). i + k) w.0 b.1 ∙ add-zero (mag x)) (ap₂ (λ (i k : ℕ). i + k) b.0 w.1 ∙ add-zero (mag y))
 
 -- ---- the clamp
 
 -- What is above zero is a number without the sign bit.
-pub above-sign : (x : Float) → lt zero64 x ≡ true → (negative x ≡ false) × (is_nan x ≡ false)
+pub above_sign : (x : Float) → lt zero64 x ≡ true → (negative x ≡ false) × (is_nan x ≡ false)
 unfolding lt is_nan of_bits
-above-sign nan e = absurd (false≢true e)
-above-sign (inf true) e = absurd (false≢true e)
-above-sign (inf false) e = (refl, refl)
-above-sign (fin true m d) e = absurd (false≢true e)
-above-sign (fin false m d) e = (refl, refl)
+above_sign nan e = absurd (false≢true e)
+above_sign (inf true) e = absurd (false≢true e)
+above_sign (inf false) e = (refl, refl)
+above_sign (fin true m d) e = absurd (false≢true e)
+above_sign (fin false m d) e = (refl, refl)
 
 -- It is neither -0 nor below zero, and no NaN, whatever x is.
-pub clamp-sign : (x : Float) → (negative (clampToZero x) ≡ false) × (is_nan (clampToZero x) ≡ false)
-clamp-sign x = go (lt zero64 x) refl
+pub clamp_sign : (x : Float) → (negative (clamp_to_zero x) ≡ false) × (is_nan (clamp_to_zero x) ≡ false)
+clamp_sign x = go (lt zero64 x) refl
   where
     go : (b : Bool) → lt zero64 x ≡ b → (negative (cond b x zero64) ≡ false) × (is_nan (cond b x zero64) ≡ false)
-    go true e = above-sign x e
-    go false e = (zero64-sign, number zero64-finite)
+    go true e = above_sign x e
+    go false e = (zero64_sign, number zero64_finite)
 
 -- It is no larger than x.
-pub clamp-most : {j a : ℕ} {x : Float} → Most j a x → Most j a (clampToZero x)
-clamp-most {x = x} m = most-either (lt zero64 x) m most-zero
+pub clamp_most : {j a : ℕ} {x : Float} → Most j a x → Most j a (clamp_to_zero x)
+clamp_most {x = x} m = most_either (lt zero64 x) m most_zero
 
 -- It is x where x is above zero, and otherwise +0.
-pub clamp-parts : {x : Float} → Finite x → (plus (clampToZero x) ≡ plus x) × (minus (clampToZero x) ≡ 0)
-clamp-parts {x} h = go (lt zero64 x) refl
+pub clamp_parts : {x : Float} → Finite x → (plus (clamp_to_zero x) ≡ plus x) × (minus (clamp_to_zero x) ≡ 0)
+clamp_parts {x} h = go (lt zero64 x) refl
   where
     go : (b : Bool) → lt zero64 x ≡ b → (plus (cond b x zero64) ≡ plus x) × (minus (cond b x zero64) ≡ 0)
     go true e = (refl, (above_zero h e).1)
-    go false e = (zero64-plus ∙ sym (not-above-zero h e), zero64-minus)
+    go false e = (zero64_plus ∙ sym (not_above_zero h e), zero64_minus)
 
 -- ---- larger and smaller
 
 -- Of numbers they are picked by one test.
-pub larger-is : (x y : Float) → is_nan x ≡ false → largerOf x y ≡ cond (lt x y) y x
-larger-is x y e = rw e
+pub larger_is : (x y : Float) → is_nan x ≡ false → larger_of x y ≡ cond (lt x y) y x
+larger_is x y e = rw e
 
-pub smaller-is : (x y : Float) → is_nan x ≡ false → smallerOf x y ≡ cond (lt y x) y x
-smaller-is x y e = rw e
+pub smaller_is : (x y : Float) → is_nan x ≡ false → smaller_of x y ≡ cond (lt y x) y x
+smaller_is x y e = rw e
 
 -- They are bounded as both are.
-pub larger-most : {j a : ℕ} {x y : Float} → Most j a x → Most j a y → Most j a (largerOf x y)
-larger-most {x = x} {y = y} m n = most-either (is_nan x || lt x y) n m
+pub larger_most : {j a : ℕ} {x y : Float} → Most j a x → Most j a y → Most j a (larger_of x y)
+larger_most {x = x} {y = y} m n = most_either (is_nan x || lt x y) n m
 
-pub smaller-most : {j a : ℕ} {x y : Float} → Most j a x → Most j a y → Most j a (smallerOf x y)
-smaller-most {x = x} {y = y} m n = most-either (is_nan x || lt y x) n m
+pub smaller_most : {j a : ℕ} {x y : Float} → Most j a x → Most j a y → Most j a (smaller_of x y)
+smaller_most {x = x} {y = y} m n = most_either (is_nan x || lt y x) n m
 
 picked : (t : Bool) (a b : ℤ) → cond t (of_int binary64 a) (of_int binary64 b) ≡ of_int binary64 (cond t a b)
 picked true a b = refl
@@ -168,8 +168,8 @@ picked false a b = refl
 -- of whole numbers
 module _ (a b : ℤ) (h : nat_abs a ≤ 2 ^ 53) (k : nat_abs b ≤ 2 ^ 53) where
   -- They are the larger and the smaller whole number.
-  pub larger-ofInt : largerOf (of_int binary64 a) (of_int binary64 b) ≡ of_int binary64 (cond (lt_z a b) b a)
-  larger-ofInt = larger-is (of_int binary64 a) (of_int binary64 b) (number (ofInt-finite a h)) ∙ rw (lt-ofInt a b h k) (picked (lt_z a b) b a)
+  pub larger_of_int : larger_of (of_int binary64 a) (of_int binary64 b) ≡ of_int binary64 (cond (lt_z a b) b a)
+  larger_of_int = larger_is (of_int binary64 a) (of_int binary64 b) (number (of_int_finite a h)) ∙ rw (lt_of_int a b h k) (picked (lt_z a b) b a)
 
-  pub smaller-ofInt : smallerOf (of_int binary64 a) (of_int binary64 b) ≡ of_int binary64 (cond (lt_z b a) b a)
-  smaller-ofInt = smaller-is (of_int binary64 a) (of_int binary64 b) (number (ofInt-finite a h)) ∙ rw (lt-ofInt b a k h) (picked (lt_z b a) b a)
+  pub smaller_of_int : smaller_of (of_int binary64 a) (of_int binary64 b) ≡ of_int binary64 (cond (lt_z b a) b a)
+  smaller_of_int = smaller_is (of_int binary64 a) (of_int binary64 b) (number (of_int_finite a h)) ∙ rw (lt_of_int b a k h) (picked (lt_z b a) b a)

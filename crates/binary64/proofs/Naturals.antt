@@ -7,8 +7,8 @@ use lib.Arith.{le→nltb}
 use lib.Pow.{pow-lt}
 
 -- of two numbers one is below the other or not: not truncated, so a proof may go by cases on it
-pub lt-or-ge : (a b : ℕ) → (a < b) ⊎ (b ≤ a)
-lt-or-ge a b = go (ltb a b) (ltb→lt a b) (nltb→le a b)
+pub lt_or_ge : (a b : ℕ) → (a < b) ⊎ (b ≤ a)
+lt_or_ge a b = go (ltb a b) (ltb→lt a b) (nltb→le a b)
   where
     go : (t : Bool) → (T t → a < b) → (T (not t) → b ≤ a) → (a < b) ⊎ (b ≤ a)
     go true f g = inl (f tt)
@@ -29,14 +29,14 @@ pub pow_lt_back : (a l : ℕ) → 2 ^ a < 2 ^ l → a < l
 pow_lt_back a l h = lt_of_not-le (λ (g : l ≤ a). not-le_of_lt h (pow_mono g))
 
 -- a / x and b / y are both c / k: then a and b compare as x and y do
-pub scaled-lt : (x y a b k c : ℕ) → 0 < k → 0 < c → a * k ≡ x * c → b * k ≡ y * c → ltb x y ≡ ltb a b
-scaled-lt x y a b k c K C p q =
+pub scaled_lt : (x y a b k c : ℕ) → 0 < k → 0 < c → a * k ≡ x * c → b * k ≡ y * c → ltb x y ≡ ltb a b
+scaled_lt x y a b k c K C p q =
     same_test (ltb x y) (ltb a b)
     (λ t. lt→ltb a b (lt_of_mul-lt-mul_right k (rw (p, q) (mul-lt-mul_of_pos_right (ltb→lt x y t) C))))
     (λ t. lt→ltb x y (lt_of_mul-lt-mul_right c (rw (← p, ← q) (mul-lt-mul_of_pos_right (ltb→lt a b t) K))))
 
-pub scaled-eq : (x y a b k c : ℕ) → 0 < k → 0 < c → a * k ≡ x * c → b * k ≡ y * c → eqb x y ≡ eqb a b
-scaled-eq x y a b k c K C p q =
+pub scaled_eq : (x y a b k c : ℕ) → 0 < k → 0 < c → a * k ≡ x * c → b * k ≡ y * c → eqb x y ≡ eqb a b
+scaled_eq x y a b k c K C p q =
     same_test (eqb x y) (eqb a b)
     (λ t. eq→eqb (eq_of_mul-eq-mul_right k K a b (p ∙ ap (λ (z : ℕ). z * c) (eqb→eq x y t) ∙ sym q)))
     (λ t. eq→eqb (eq_of_mul-eq-mul_right c C x y (sym p ∙ ap (λ (z : ℕ). z * k) (eqb→eq a b t) ∙ q)))
@@ -46,8 +46,8 @@ and-true true = refl
 and-true false = refl
 
 -- a < b fails just where b ≤ a
-pub not-ltb : (a b : ℕ) → not (ltb a b) ≡ leb b a
-not-ltb a b = same_test (not (ltb a b)) (leb b a) (λ t. le→leb b a (nltb→le a b t)) (λ t. le→nltb a b (leb→le b a t))
+pub not_ltb : (a b : ℕ) → not (ltb a b) ≡ leb b a
+not_ltb a b = same_test (not (ltb a b)) (leb b a) (λ t. le→leb b a (nltb→le a b t)) (λ t. le→nltb a b (leb→le b a t))
 
 -- ±a and ∓b are equal only if both are zero
 pub both_zero : (a b : ℕ) → (eqb a b && eqb a 0) ≡ eqb (a + b) 0
@@ -63,8 +63,8 @@ both_zero a b =
     parts a b p = omega arith
 
 -- a ≤ b is a < b or a = b, as tests
-pub lt-or-eq : (a b : ℕ) → (ltb a b || eqb a b) ≡ leb a b
-lt-or-eq a b = ⊎_elim less others (lt-or-ge a b)
+pub lt_or_eq : (a b : ℕ) → (ltb a b || eqb a b) ≡ leb a b
+lt_or_eq a b = ⊎_elim less others (lt_or_ge a b)
   where
     less : a < b → (ltb a b || eqb a b) ≡ leb a b
     less l = rw (is_true (ltb a b) (lt→ltb a b l), is_true (leb a b) (le→leb a b (le_of_lt l)))

@@ -9,7 +9,7 @@ use lib.Ieee.Exact.{HasValue}
 use lib.Ieee.Fits.{up_pos, down_pos}
 use lib.Ieee.Positive.{first_pos}
 use lib.Ieee.Scale.{round_same}
-use Rattle.binary64.proofs.Naturals.{scaled-lt, scaled-eq}
+use Rattle.binary64.proofs.Naturals.{scaled_lt, scaled_eq}
 
 -- ---- two fractions over one denominator: a / c is A / d, and b / c is B / d
 
@@ -18,16 +18,16 @@ module _ (a b c A B d : ℕ) (C : 0 < c) (D : 0 < d) (p : a * d ≡ A * c) (q : 
   total = add-mul a b d ∙ ap₂ (λ (x y : ℕ). x + y) p q ∙ sym (add-mul A B c)
 
   diff : (a - b) * d ≡ (A - B) * c
-  diff = sub-mul a b d ∙ ap₂ (λ (x y : ℕ). x - y) p q ∙ sym (sub-mul A B c)
+  diff = sub_mul a b d ∙ ap₂ (λ (x y : ℕ). x - y) p q ∙ sym (sub_mul A B c)
     where
-      sub-mul : (x y k : ℕ) → (x - y) * k ≡ x * k - y * k
-      sub-mul x y k = mul_comm (x - y) k ∙ mul-sub k x y ∙ ap₂ (λ (u v : ℕ). u - v) (mul_comm k x) (mul_comm k y)
+      sub_mul : (x y k : ℕ) → (x - y) * k ≡ x * k - y * k
+      sub_mul x y k = mul_comm (x - y) k ∙ mul-sub k x y ∙ ap₂ (λ (u v : ℕ). u - v) (mul_comm k x) (mul_comm k y)
 
   less : ltb a b ≡ ltb A B
-  less = scaled-lt a b A B c d C D (sym p) (sym q)
+  less = scaled_lt a b A B c d C D (sym p) (sym q)
 
   same : eqb a b ≡ eqb A B
-  same = scaled-eq a b A B c d C D (sym p) (sym q)
+  same = scaled_eq a b A B c d C D (sym p) (sym q)
 
 zeros : (c d : ℕ) → 0 * d ≡ 0 * c
 zeros c d = zero-mul d ∙ sym (zero-mul c)
@@ -45,14 +45,14 @@ module _ (s t : Bool) (a b c A B d : ℕ) (C : 0 < c) (D : 0 < d) (p : a * d ≡
       )
       refl
 
-below-same : (s t : Bool) (a b c A B d : ℕ) → 0 < c → 0 < d → a * d ≡ A * c → b * d ≡ B * c → below s a t b ≡ below s A t B
-below-same false false a b c A B d C D p q = less a b c A B d C D p q
-below-same false true a b c A B d C D p q = refl
-below-same true false a b c A B d C D p q = less 0 (a + b) c 0 (A + B) d C D (zeros c d) (total a b c A B d C D p q)
-below-same true true a b c A B d C D p q = less b a c B A d C D q p
+below_same : (s t : Bool) (a b c A B d : ℕ) → 0 < c → 0 < d → a * d ≡ A * c → b * d ≡ B * c → below s a t b ≡ below s A t B
+below_same false false a b c A B d C D p q = less a b c A B d C D p q
+below_same false true a b c A B d C D p q = refl
+below_same true false a b c A B d C D p q = less 0 (a + b) c 0 (A + B) d C D (zeros c d) (total a b c A B d C D p q)
+below_same true true a b c A B d C D p q = less b a c B A d C D q p
 
-level-same : (s t : Bool) (a b c A B d : ℕ) → 0 < c → 0 < d → a * d ≡ A * c → b * d ≡ B * c → level s a t b ≡ level s A t B
-level-same s t a b c A B d C D p q = rw (same a b c A B d C D p q, same a 0 c A 0 d C D p (zeros c d))
+level_same : (s t : Bool) (a b c A B d : ℕ) → 0 < c → 0 < d → a * d ≡ A * c → b * d ≡ B * c → level s a t b ≡ level s A t B
+level_same s t a b c A B d C D p q = rw (same a b c A B d C D p q, same a 0 c A 0 d C D p (zeros c d))
 
 -- ---- the operations
 
@@ -63,55 +63,55 @@ crossed m e d a c p =
     (h, h ∙ ap (λ (z : ℕ). a * z) (mul_comm e d))
 
 -- x is ±a / c and y is ±b / c
-pub add-values : (x y : Float) (s t : Bool) (a b c : ℕ) → 0 < c → HasValue x s a c → HasValue y t b c → add binary64 x y ≡ sum binary64 s a t b c
+pub add_values : (x y : Float) (s t : Bool) (a b c : ℕ) → 0 < c → HasValue x s a c → HasValue y t b c → add binary64 x y ≡ sum binary64 s a t b c
 unfolding add
-add-values nan y s t a b c C h k = absurd h
-add-values (inf u) y s t a b c C h k = absurd h
-add-values (fin u m e) nan s t a b c C h k = absurd k
-add-values (fin u m e) (inf v) s t a b c C h k = absurd k
-add-values (fin u m e) (fin v n d) s t a b c C h k =
+add_values nan y s t a b c C h k = absurd h
+add_values (inf u) y s t a b c C h k = absurd h
+add_values (fin u m e) nan s t a b c C h k = absurd k
+add_values (fin u m e) (inf v) s t a b c C h k = absurd k
+add_values (fin u m e) (fin v n d) s t a b c C h k =
     ap₂ (λ (i j : Bool). sum binary64 i (m * up e * down d) j (n * up d * down e) (down e * down d)) h.0 k.0
     ∙ sum_same s t (m * up e * down d) (n * up d * down e) (down e * down d) a b c (mul-pos (down_pos e) (down_pos d)) C (crossed (m * up e) (down e) (down d) a c h.1).0 (crossed (n * up d) (down d) (down e) b c k.1).1
 
-pub lt-values : (x y : Float) (s t : Bool) (a b c : ℕ) → 0 < c → HasValue x s a c → HasValue y t b c → lt x y ≡ below s a t b
+pub lt_values : (x y : Float) (s t : Bool) (a b c : ℕ) → 0 < c → HasValue x s a c → HasValue y t b c → lt x y ≡ below s a t b
 unfolding lt
-lt-values nan y s t a b c C h k = absurd h
-lt-values (inf u) y s t a b c C h k = absurd h
-lt-values (fin u m e) nan s t a b c C h k = absurd k
-lt-values (fin u m e) (inf v) s t a b c C h k = absurd k
-lt-values (fin u m e) (fin v n d) s t a b c C h k =
+lt_values nan y s t a b c C h k = absurd h
+lt_values (inf u) y s t a b c C h k = absurd h
+lt_values (fin u m e) nan s t a b c C h k = absurd k
+lt_values (fin u m e) (inf v) s t a b c C h k = absurd k
+lt_values (fin u m e) (fin v n d) s t a b c C h k =
     ap₂ (λ (i j : Bool). below i (m * up e * down d) j (n * up d * down e)) h.0 k.0
-    ∙ below-same s t (m * up e * down d) (n * up d * down e) (down e * down d) a b c (mul-pos (down_pos e) (down_pos d)) C (crossed (m * up e) (down e) (down d) a c h.1).0 (crossed (n * up d) (down d) (down e) b c k.1).1
+    ∙ below_same s t (m * up e * down d) (n * up d * down e) (down e * down d) a b c (mul-pos (down_pos e) (down_pos d)) C (crossed (m * up e) (down e) (down d) a c h.1).0 (crossed (n * up d) (down d) (down e) b c k.1).1
 
-pub eq-values : (x y : Float) (s t : Bool) (a b c : ℕ) → 0 < c → HasValue x s a c → HasValue y t b c → eq x y ≡ level s a t b
+pub eq_values : (x y : Float) (s t : Bool) (a b c : ℕ) → 0 < c → HasValue x s a c → HasValue y t b c → eq x y ≡ level s a t b
 unfolding eq
-eq-values nan y s t a b c C h k = absurd h
-eq-values (inf u) y s t a b c C h k = absurd h
-eq-values (fin u m e) nan s t a b c C h k = absurd k
-eq-values (fin u m e) (inf v) s t a b c C h k = absurd k
-eq-values (fin u m e) (fin v n d) s t a b c C h k =
+eq_values nan y s t a b c C h k = absurd h
+eq_values (inf u) y s t a b c C h k = absurd h
+eq_values (fin u m e) nan s t a b c C h k = absurd k
+eq_values (fin u m e) (inf v) s t a b c C h k = absurd k
+eq_values (fin u m e) (fin v n d) s t a b c C h k =
     ap₂ (λ (i j : Bool). level i (m * up e * down d) j (n * up d * down e)) h.0 k.0
-    ∙ level-same s t (m * up e * down d) (n * up d * down e) (down e * down d) a b c (mul-pos (down_pos e) (down_pos d)) C (crossed (m * up e) (down e) (down d) a c h.1).0 (crossed (n * up d) (down d) (down e) b c k.1).1
+    ∙ level_same s t (m * up e * down d) (n * up d * down e) (down e * down d) a b c (mul-pos (down_pos e) (down_pos d)) C (crossed (m * up e) (down e) (down d) a c h.1).0 (crossed (n * up d) (down d) (down e) b c k.1).1
 
 -- x is ±a / c and y is ±b / d
-pub mul-values : (x y : Float) (s t : Bool) (a b c d : ℕ) → 0 < c → 0 < d → HasValue x s a c → HasValue y t b d → mul binary64 x y ≡ round binary64 (unlike s t) (a * b) (c * d)
+pub mul_values : (x y : Float) (s t : Bool) (a b c d : ℕ) → 0 < c → 0 < d → HasValue x s a c → HasValue y t b d → mul binary64 x y ≡ round binary64 (unlike s t) (a * b) (c * d)
 unfolding mul
-mul-values nan y s t a b c d C D h k = absurd h
-mul-values (inf u) y s t a b c d C D h k = absurd h
-mul-values (fin u m e) nan s t a b c d C D h k = absurd k
-mul-values (fin u m e) (inf v) s t a b c d C D h k = absurd k
-mul-values (fin u m e) (fin v n g) s t a b c d C D h k =
+mul_values nan y s t a b c d C D h k = absurd h
+mul_values (inf u) y s t a b c d C D h k = absurd h
+mul_values (fin u m e) nan s t a b c d C D h k = absurd k
+mul_values (fin u m e) (inf v) s t a b c d C D h k = absurd k
+mul_values (fin u m e) (fin v n g) s t a b c d C D h k =
     ap₂ (λ (i j : Bool). round binary64 (unlike i j) (m * up e * (n * up g)) (down e * down g)) h.0 k.0
     ∙ round_same binary64 (unlike s t) (m * up e * (n * up g)) (down e * down g) (a * b) (c * d) (mul-pos (down_pos e) (down_pos g)) (mul-pos C D)
     (mul-mul-mul_comm (m * up e) (n * up g) c d ∙ ap₂ (λ (i j : ℕ). i * j) h.1 k.1 ∙ mul-mul-mul_comm a (down e) b (down g))
 
-pub div-values : (x y : Float) (s t : Bool) (a b c d : ℕ) → 0 < b → 0 < c → 0 < d → HasValue x s a c → HasValue y t b d → div binary64 x y ≡ round binary64 (unlike s t) (a * d) (c * b)
+pub div_values : (x y : Float) (s t : Bool) (a b c d : ℕ) → 0 < b → 0 < c → 0 < d → HasValue x s a c → HasValue y t b d → div binary64 x y ≡ round binary64 (unlike s t) (a * d) (c * b)
 unfolding div
-div-values nan y s t a b c d B C D h k = absurd h
-div-values (inf u) y s t a b c d B C D h k = absurd h
-div-values (fin u m e) nan s t a b c d B C D h k = absurd k
-div-values (fin u m e) (inf v) s t a b c d B C D h k = absurd k
-div-values (fin u m e) (fin v n g) s t a b c d B C D h k =
+div_values nan y s t a b c d B C D h k = absurd h
+div_values (inf u) y s t a b c d B C D h k = absurd h
+div_values (fin u m e) nan s t a b c d B C D h k = absurd k
+div_values (fin u m e) (inf v) s t a b c d B C D h k = absurd k
+div_values (fin u m e) (fin v n g) s t a b c d B C D h k =
     cond_no (eqb n 0) (cond (eqb m 0) nan (inf (unlike u v))) (round binary64 (unlike u v) (m * up e * down g) (n * up g * down e)) (not_T (eqb n 0) (λ z. none n N (eqb→eq n 0 z)))
     ∙ ap₂ (λ (i j : Bool). round binary64 (unlike i j) (m * up e * down g) (n * up g * down e)) h.0 k.0
     ∙ round_same binary64 (unlike s t) (m * up e * down g) (n * up g * down e) (a * d) (c * b) (mul-pos (mul-pos N (up_pos g)) (down_pos e)) (mul-pos C B)

@@ -3,7 +3,7 @@
 use Rattle.std.specs.Prelude.{◌≡◌, ◌^◌, false, refl, Float}
 use Rattle.std.specs.Float.{binary64}
 use Rattle.std.specs.Float.Ieee.{round, mul, of_bits}
-use Rattle.binary64.specs.Units.{signedZero}
+use Rattle.binary64.specs.Units.{signed_zero}
 
 -- ---- exact constants
 
@@ -11,75 +11,75 @@ use Rattle.binary64.specs.Units.{signedZero}
 abbrev pub zero64 : Float
 zero64 = of_bits binary64 0
 
-pub zero64-is : zero64 ≡ signedZero false
+pub zero64_is : zero64 ≡ signed_zero false
 unfolding of_bits
-zero64-is = refl
+zero64_is = refl
 
 -- 0.5
 abbrev pub half64 : Float
 half64 = of_bits binary64 0x3FE0_0000_0000_0000
 
-pub half64-is : half64 ≡ round binary64 false 1 2
+pub half64_is : half64 ≡ round binary64 false 1 2
 unfolding of_bits round
-half64-is = refl
+half64_is = refl
 
 -- 1.0
 abbrev pub one64 : Float
 one64 = of_bits binary64 0x3FF0_0000_0000_0000
 
-pub one64-is : one64 ≡ round binary64 false 1 1
+pub one64_is : one64 ≡ round binary64 false 1 1
 unfolding of_bits round
-one64-is = refl
+one64_is = refl
 
 -- 2.0
 abbrev pub two64 : Float
 two64 = of_bits binary64 0x4000_0000_0000_0000
 
-pub two64-is : two64 ≡ round binary64 false 2 1
+pub two64_is : two64 ≡ round binary64 false 2 1
 unfolding of_bits round
-two64-is = refl
+two64_is = refl
 
 -- 4.0
 abbrev pub four64 : Float
 four64 = of_bits binary64 0x4010_0000_0000_0000
 
-pub four64-is : four64 ≡ round binary64 false 4 1
+pub four64_is : four64 ≡ round binary64 false 4 1
 unfolding of_bits round
-four64-is = refl
+four64_is = refl
 
 -- ---- tolerances
 
 -- 1e-7
-abbrev pub tenToMinus7 : Float
-tenToMinus7 = of_bits binary64 0x3E7A_D7F2_9ABC_AF48
+abbrev pub ten_to_minus7 : Float
+ten_to_minus7 = of_bits binary64 0x3E7A_D7F2_9ABC_AF48
 
-pub tenToMinus7-is : tenToMinus7 ≡ round binary64 false 1 (10 ^ 7)
+pub ten_to_minus7_is : ten_to_minus7 ≡ round binary64 false 1 (10 ^ 7)
 unfolding of_bits round
-tenToMinus7-is = refl
+ten_to_minus7_is = refl
 
 -- 1e-9
-abbrev pub tenToMinus9 : Float
-tenToMinus9 = of_bits binary64 0x3E11_2E0B_E826_D695
+abbrev pub ten_to_minus9 : Float
+ten_to_minus9 = of_bits binary64 0x3E11_2E0B_E826_D695
 
-pub tenToMinus9-is : tenToMinus9 ≡ round binary64 false 1 (10 ^ 9)
+pub ten_to_minus9_is : ten_to_minus9 ≡ round binary64 false 1 (10 ^ 9)
 unfolding of_bits round
-tenToMinus9-is = refl
+ten_to_minus9_is = refl
 
 -- 1e-10
-abbrev pub tenToMinus10 : Float
-tenToMinus10 = of_bits binary64 0x3DDB_7CDF_D9D7_BDBB
+abbrev pub ten_to_minus10 : Float
+ten_to_minus10 = of_bits binary64 0x3DDB_7CDF_D9D7_BDBB
 
-pub tenToMinus10-is : tenToMinus10 ≡ round binary64 false 1 (10 ^ 10)
+pub ten_to_minus10_is : ten_to_minus10 ≡ round binary64 false 1 (10 ^ 10)
 unfolding of_bits round
-tenToMinus10-is = refl
+ten_to_minus10_is = refl
 
 -- 1e-12
-abbrev pub tenToMinus12 : Float
-tenToMinus12 = of_bits binary64 0x3D71_9799_812D_EA11
+abbrev pub ten_to_minus12 : Float
+ten_to_minus12 = of_bits binary64 0x3D71_9799_812D_EA11
 
-pub tenToMinus12-is : tenToMinus12 ≡ round binary64 false 1 (10 ^ 12)
+pub ten_to_minus12_is : ten_to_minus12 ≡ round binary64 false 1 (10 ^ 12)
 unfolding of_bits round
-tenToMinus12-is = refl
+ten_to_minus12_is = refl
 
 -- ---- PI
 
@@ -87,14 +87,14 @@ tenToMinus12-is = refl
 abbrev pub pi : Float
 pi = of_bits binary64 0x4009_21FB_5444_2D18
 
-pub pi-is : pi ≡ round binary64 false 314159265358979323846264338327950288 (10 ^ 35)
+pub pi_is : pi ≡ round binary64 false 314159265358979323846264338327950288 (10 ^ 35)
 unfolding of_bits round
-pi-is = refl
+pi_is = refl
 
 -- 2.0 * PI
-abbrev pub twoPi : Float
-twoPi = of_bits binary64 0x4019_21FB_5444_2D18
+abbrev pub two_pi : Float
+two_pi = of_bits binary64 0x4019_21FB_5444_2D18
 
-pub twoPi-is : twoPi ≡ mul binary64 two64 pi
+pub two_pi_is : two_pi ≡ mul binary64 two64 pi
 unfolding of_bits mul
-twoPi-is = refl
+two_pi_is = refl

@@ -16,25 +16,25 @@ abbrev pub unit : Bool → Float
 unit s = fin s 1 (pos 0)
 
 -- `x.signum()`: 1 or -1 by the sign bit, so -1 for -0. A NaN, which has none, gives a NaN.
-abbrev pub signumOf : Float → Float
-signumOf nan = nan
-signumOf (inf s) = unit s
-signumOf (fin s m e) = unit s
+abbrev pub signum_of : Float → Float
+signum_of nan = nan
+signum_of (inf s) = unit s
+signum_of (fin s m e) = unit s
 
 -- The clamp of exclusive areas: x where it is above zero; a NaN, a zero of either sign and a number below zero give +0.
-abbrev pub clampToZero : Float → Float
-clampToZero x = cond (lt zero64 x) x zero64
+abbrev pub clamp_to_zero : Float → Float
+clamp_to_zero x = cond (lt zero64 x) x zero64
 
 -- `x.max(y)` and `x.min(y)`: of a NaN and a number the number; of two numbers that compare equal, +0 and -0 among them, the first.
-abbrev pub largerOf : Float → Float → Float
-largerOf x y = cond (is_nan x || lt x y) y x
+abbrev pub larger_of : Float → Float → Float
+larger_of x y = cond (is_nan x || lt x y) y x
 
-abbrev pub smallerOf : Float → Float → Float
-smallerOf x y = cond (is_nan x || lt y x) y x
+abbrev pub smaller_of : Float → Float → Float
+smaller_of x y = cond (is_nan x || lt y x) y x
 
 -- `x.rem_euclid(m)`: the float remainder, plus m if that is below 0. A zero m and an infinite x give a NaN.
-abbrev pub remEuclid : Float → Float → Float
-remEuclid x m = let r = rem binary64 x m in cond (lt r zero64) (add binary64 r m) r
+abbrev pub rem_euclid : Float → Float → Float
+rem_euclid x m = let r = rem binary64 x m in cond (lt r zero64) (add binary64 r m) r
 
 -- z is finite and lies from 0 to m, a -0 included.
 pub record FromZeroTo (z m : Float) : Type 0 where

@@ -42,12 +42,12 @@ unfoldable pub minus : Float → ℕ
 minus x = cond (negative x) (mag x) 0
 
 -- The float with the sign s that is nearest to n units; ±n units itself, where binary64 holds that.
-abbrev pub ofUnits : Bool → ℕ → Float
-ofUnits s n = round binary64 s n one
+abbrev pub of_units : Bool → ℕ → Float
+of_units s n = round binary64 s n one
 
 -- The zero with the sign s.
-abbrev pub signedZero : Bool → Float
-signedZero s = fin s 0 (pos 0)
+abbrev pub signed_zero : Bool → Float
+signed_zero s = fin s 0 (pos 0)
 
 -- n has at most 53 binary digits before its closing zeros. Below `limit`, these are the magnitudes of the finite floats.
 pub record Digits53 (n : ℕ) : Type 0 where

@@ -13,8 +13,8 @@ below0 (pos n) = false
 below0 (negsuc n) = true
 
 -- Whether two integers are equal; lib.Signed has the tests `lt_z` and `le_z`.
-abbrev pub eqZ : ℤ → ℤ → Bool
-eqZ (pos a) (pos b) = a == b
-eqZ (pos a) (negsuc b) = false
-eqZ (negsuc a) (pos b) = false
-eqZ (negsuc a) (negsuc b) = a == b
+abbrev pub eq_z : ℤ → ℤ → Bool
+eq_z (pos a) (pos b) = a == b
+eq_z (pos a) (negsuc b) = false
+eq_z (negsuc a) (pos b) = false
+eq_z (negsuc a) (negsuc b) = a == b

@@ -2,7 +2,7 @@
 // The laws of f64 arithmetic that every crate above cites are in specs/ and proofs/.
 ghost use Rattle.std.specs.Prelude.{◌≡◌};
 ghost use Rattle.binary64.specs.Units.{negative};
-ghost use Rattle.binary64.specs.Functions.{absolute, signumOf, clampToZero, largerOf, smallerOf, remEuclid};
+ghost use Rattle.binary64.specs.Functions.{absolute, signum_of, clamp_to_zero, larger_of, smaller_of, rem_euclid};
 
 // The sign bit: true for -0 too. A NaN has none, and gives false.
 pub fn is_sign_negative(x: f64) -> bool
@@ -24,7 +24,7 @@ pub fn abs(x: f64) -> f64
 
 // 1 or -1 by the sign bit; a NaN gives a NaN.
 pub fn signum(x: f64) -> f64
-    ensures { result ≡ signumOf x }
+    ensures { result ≡ signum_of x }
 {
     if x == x {
         if is_sign_negative(x) { -1.0 } else { 1.0 }
@@ -35,28 +35,28 @@ pub fn signum(x: f64) -> f64
 
 // x where it is above zero, and +0 otherwise.
 pub fn clamp_to_zero(x: f64) -> f64
-    ensures { result ≡ clampToZero x }
+    ensures { result ≡ clamp_to_zero x }
 {
     if 0.0 < x { x } else { 0.0 }
 }
 
 // The larger of two: a NaN gives way to the other, and of equal numbers the first is taken.
 pub fn larger(x: f64, y: f64) -> f64
-    ensures { result ≡ largerOf x y }
+    ensures { result ≡ larger_of x y }
 {
     if x == x { if x < y { y } else { x } } else { y }
 }
 
 // The smaller of two: a NaN gives way to the other, and of equal numbers the first is taken.
 pub fn smaller(x: f64, y: f64) -> f64
-    ensures { result ≡ smallerOf x y }
+    ensures { result ≡ smaller_of x y }
 {
     if x == x { if y < x { y } else { x } } else { y }
 }
 
 // The remainder of x by m, plus m if that is below zero.
 pub fn rem_euclid(x: f64, m: f64) -> f64
-    ensures { result ≡ remEuclid x m }
+    ensures { result ≡ rem_euclid x m }
 {
     let r = x % m;
     if r < 0.0 { r + m } else { r }

@@ -7,25 +7,25 @@ use native.Mathlib.Omega.{arith}
 use lib.ListN.{length, get_or, take, set, length-take, length-set, length-map}
 use lib.Seq.{take-suc, take-suc-set, take_all, take-take}
 use Rattle.boundary.specs.declared.arcs.BoundaryArc.{BoundaryArc}
-use Rattle.boundary.specs.Set.{noArc, arcsHeld}
+use Rattle.boundary.specs.Set.{no_arc, arcs_held}
 
-take-map : {A B : Type 0} (f : A → B) (m : ℕ) (l : List A) → take m (map f l) ≡ map f (take m l)
-take-map f zero l = refl
-take-map f (suc m) [] = refl
-take-map f (suc m) (x ∷ l) = ap (λ t. f x ∷ t) (take-map f m l)
+take_map : {A B : Type 0} (f : A → B) (m : ℕ) (l : List A) → take m (map f l) ≡ map f (take m l)
+take_map f zero l = refl
+take_map f (suc m) [] = refl
+take_map f (suc m) (x ∷ l) = ap (λ t. f x ∷ t) (take_map f m l)
 
 -- The first i are copied.
 pub record Copied (f : BoundaryArc → BoundaryArc) (source all : List BoundaryArc) (many n i : ℕ) : Type 0 where
-  pub long : arcsHeld ≤ length source
-  pub places : arcsHeld ≤ length all
+  pub long : arcs_held ≤ length source
+  pub places : arcs_held ≤ length all
   pub count : n ≡ many
-  pub most : i ≤ arcsHeld
+  pub most : i ≤ arcs_held
   pub within : i ≤ n
   pub same : take i all ≡ map f (take i source)
 
 module _ {f : BoundaryArc → BoundaryArc} {source all : List BoundaryArc} {many n i : ℕ} (c : Copied f source all many n i) where
   -- one more
-  pub copied_next : (arc : BoundaryArc) → i < arcsHeld → i < n → arc ≡ f (get_or source i noArc) → Copied f source (set all i arc) many n (i + 1)
+  pub copied_next : (arc : BoundaryArc) → i < arcs_held → i < n → arc ≡ f (get_or source i no_arc) → Copied f source (set all i arc) many n (i + 1)
   copied_next arc h g e =
       record {
         long = c.long;
@@ -37,29 +37,29 @@ module _ {f : BoundaryArc → BoundaryArc} {source all : List BoundaryArc} {many
             rw (
               add-one i,
               take-suc-set all i arc (omega (arith, c.places)),
-              take-suc source i noArc (omega (arith, c.long)),
-              map-append f (take i source) (get_or source i noArc ∷ []),
+              take-suc source i no_arc (omega (arith, c.long)),
+              map-append f (take i source) (get_or source i no_arc ∷ []),
               c.same,
               e,
             );
       }
 
   -- all, by their count or by the room for them
-  pub copied-by-count : n ≤ i → take i all ≡ take arcsHeld (map f (take many source))
-  copied-by-count h =
+  pub copied_by_count : n ≤ i → take i all ≡ take arcs_held (map f (take many source))
+  copied_by_count h =
       let e : i ≡ many = omega (arith, c.count, c.within) in
       c.same
       ∙ ap (λ m. map f (take m source)) e
-      ∙ sym (take_all arcsHeld (map f (take many source)) (rw (length-map (take many source) f) (omega (arith, length-take many source, c.most))))
+      ∙ sym (take_all arcs_held (map f (take many source)) (rw (length-map (take many source) f) (omega (arith, length-take many source, c.most))))
 
-  pub copied-by-room : arcsHeld ≤ i → take i all ≡ take arcsHeld (map f (take many source))
-  copied-by-room h =
-      let e : i ≡ arcsHeld = omega (arith, c.most) in
+  pub copied_by_room : arcs_held ≤ i → take i all ≡ take arcs_held (map f (take many source))
+  copied_by_room h =
+      let e : i ≡ arcs_held = omega (arith, c.most) in
       c.same
       ∙ ap (λ m. map f (take m source)) e
-      ∙ ap (map f) (sym (take-take arcsHeld many source (omega (arith, c.count, c.within))))
-      ∙ sym (take-map f arcsHeld (take many source))
+      ∙ ap (map f) (sym (take-take arcs_held many source (omega (arith, c.count, c.within))))
+      ∙ sym (take_map f arcs_held (take many source))
 
   -- they are as many as are counted
-  pub copied-many : i ≡ length (take i all)
-  copied-many = omega (arith, length-take i all, c.places, c.most)
+  pub copied_many : i ≡ length (take i all)
+  copied_many = omega (arith, length-take i all, c.places, c.most)

@@ -10,16 +10,16 @@ use lib.ListN.{length, get_or, take, length-take}
 use lib.Seq.{get_or-take}
 use lib.Ieee.{Float, nan}
 use Rattle.lists.specs.Lists.{up_to}
-use Rattle.lists.proofs.Lists.{upTo-cong}
+use Rattle.lists.proofs.Lists.{up_to_cong}
 use Rattle.geometry.specs.declared.circle.Circle.{Circle}
 use Rattle.binary64.specs.Constants.{half64}
 use Rattle.binary64.specs.Floats.{◌+ᶠ◌, ◌*ᶠ◌}
-use Rattle.boundary.specs.Gaps.{gapArc}
-use Rattle.boundary.specs.Outline.{owned, gap, collapsed, pointAt, between, arcFrom, arcsAt}
+use Rattle.boundary.specs.Gaps.{gap_arc}
+use Rattle.boundary.specs.Outline.{owned, gap, collapsed, point_at, between, arc_from, arcs_at}
 
 -- the next index round a list of n is below n
-pub next-below : (i n : ℕ) → i < n → (i + 1) % n < n
-next-below i n h = mod-lt (i + 1) {m = n} (omega arith)
+pub next_below : (i n : ℕ) → i < n → (i + 1) % n < n
+next_below i n h = mod-lt (i + 1) {m = n} (omega arith)
 
 -- Whether there is an arc after angle i, of the n that are the first m of an array.
 module _ (cs : List Circle) (k : ℕ) (c : Circle) (phi : List Float) (m n i : ℕ) (many : n ≡ length (take m phi)) (below : i < n) where
@@ -27,30 +27,30 @@ module _ (cs : List Circle) (k : ℕ) (c : Circle) (phi : List Float) (m n i : �
   within = omega (arith, length-take m phi, many)
 
   pub gap-arc :
-      arcFrom cs k c (take m phi) i
+      arc_from cs k c (take m phi) i
       ≡ cond
       (not (collapsed (gap (get_or phi i nan) (get_or phi ((i + 1) % n) nan)))
-      && owned k (pointAt c (get_or phi i nan +ᶠ gap (get_or phi i nan) (get_or phi ((i + 1) % n) nan) *ᶠ half64)) cs)
+      && owned k (point_at c (get_or phi i nan +ᶠ gap (get_or phi i nan) (get_or phi ((i + 1) % n) nan) *ᶠ half64)) cs)
       (between k c (get_or phi i nan) (gap (get_or phi i nan) (get_or phi ((i + 1) % n) nan)) ∷ [])
       []
-  unfolding arcFrom
+  unfolding arc_from
   gap-arc =
-      rw (sym many, get_or-take m phi i nan (omega (arith, within)), get_or-take m phi ((i + 1) % n) nan (omega (arith, next-below i n below, within)))
+      rw (sym many, get_or-take m phi i nan (omega (arith, within)), get_or-take m phi ((i + 1) % n) nan (omega (arith, next_below i n below, within)))
 
 -- after an angle
-in-gap : (cs : List Circle) (k : ℕ) (c : Circle) (phis : List Float) (i : ℕ) → i < length phis → gapArc cs k c phis i ≡ arcFrom cs k c phis i
-unfolding gapArc
-in-gap cs k c phis i h = rw (lt-ltb i (length phis) h)
+in_gap : (cs : List Circle) (k : ℕ) (c : Circle) (phis : List Float) (i : ℕ) → i < length phis → gap_arc cs k c phis i ≡ arc_from cs k c phis i
+unfolding gap_arc
+in_gap cs k c phis i h = rw (lt-ltb i (length phis) h)
 
 -- a member has the arcs of its gaps, of which there is at least one
-pub arcs-by-gaps : (cs : List Circle) (k : ℕ) (c : Circle) (phis : List Float) → arcsAt cs k c phis ≡ up_to (gapArc cs k c phis) (max 1 (length phis))
-unfolding arcsAt gapArc up_to
-arcs-by-gaps cs k c [] = refl
-arcs-by-gaps cs k c (phi ∷ phis) =
-    upTo-cong (arcFrom cs k c (phi ∷ phis)) (gapArc cs k c (phi ∷ phis)) (length (phi ∷ phis)) same ∙ ap (up_to (gapArc cs k c (phi ∷ phis))) many
+pub arcs_by_gaps : (cs : List Circle) (k : ℕ) (c : Circle) (phis : List Float) → arcs_at cs k c phis ≡ up_to (gap_arc cs k c phis) (max 1 (length phis))
+unfolding arcs_at gap_arc up_to
+arcs_by_gaps cs k c [] = refl
+arcs_by_gaps cs k c (phi ∷ phis) =
+    up_to_cong (arc_from cs k c (phi ∷ phis)) (gap_arc cs k c (phi ∷ phis)) (length (phi ∷ phis)) same ∙ ap (up_to (gap_arc cs k c (phi ∷ phis))) many
   where
-    same : (i : ℕ) → i < length (phi ∷ phis) → arcFrom cs k c (phi ∷ phis) i ≡ gapArc cs k c (phi ∷ phis) i
-    same i h = sym (in-gap cs k c (phi ∷ phis) i h)
+    same : (i : ℕ) → i < length (phi ∷ phis) → arc_from cs k c (phi ∷ phis) i ≡ gap_arc cs k c (phi ∷ phis) i
+    same i h = sym (in_gap cs k c (phi ∷ phis) i h)
 
     many : length (phi ∷ phis) ≡ max 1 (length (phi ∷ phis))
     many = omega arith

@@ -8,11 +8,11 @@ use Rattle.geometry.specs.Point.{at}
 use Rattle.geometry.specs.declared.circle.Circle.{Circle}
 use Rattle.intersections.specs.Members.{Member}
 use Rattle.boundary.specs.NoArc.{NoneOf}
-use Rattle.boundary.specs.Outline.{fullCircle, outline}
+use Rattle.boundary.specs.Outline.{full_circle, outline}
 
--- the circle of a head: whole centimetres as f64 (`circleOf` of `exact`)
-abbrev pub wholeCircle : ℤ → ℤ → ℕ → Circle
-wholeCircle x y r = around (at (of_int binary64 x) (of_int binary64 y)) (of_int binary64 (pos r))
+-- the circle of a head: whole centimetres as f64 (`circle_of` of `exact`)
+abbrev pub whole_circle : ℤ → ℤ → ℕ → Circle
+whole_circle x y r = around (at (of_int binary64 x) (of_int binary64 y)) (of_int binary64 (pos r))
 
 -- a member with no point counted for it
 abbrev pub unmet : Circle → Member
@@ -21,10 +21,10 @@ unmet c = record { circle = c; points = [] }
 -- Of two heads within document 01's limits that are identical:
 pub record Identical (c : Circle) : Type 0 where
   -- the outline of the pair alone, without points, is the full circle of the lower one;
-  pub pair : outline (unmet c ∷ unmet c ∷ []) ≡ fullCircle 0 c ∷ []
+  pub pair : outline (unmet c ∷ unmet c ∷ []) ≡ full_circle 0 c ∷ []
   -- in any set that has both, the higher one gets no arc where no point is counted for it, whatever points the lower one, l, has.
   pub higher : (before between after : List Member) (l : Member) → l.circle ≡ c
       → NoneOf (length before + suc (length between)) (outline (before ++ (l ∷ (between ++ (unmet c ∷ after)))))
 
 abbrev pub LowerOwns : Type 0
-LowerOwns = (x y : ℤ) (r : ℕ) → nat_abs x ≤ 20000 → nat_abs y ≤ 20000 → 1 ≤ r → r ≤ 20000 → Identical (wholeCircle x y r)
+LowerOwns = (x y : ℤ) (r : ℕ) → nat_abs x ≤ 20000 → nat_abs y ≤ 20000 → 1 ≤ r → r ≤ 20000 → Identical (whole_circle x y r)

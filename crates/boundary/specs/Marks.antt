@@ -13,18 +13,18 @@ abbrev pub mark : Float → ℕ → Mark
 mark phi adopters = record { phi = phi; adopters = adopters }
 
 -- what stands for a mark that a list does not have
-abbrev pub noMark : Mark
-noMark = mark nan 0
+abbrev pub no_mark : Mark
+no_mark = mark nan 0
 
 -- the marks that two arrays hold, from a place on
-unfoldable pub marksFrom : List Float → List ℕ → ℕ → ℕ → List Mark
+unfoldable pub marks_from : List Float → List ℕ → ℕ → ℕ → List Mark
 unfolding tab
-marksFrom phi adopters at n = tab (λ i. mark (get_or phi (at + i) nan) (get_or adopters (at + i) 0)) n
+marks_from phi adopters at n = tab (λ i. mark (get_or phi (at + i) nan) (get_or adopters (at + i) 0)) n
 
 -- x before the first of a greater angle
-unfoldable pub insertMark : Mark → List Mark → List Mark
-insertMark x [] = x ∷ []
-insertMark x (y ∷ ys) = cond (x.phi <ᶠ y.phi) (x ∷ y ∷ ys) (y ∷ insertMark x ys)
+unfoldable pub insert_mark : Mark → List Mark → List Mark
+insert_mark x [] = x ∷ []
+insert_mark x (y ∷ ys) = cond (x.phi <ᶠ y.phi) (x ∷ y ∷ ys) (y ∷ insert_mark x ys)
 
 -- the places before `at` stay
 pub record Kept {A : Type 0} (at : ℕ) (d : A) (before after : List A) : Type 0 where

@@ -10,13 +10,13 @@ use Rattle.boundary.specs.Outline.{tolerance}
 
 -- r is from 1 to 2^20, and s not below zero and at most 2^64
 pub record Measured (r s : Float) : Type 0 where
-  pub radius-most : Most 1 1094 r
-  pub radius-least : Least 1 1074 r
-  pub radius-minus : minus r ≡ 0
-  pub squared-most : Most 1 1138 s
-  pub squared-minus : minus s ≡ 0
+  pub radius_most : Most 1 1094 r
+  pub radius_least : Least 1 1074 r
+  pub radius_minus : minus r ≡ 0
+  pub squared_most : Most 1 1138 s
+  pub squared_minus : minus s ≡ 0
 
 -- the implicit form of the circle, for a point at this squared distance, is neither above 1 nor near it
 pub record FarIn (s : Float) (c : Circle) : Type 0 where
-  pub not-out : (one64 +ᶠ tolerance c <ᶠ s /ᶠ (c.radius *ᶠ c.radius)) ≡ false
-  pub not-near : (absolute (s /ᶠ (c.radius *ᶠ c.radius) -ᶠ one64) ≤ᶠ tolerance c) ≡ false
+  pub not_out : (one64 +ᶠ tolerance c <ᶠ s /ᶠ (c.radius *ᶠ c.radius)) ≡ false
+  pub not_near : (absolute (s /ᶠ (c.radius *ᶠ c.radius) -ᶠ one64) ≤ᶠ tolerance c) ≡ false

@@ -9,21 +9,21 @@ insert x [] = x ∷ []
 insert x (y ∷ ys) = cond (x <ᶠ y) (x ∷ y ∷ ys) (y ∷ insert x ys)
 
 -- one after another of the list, put into those before it
-unfoldable pub sortOnto : List Float → List Float → List Float
+unfoldable pub sort_onto : List Float → List Float → List Float
 unfolding insert
-sortOnto done [] = done
-sortOnto done (x ∷ xs) = sortOnto (insert x done) xs
+sort_onto done [] = done
+sort_onto done (x ∷ xs) = sort_onto (insert x done) xs
 
 unfoldable pub sorted : List Float → List Float
-unfolding sortOnto
-sorted l = sortOnto [] l
+unfolding sort_onto
+sorted l = sort_onto [] l
 
 -- how many stand before the first that is greater than x
 unfoldable pub place : Float → List Float → ℕ
 place x [] = 0
 place x (y ∷ ys) = cond (x <ᶠ y) 0 (suc (place x ys))
 
--- ---- what is claimed of the sort, and proved in proofs/Ordering.antt: `sorted-ordered`, `sorted-stable`
+-- ---- what is claimed of the sort, and proved in proofs/Ordering.antt: `sorted_ordered`, `sorted_stable`
 
 -- none is below one that stands before it
 abbrev pub Ordered : List Float → Type 0

@@ -1,9 +1,9 @@
-// The arcs of one member of a set, gap by gap. Rests on `arcFrom` and `arcsAt` of specs/Outline.antt.
+// The arcs of one member of a set, gap by gap. Rests on `arc_from` and `arcs_at` of specs/Outline.antt.
 ghost use Rattle.std.specs.Prelude.{◌≡◌, [], max, ◌≤◌, length};
-ghost use Rattle.boundary.specs.Outline.{arcsAt};
-ghost use Rattle.boundary.specs.Gaps.{gapArc};
-ghost use Rattle.intersections.specs.Counted.{circleList};
-ghost use Rattle.boundary.specs.Counted.{angleList, candidateList};
+ghost use Rattle.boundary.specs.Outline.{arcs_at};
+ghost use Rattle.boundary.specs.Gaps.{gap_arc};
+ghost use Rattle.intersections.specs.Counted.{circle_list};
+ghost use Rattle.boundary.specs.Counted.{angle_list, candidate_list};
 
 use crate::angles::{collapsed, gap, point_at, probe};
 use crate::arcs::{BoundaryArc, between, full_circle};
@@ -21,7 +21,7 @@ pub struct Candidate {
 
 // How many gaps the angles leave: with no angle one, the whole circle.
 pub(crate) fn gaps(angles: Angles) -> usize
-    ensures value { result ≡ max 1 (length (angleList angles)) }
+    ensures value { result ≡ max 1 (length (angle_list angles)) }
     ensures upper_bound { result ≤ 32 }
 {
     let n = count(angles);
@@ -30,7 +30,7 @@ pub(crate) fn gaps(angles: Angles) -> usize
 
 // None in a gap.
 fn no_arc(k: usize, circle: Circle) -> Candidate
-    ensures { candidateList result ≡ [] }
+    ensures { candidate_list result ≡ [] }
 {
     Candidate {
         kept: false,
@@ -40,7 +40,7 @@ fn no_arc(k: usize, circle: Circle) -> Candidate
 
 // A member with no angle: its whole circle, if the probe is its own.
 fn whole_circle(k: usize, circle: Circle, set: Members) -> Candidate
-    ensures { candidateList result ≡ arcsAt (circleList set) k circle [] }
+    ensures { candidate_list result ≡ arcs_at (circle_list set) k circle [] }
 {
     let kept = owned(k, probe(circle), set);
     Candidate {
@@ -58,7 +58,7 @@ pub(crate) fn arc_from(
     i: usize,
     set: Members,
 ) -> Candidate
-    ensures { candidateList result ≡ gapArc (circleList set) k circle (angleList angles) i }
+    ensures { candidate_list result ≡ gap_arc (circle_list set) k circle (angle_list angles) i }
 {
     let n = count(angles);
     if n <= i {

@@ -3,9 +3,9 @@
 ghost use Rattle.std.specs.Prelude.{◌≡◌, true};
 ghost use Rattle.binary64.specs.Constants.{one64};
 ghost use Rattle.binary64.specs.Floats.{◌+ᶠ◌, ◌*ᶠ◌, ◌/ᶠ◌, ◌<ᶠ◌};
-ghost use Rattle.boundary.specs.Outline.{implicitValue, tolerance, lets, owned};
+ghost use Rattle.boundary.specs.Outline.{implicit_value, tolerance, lets, owned};
 ghost use Rattle.boundary.specs.Measured.{Measured, FarIn};
-ghost use Rattle.intersections.specs.Counted.{circleList};
+ghost use Rattle.intersections.specs.Counted.{circle_list};
 
 use binary64::{abs, larger};
 use geometry::circle::Circle;
@@ -14,7 +14,7 @@ use intersections::members::Members;
 
 // The implicit form of a circle at a point: below 1 inside, 1 on the edge, above 1 outside.
 fn circle_implicit_value(p: Point, c: Circle) -> f64
-    ensures { result ≡ implicitValue p c }
+    ensures { result ≡ implicit_value p c }
 {
     let dx = p.x - c.center.x;
     let dy = p.y - c.center.y;
@@ -23,7 +23,7 @@ fn circle_implicit_value(p: Point, c: Circle) -> f64
 
 // The squared distance of a point from the centre: what the implicit form divides.
 fn squared_offset(p: Point, c: Circle) -> f64
-    ensures { result /ᶠ (c.radius *ᶠ c.radius) ≡ implicitValue p c }
+    ensures { result /ᶠ (c.radius *ᶠ c.radius) ≡ implicit_value p c }
 {
     let dx = p.x - c.center.x;
     let dy = p.y - c.center.y;
@@ -104,7 +104,7 @@ pub fn lets(k: usize, p: Point, l: usize, c: Circle) -> bool
 
 // The point p of the edge of the member at k is that member's own: every member of the set lets it have p.
 pub(crate) fn owned(k: usize, p: Point, set: Members) -> bool
-    ensures { result ≡ owned k p (circleList set) }
+    ensures { result ≡ owned k p (circle_list set) }
 {
     let n = set.n;
     let mut l: usize = 0;

@@ -10,9 +10,9 @@ use borrow.Author.Tests.{le-ltb}
 use mir.Syntax.{w32}
 use mir.Val.{SFits}
 
-pub not-below : (z : ℤ) → le_z (pos 0) z ≡ true → T (non_neg z)
-not-below (pos n) e = tt
-not-below (negsuc n) e = absurd (false≢true e)
+pub not_below : (z : ℤ) → le_z (pos 0) z ≡ true → T (non_neg z)
+not_below (pos n) e = tt
+not_below (negsuc n) e = absurd (false≢true e)
 
 pub record Below (z : ℤ) : Type 0 where
   pub distance : ℕ

@@ -9,14 +9,14 @@ use Rattle.series.specs.Taylor.{factorial, sign}
 use Rattle.series.proofs.Integers.{dist}
 use Rattle.series.proofs.Polynomial.{nval, step, shift, finer, sizes, slope}
 use Rattle.series.proofs.Alternating.{negated, alternating}
-use Rattle.series.proofs.Sums.{rising, sinFrom, cosFrom, sin79, cos79}
-use Rattle.cells.specs.Arc.{firstArc, arcs, quarterTurn, halfTurn}
+use Rattle.series.proofs.Sums.{rising, sin_from, cos_from, sin79, cos79}
+use Rattle.cells.specs.Arc.{first_arc, arcs, quarter_turn, half_turn}
 use Rattle.cells.proofs.Plain.{scaled, times, plus, compose, gaps, bound}
 
 -- The recipe's polynomial without cuts, times 2^2753: its angle at a tangent n / 2^64 is the value at n, in units of 2^-62.
-unfoldable pub arcPolynomial : List ℤ
+unfoldable pub arc_polynomial : List ℤ
 unfolding alternating
-arcPolynomial = pos 0 ∷ alternating 1 (2 ^ 128) [] (firstArc ∷ arcs)
+arc_polynomial = pos 0 ∷ alternating 1 (2 ^ 128) [] (first_arc ∷ arcs)
 
 -- The sums' first 24 coefficients over angles in units of 2^-600, 79! 2^14400 times as large, and 2^-61 in that scale.
 unfoldable pub sine24 : List ℤ
@@ -31,7 +31,7 @@ unfoldable pub unit24 : ℕ
 unfolding factorial
 unit24 = factorial 79 * 2 ^ 14339
 
--- 2^-62 in units of 2^-600, and the scale of arcPolynomial over that of angles
+-- 2^-62 in units of 2^-600, and the scale of arc_polynomial over that of angles
 unfoldable pub tick : ℕ
 tick = 2 ^ 538
 
@@ -58,8 +58,8 @@ residual c s k b =
 
 -- on the cell about c the recipe's angle is a + b (X), to 2^-53
 unfoldable pub angle : ℕ → ℕ → List ℤ → Bool
-unfolding gaps bound arcPolynomial shift scaled tick grade
-angle c a b = leb (bound (gaps (shift arcPolynomial c) (scaled (pos grade) (pos a ∷ b))) half) (512 * tick * grade)
+unfolding gaps bound arc_polynomial shift scaled tick grade
+angle c a b = leb (bound (gaps (shift arc_polynomial c) (scaled (pos grade) (pos a ∷ b))) half) (512 * tick * grade)
 
 -- b (X) stays within the reach
 unfoldable pub spans : List ℤ → Bool
@@ -91,31 +91,31 @@ cell_of c [] = false
 cell_of c (a ∷ b) = cell c (nat_abs a) b
 
 unfoldable pub cell_at : ℕ → Bool
-unfolding cell_of quotients shift arcPolynomial
-cell_at k = cell_of ((2 * k + 1) * half) (quotients 10 (shift arcPolynomial ((2 * k + 1) * half)))
+unfolding cell_of quotients shift arc_polynomial
+cell_at k = cell_of ((2 * k + 1) * half) (quotients 10 (shift arc_polynomial ((2 * k + 1) * half)))
 
 -- the cells k, k + 1, .., n of them
-unfoldable pub cellsFrom : ℕ → ℕ → Bool
+unfoldable pub cells_from : ℕ → ℕ → Bool
 unfolding cell_at
-cellsFrom k zero = true
-cellsFrom k (suc n) = cell_at k && cellsFrom (suc k) n
+cells_from k zero = true
+cells_from k (suc n) = cell_at k && cells_from (suc k) n
 
 -- all 16, for tangents from 0 to 1, in four declarations
-pub lowest-cells : T (cellsFrom 0 4)
-unfolding cellsFrom cell_at cell_of cell angle spans quotients quotient arcPolynomial sine24 cosine24 unit24 tick grade reach tail residual gaps bound compose scaled times plus shift step finer negated alternating factorial sign rising sinFrom cosFrom sin79 cos79 dist
-lowest-cells = tt
+pub lowest_cells : T (cells_from 0 4)
+unfolding cells_from cell_at cell_of cell angle spans quotients quotient arc_polynomial sine24 cosine24 unit24 tick grade reach tail residual gaps bound compose scaled times plus shift step finer negated alternating factorial sign rising sin_from cos_from sin79 cos79 dist
+lowest_cells = tt
 
-pub lower-cells : T (cellsFrom 4 4)
-unfolding cellsFrom cell_at cell_of cell angle spans quotients quotient arcPolynomial sine24 cosine24 unit24 tick grade reach tail residual gaps bound compose scaled times plus shift step finer negated alternating factorial sign rising sinFrom cosFrom sin79 cos79 dist
-lower-cells = tt
+pub lower_cells : T (cells_from 4 4)
+unfolding cells_from cell_at cell_of cell angle spans quotients quotient arc_polynomial sine24 cosine24 unit24 tick grade reach tail residual gaps bound compose scaled times plus shift step finer negated alternating factorial sign rising sin_from cos_from sin79 cos79 dist
+lower_cells = tt
 
-pub upper-cells : T (cellsFrom 8 4)
-unfolding cellsFrom cell_at cell_of cell angle spans quotients quotient arcPolynomial sine24 cosine24 unit24 tick grade reach tail residual gaps bound compose scaled times plus shift step finer negated alternating factorial sign rising sinFrom cosFrom sin79 cos79 dist
-upper-cells = tt
+pub upper_cells : T (cells_from 8 4)
+unfolding cells_from cell_at cell_of cell angle spans quotients quotient arc_polynomial sine24 cosine24 unit24 tick grade reach tail residual gaps bound compose scaled times plus shift step finer negated alternating factorial sign rising sin_from cos_from sin79 cos79 dist
+upper_cells = tt
 
-pub highest-cells : T (cellsFrom 12 4)
-unfolding cellsFrom cell_at cell_of cell angle spans quotients quotient arcPolynomial sine24 cosine24 unit24 tick grade reach tail residual gaps bound compose scaled times plus shift step finer negated alternating factorial sign rising sinFrom cosFrom sin79 cos79 dist
-highest-cells = tt
+pub highest_cells : T (cells_from 12 4)
+unfolding cells_from cell_at cell_of cell angle spans quotients quotient arc_polynomial sine24 cosine24 unit24 tick grade reach tail residual gaps bound compose scaled times plus shift step finer negated alternating factorial sign rising sin_from cos_from sin79 cos79 dist
+highest_cells = tt
 
 -- ---- the whole sums over angles in units of 2^-600, 79! 2^48000 times as large, and 2^-61 in that scale
 
@@ -137,42 +137,42 @@ unfolding gaps bound unit80
 close p q X e = leb (bound (gaps p q) X) (e * unit80)
 
 -- the first 24 coefficients are enough up to 1
-pub sine-head : T (close sine80 (scaled (pos ((2 ^ 600) ^ 56)) sine24) (2 ^ 600) 1)
-unfolding close sine80 sine24 unit80 gaps bound scaled finer factorial sign rising sinFrom sin79 dist
-sine-head = tt
+pub sine_head : T (close sine80 (scaled (pos ((2 ^ 600) ^ 56)) sine24) (2 ^ 600) 1)
+unfolding close sine80 sine24 unit80 gaps bound scaled finer factorial sign rising sin_from sin79 dist
+sine_head = tt
 
-pub cosine-head : T (close cosine80 (scaled (pos ((2 ^ 600) ^ 56)) cosine24) (2 ^ 600) 1)
-unfolding close cosine80 cosine24 unit80 gaps bound scaled finer factorial sign rising cosFrom cos79 dist
-cosine-head = tt
+pub cosine_head : T (close cosine80 (scaled (pos ((2 ^ 600) ^ 56)) cosine24) (2 ^ 600) 1)
+unfolding close cosine80 cosine24 unit80 gaps bound scaled finer factorial sign rising cos_from cos79 dist
+cosine_head = tt
 
 -- the cosine differs from 1 by at most 5/8 there
-pub cosine-start : T (close cosine80 (pos (2 ^ 61 * unit80) ∷ []) (2 ^ 600) (5 * 2 ^ 58))
-unfolding close cosine80 unit80 gaps bound finer factorial sign rising cosFrom cos79 dist
-cosine-start = tt
+pub cosine_start : T (close cosine80 (pos (2 ^ 61 * unit80) ∷ []) (2 ^ 600) (5 * 2 ^ 58))
+unfolding close cosine80 unit80 gaps bound finer factorial sign rising cos_from cos79 dist
+cosine_start = tt
 
 -- a quarter turn on, the sine is the cosine and the cosine is minus the sine
-pub quarter-sine : T (close (shift sine80 (quarterTurn * tick)) cosine80 (4 * 2 ^ 600) 64)
-unfolding close sine80 cosine80 unit80 tick gaps bound shift step finer factorial sign rising sinFrom cosFrom sin79 cos79 dist
+pub quarter-sine : T (close (shift sine80 (quarter_turn * tick)) cosine80 (4 * 2 ^ 600) 64)
+unfolding close sine80 cosine80 unit80 tick gaps bound shift step finer factorial sign rising sin_from cos_from sin79 cos79 dist
 quarter-sine = tt
 
-pub quarter-cosine : T (close (shift cosine80 (quarterTurn * tick)) (negated sine80) (4 * 2 ^ 600) 64)
-unfolding close sine80 cosine80 unit80 tick gaps bound shift step finer negated factorial sign rising sinFrom cosFrom sin79 cos79 dist
-quarter-cosine = tt
+pub quarter_cosine : T (close (shift cosine80 (quarter_turn * tick)) (negated sine80) (4 * 2 ^ 600) 64)
+unfolding close sine80 cosine80 unit80 tick gaps bound shift step finer negated factorial sign rising sin_from cos_from sin79 cos79 dist
+quarter_cosine = tt
 
 -- half a turn on, both change sign
-pub half-sine : T (close (shift sine80 (halfTurn * tick)) (negated sine80) (4 * 2 ^ 600) 64)
-unfolding close sine80 unit80 tick gaps bound shift step finer negated factorial sign rising sinFrom sin79 dist
-half-sine = tt
+pub half_sine : T (close (shift sine80 (half_turn * tick)) (negated sine80) (4 * 2 ^ 600) 64)
+unfolding close sine80 unit80 tick gaps bound shift step finer negated factorial sign rising sin_from sin79 dist
+half_sine = tt
 
-pub half-cosine : T (close (shift cosine80 (halfTurn * tick)) (negated cosine80) (4 * 2 ^ 600) 64)
-unfolding close cosine80 unit80 tick gaps bound shift step finer negated factorial sign rising cosFrom cos79 dist
-half-cosine = tt
+pub half_cosine : T (close (shift cosine80 (half_turn * tick)) (negated cosine80) (4 * 2 ^ 600) 64)
+unfolding close cosine80 unit80 tick gaps bound shift step finer negated factorial sign rising cos_from cos79 dist
+half_cosine = tt
 
 -- moved by 2^-62, either changes by at most 16 × 2^-61, up to 4
-pub sine-slope : T (leb (slope (sizes sine80) (4 * 2 ^ 600) 1 * tick) (16 * unit80))
-unfolding sine80 unit80 tick slope sizes nval finer factorial sign rising sinFrom sin79
-sine-slope = tt
+pub sine_slope : T (leb (slope (sizes sine80) (4 * 2 ^ 600) 1 * tick) (16 * unit80))
+unfolding sine80 unit80 tick slope sizes nval finer factorial sign rising sin_from sin79
+sine_slope = tt
 
-pub cosine-slope : T (leb (slope (sizes cosine80) (4 * 2 ^ 600) 1 * tick) (16 * unit80))
-unfolding cosine80 unit80 tick slope sizes nval finer factorial sign rising cosFrom cos79
-cosine-slope = tt
+pub cosine_slope : T (leb (slope (sizes cosine80) (4 * 2 ^ 600) 1 * tick) (16 * unit80))
+unfolding cosine80 unit80 tick slope sizes nval finer factorial sign rising cos_from cos79
+cosine_slope = tt

@@ -5,14 +5,14 @@ use mathlib.Core.List.{[], ◌∷◌, ◌++◌, append-nil}
 use Prim.Native.Nat.{ℕ, suc}
 use Rattle.masks.specs.Mask.{in_set}
 use Rattle.lists.specs.Lists.{up_to}
-use Rattle.intersections.specs.Members.{headsOf}
+use Rattle.intersections.specs.Members.{heads_of}
 
-pub heads-suc : (S n : ℕ) → headsOf (suc n) S ≡ headsOf n S ++ cond (in_set S n) (n ∷ []) []
-unfolding headsOf up_to
-heads-suc S n = refl
+pub heads_suc : (S n : ℕ) → heads_of (suc n) S ≡ heads_of n S ++ cond (in_set S n) (n ∷ []) []
+unfolding heads_of up_to
+heads_suc S n = refl
 
-pub heads-with : (S n : ℕ) → in_set S n ≡ true → headsOf (suc n) S ≡ headsOf n S ++ (n ∷ [])
-heads-with S n e = heads-suc S n ∙ rw e
+pub heads_with : (S n : ℕ) → in_set S n ≡ true → heads_of (suc n) S ≡ heads_of n S ++ (n ∷ [])
+heads_with S n e = heads_suc S n ∙ rw e
 
-pub heads-without : (S n : ℕ) → in_set S n ≡ false → headsOf (suc n) S ≡ headsOf n S
-heads-without S n e = heads-suc S n ∙ rw e (append-nil (headsOf n S))
+pub heads_without : (S n : ℕ) → in_set S n ≡ false → heads_of (suc n) S ≡ heads_of n S
+heads_without S n e = heads_suc S n ∙ rw e (append-nil (heads_of n S))

@@ -1,6 +1,6 @@
 // The chords that the heads cut from the edges of the box. Rests on specs/Chords.antt.
 ghost use Rattle.std.specs.Prelude.{◌≡◌, min, take, length};
-ghost use Rattle.chords.specs.Chords.{uprightEdge, line_of, reachOf, low_of, high_of, chordPlaces, reachWritten, endsWritten};
+ghost use Rattle.chords.specs.Chords.{upright_edge, line_of, reach_of, low_of, high_of, chord_places, reach_written, ends_written};
 
 use geometry::bounds::Bounds;
 use geometry::circle::Circle;
@@ -9,7 +9,7 @@ use intersections::members::at_most_ten;
 
 // Whether an edge is vertical. The edges by number: bottom, right, top, left.
 fn upright_edge(edge: usize) -> bool
-    ensures { result ≡ uprightEdge edge }
+    ensures { result ≡ upright_edge edge }
 {
     edge % 2 == 1
 }
@@ -39,7 +39,7 @@ fn places(most: usize, held: usize) -> usize
 
 // The heads that reach an edge.
 fn reach_of(circles: [Circle; 10], n_sets: usize, bounds: Bounds, edge: usize) -> usize
-    ensures { result ≡ reachOf bounds (take n_sets circles) edge }
+    ensures { result ≡ reach_of bounds (take n_sets circles) edge }
 {
     let upright = upright_edge(edge);
     let at = line_of(bounds, edge);
@@ -63,8 +63,8 @@ fn fill_ends(
     low: &mut [f64],
     high: &mut [f64],
 )
-    ensures low_after { low.new ≡ endsWritten (low_of bounds circles) needed (chordPlaces low.old high.old) low.old }
-    ensures high_after { high.new ≡ endsWritten (high_of bounds circles) needed (chordPlaces low.old high.old) high.old }
+    ensures low_after { low.new ≡ ends_written (low_of bounds circles) needed (chord_places low.old high.old) low.old }
+    ensures high_after { high.new ≡ ends_written (high_of bounds circles) needed (chord_places low.old high.old) high.old }
 {
     let count = places(40, places(low.len(), high.len()));
     let mut p: usize = 0;
@@ -92,9 +92,9 @@ pub fn fill_chords(
     low: &mut [f64],
     high: &mut [f64],
 )
-    ensures reach_after { reach.new ≡ reachWritten bounds (take n_sets circles) reach.old }
-    ensures low_after { low.new ≡ endsWritten (low_of bounds circles) needed (chordPlaces low.old high.old) low.old }
-    ensures high_after { high.new ≡ endsWritten (high_of bounds circles) needed (chordPlaces low.old high.old) high.old }
+    ensures reach_after { reach.new ≡ reach_written bounds (take n_sets circles) reach.old }
+    ensures low_after { low.new ≡ ends_written (low_of bounds circles) needed (chord_places low.old high.old) low.old }
+    ensures high_after { high.new ≡ ends_written (high_of bounds circles) needed (chord_places low.old high.old) high.old }
 {
     fill_ends(circles, bounds, needed, low, high);
     let count = places(4, reach.len());

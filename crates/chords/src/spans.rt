@@ -1,7 +1,7 @@
 // The span of an edge of the box for a set, from the chords of its heads. Rests on specs/Chords.antt.
 ghost use Rattle.std.specs.Prelude.{◌≡◌, min, ◌%◌};
 ghost use Rattle.inside.specs.Span.{spans};
-ghost use Rattle.chords.specs.Chords.{edgeFrom};
+ghost use Rattle.chords.specs.Chords.{edge_from};
 
 use inside::span::{Span, lowered, open_between, raised};
 use intersections::members::at_most_ten;
@@ -17,7 +17,7 @@ pub fn chord_span(
     low: &[f64; 40],
     high: &[f64; 40],
 ) -> Span
-    ensures { spans result ≡ edgeFrom (min n_sets 10) reach.now low.now high.now mask (edge % 4) from to }
+    ensures { spans result ≡ edge_from (min n_sets 10) reach.now low.now high.now mask (edge % 4) from to }
 {
     let at = edge % 4 * 10;
     if mask & reach[edge % 4] != mask {

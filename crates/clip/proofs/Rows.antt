@@ -9,48 +9,48 @@ use Rattle.binary64.specs.Constants.{zero64, half64}
 use Rattle.binary64.specs.Floats.{◌*ᶠ◌}
 use Rattle.geometry.specs.declared.bounds.Bounds.{Bounds}
 use Rattle.geometry.specs.declared.circle.Circle.{Circle}
-use Rattle.intersections.specs.Members.{Member, circlesOf}
+use Rattle.intersections.specs.Members.{Member, circles_of}
 use Rattle.boundary.specs.Outline.{outline}
 use Rattle.boundary.specs.declared.arcs.BoundaryArc.{BoundaryArc}
-use Rattle.clip.specs.Gradient.{WithGradient, with-gradient, addClippedArcsWithGradient, addEdgesWithGradient, clippedWithGradient, clippedOnto}
-use Rattle.clip.specs.Area.{emptyBox, addClippedArcs, addEdges, clippedAreaOf, clippedArea}
+use Rattle.clip.specs.Gradient.{WithGradient, with_gradient, add_clipped_arcs_with_gradient, add_edges_with_gradient, clipped_with_gradient, clipped_onto}
+use Rattle.clip.specs.Area.{empty_box, add_clipped_arcs, add_edges, clipped_area_of, clipped_area}
 
 module _ (box : Bounds) (ms : List Member) where
   -- a box with no inside
-  pub area-of-nothing : emptyBox box ≡ true → zero64 ≡ clippedArea box ms
-  unfolding clippedArea clippedAreaOf
-  area-of-nothing e = rw e
+  pub area_of_nothing : empty_box box ≡ true → zero64 ≡ clipped_area box ms
+  unfolding clipped_area clipped_area_of
+  area_of_nothing e = rw e
 
   -- the sum over the arcs, and the edges
-  pub area-by-sum : (cs : List Circle) (total : Float) → emptyBox box ≡ false → cs ≡ circlesOf ms → total ≡ addClippedArcs box cs zero64 (outline ms)
-      → half64 *ᶠ addEdges box cs total ≡ clippedArea box ms
-  unfolding clippedArea clippedAreaOf
-  area-by-sum cs total e ec et = rw (et, ec, e)
+  pub area_by_sum : (cs : List Circle) (total : Float) → empty_box box ≡ false → cs ≡ circles_of ms → total ≡ add_clipped_arcs box cs zero64 (outline ms)
+      → half64 *ᶠ add_edges box cs total ≡ clipped_area box ms
+  unfolding clipped_area clipped_area_of
+  area_by_sum cs total e ec et = rw (et, ec, e)
 
 module _ (box : Bounds) (all own : List Circle) (arcs : List BoundaryArc) (g : List Float) where
   -- a box with no inside: the gradient stays
-  pub gradient-of-nothing : emptyBox box ≡ true → with-gradient zero64 g ≡ clippedWithGradient box all own arcs g
-  unfolding clippedWithGradient
-  gradient-of-nothing e = rw e
+  pub gradient_of_nothing : empty_box box ≡ true → with_gradient zero64 g ≡ clipped_with_gradient box all own arcs g
+  unfolding clipped_with_gradient
+  gradient_of_nothing e = rw e
 
   -- the sum over the arcs, and the edges
-  pub gradient-by-sum : (s : WithGradient) → emptyBox box ≡ false
-      → s ≡ addEdgesWithGradient box own (length all * 3) (addClippedArcsWithGradient box all (with-gradient zero64 g) arcs)
-      → with-gradient (half64 *ᶠ s.sum) s.grad ≡ clippedWithGradient box all own arcs g
-  unfolding clippedWithGradient
-  gradient-by-sum s e es = rw (es, e)
+  pub gradient_by_sum : (s : WithGradient) → empty_box box ≡ false
+      → s ≡ add_edges_with_gradient box own (length all * 3) (add_clipped_arcs_with_gradient box all (with_gradient zero64 g) arcs)
+      → with_gradient (half64 *ᶠ s.sum) s.grad ≡ clipped_with_gradient box all own arcs g
+  unfolding clipped_with_gradient
+  gradient_by_sum s e es = rw (es, e)
 
 -- of the members of a set, whose circles and number are given
-pub gradient-of-members : (box : Bounds) (ms : List Member) (g : List Float) (cs : List Circle) (n : ℕ) (s t : WithGradient)
-    → emptyBox box ≡ false → cs ≡ circlesOf ms → n ≡ length ms
-    → t ≡ addClippedArcsWithGradient box cs (with-gradient zero64 g) (outline ms)
-    → s ≡ addEdgesWithGradient box cs (n * 3) t
-    → with-gradient (half64 *ᶠ s.sum) s.grad ≡ clippedOnto box ms g
-unfolding clippedOnto
-gradient-of-members box ms g cs n s t e ec en et es =
-    gradient-by-sum box (circlesOf ms) (circlesOf ms) (outline ms) g s e
+pub gradient_of_members : (box : Bounds) (ms : List Member) (g : List Float) (cs : List Circle) (n : ℕ) (s t : WithGradient)
+    → empty_box box ≡ false → cs ≡ circles_of ms → n ≡ length ms
+    → t ≡ add_clipped_arcs_with_gradient box cs (with_gradient zero64 g) (outline ms)
+    → s ≡ add_edges_with_gradient box cs (n * 3) t
+    → with_gradient (half64 *ᶠ s.sum) s.grad ≡ clipped_onto box ms g
+unfolding clipped_onto
+gradient_of_members box ms g cs n s t e ec en et es =
+    gradient_by_sum box (circles_of ms) (circles_of ms) (outline ms) g s e
     (es ∙ rw (et, ec, en, sym (length-map ms (λ m. m.circle))))
 
-pub gradient-of-members-nothing : (box : Bounds) (ms : List Member) (g : List Float) → emptyBox box ≡ true → with-gradient zero64 g ≡ clippedOnto box ms g
-unfolding clippedOnto
-gradient-of-members-nothing box ms g e = gradient-of-nothing box (circlesOf ms) (circlesOf ms) (outline ms) g e
+pub gradient_of_members_nothing : (box : Bounds) (ms : List Member) (g : List Float) → empty_box box ≡ true → with_gradient zero64 g ≡ clipped_onto box ms g
+unfolding clipped_onto
+gradient_of_members_nothing box ms g e = gradient_of_nothing box (circles_of ms) (circles_of ms) (outline ms) g e

@@ -6,44 +6,44 @@ use Rattle.geometry.specs.declared.bounds.Bounds.{Bounds}
 use Rattle.geometry.specs.declared.circle.Circle.{Circle}
 use Rattle.binary64.specs.Constants.{zero64, half64}
 use Rattle.binary64.specs.Floats.{◌+ᶠ◌, ◌-ᶠ◌, ◌*ᶠ◌, ◌≤ᶠ◌}
-use Rattle.intersections.specs.Members.{Member, circlesOf, noCircle}
+use Rattle.intersections.specs.Members.{Member, circles_of, no_circle}
 use Rattle.boundary.specs.Outline.{outline}
 use Rattle.boundary.specs.declared.arcs.BoundaryArc.{BoundaryArc}
-use Rattle.inside.specs.Span.{Interval, horizontalSpan, verticalSpan}
-use Rattle.inside.specs.Parts.{clippedArcIntegral}
+use Rattle.inside.specs.Span.{Interval, horizontal_span, vertical_span}
+use Rattle.inside.specs.Parts.{clipped_arc_integral}
 
 -- The box has no inside.
-unfoldable pub emptyBox : Bounds → Bool
-emptyBox box = (box.x_max ≤ᶠ box.x_min) || (box.y_max ≤ᶠ box.y_min)
+unfoldable pub empty_box : Bounds → Bool
+empty_box box = (box.x_max ≤ᶠ box.x_min) || (box.y_max ≤ᶠ box.y_min)
 
 -- one arc, added to a sum; an arc of no circle of the list adds nothing
-unfoldable pub addClippedArc : Bounds → List Circle → Float → BoundaryArc → Float
-unfolding clippedArcIntegral
-addClippedArc box cs total arc = cond (ltb arc.circle (length cs)) (total +ᶠ clippedArcIntegral box (get_or cs arc.circle noCircle) arc) total
+unfoldable pub add_clipped_arc : Bounds → List Circle → Float → BoundaryArc → Float
+unfolding clipped_arc_integral
+add_clipped_arc box cs total arc = cond (ltb arc.circle (length cs)) (total +ᶠ clipped_arc_integral box (get_or cs arc.circle no_circle) arc) total
 
 -- the arcs one after another, onto a sum
-abbrev pub addClippedArcs : Bounds → List Circle → Float → List BoundaryArc → Float
-addClippedArcs box cs = foldl (addClippedArc box cs)
+abbrev pub add_clipped_arcs : Bounds → List Circle → Float → List BoundaryArc → Float
+add_clipped_arcs box cs = foldl (add_clipped_arc box cs)
 
 -- a factor times the length of the span, added; no span adds nothing
-abbrev pub addSpan : Float → Float → List Interval → Float
-addSpan factor = foldl (λ total i. total +ᶠ factor *ᶠ (i.high -ᶠ i.low))
+abbrev pub add_span : Float → Float → List Interval → Float
+add_span factor = foldl (λ total i. total +ᶠ factor *ᶠ (i.high -ᶠ i.low))
 
 -- the spans of the four edges, counterclockwise from the bottom, for the circles of a set
-unfoldable pub addEdges : Bounds → List Circle → Float → Float
-unfolding horizontalSpan verticalSpan
-addEdges box cs total =
-    let bottom = addSpan (neg box.y_min) total (horizontalSpan box.y_min box.x_min box.x_max cs) in
-    let right = addSpan box.x_max bottom (verticalSpan box.x_max box.y_min box.y_max cs) in
-    let top = addSpan box.y_max right (horizontalSpan box.y_max box.x_min box.x_max cs) in
-    addSpan (neg box.x_min) top (verticalSpan box.x_min box.y_min box.y_max cs)
+unfoldable pub add_edges : Bounds → List Circle → Float → Float
+unfolding horizontal_span vertical_span
+add_edges box cs total =
+    let bottom = add_span (neg box.y_min) total (horizontal_span box.y_min box.x_min box.x_max cs) in
+    let right = add_span box.x_max bottom (vertical_span box.x_max box.y_min box.y_max cs) in
+    let top = add_span box.y_max right (horizontal_span box.y_max box.x_min box.x_max cs) in
+    add_span (neg box.x_min) top (vertical_span box.x_min box.y_min box.y_max cs)
 
 -- The area in the box of the set whose circles are `own`. The arcs of its outline name circles of `all`.
-unfoldable pub clippedAreaOf : Bounds → List Circle → List Circle → List BoundaryArc → Float
-unfolding emptyBox addClippedArc addEdges
-clippedAreaOf box all own arcs = cond (emptyBox box) zero64 (half64 *ᶠ addEdges box own (addClippedArcs box all zero64 arcs))
+unfoldable pub clipped_area_of : Bounds → List Circle → List Circle → List BoundaryArc → Float
+unfolding empty_box add_clipped_arc add_edges
+clipped_area_of box all own arcs = cond (empty_box box) zero64 (half64 *ᶠ add_edges box own (add_clipped_arcs box all zero64 arcs))
 
 -- the area that the members water together inside the box: a function of the members and the box
-unfoldable pub clippedArea : Bounds → List Member → Float
-unfolding clippedAreaOf outline
-clippedArea box ms = clippedAreaOf box (circlesOf ms) (circlesOf ms) (outline ms)
+unfoldable pub clipped_area : Bounds → List Member → Float
+unfolding clipped_area_of outline
+clipped_area box ms = clipped_area_of box (circles_of ms) (circles_of ms) (outline ms)

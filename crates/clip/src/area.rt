@@ -1,11 +1,11 @@
 // The area of a set inside the box: of a list of arcs, and of a set. Rests on specs/Area.antt.
 ghost use Rattle.std.specs.Prelude.{◌≡◌, map, take, length};
 ghost use Rattle.binary64.specs.Constants.{zero64};
-ghost use Rattle.intersections.specs.Members.{headsOf, circleAt, members_of};
-ghost use Rattle.intersections.specs.Counted.{pointList, circleList};
-ghost use Rattle.boundary.specs.Counted.{arcList, outlineList};
+ghost use Rattle.intersections.specs.Members.{heads_of, circle_at, members_of};
+ghost use Rattle.intersections.specs.Counted.{point_list, circle_list};
+ghost use Rattle.boundary.specs.Counted.{arc_list, outline_list};
 ghost use Rattle.inside.specs.Span.{spans};
-ghost use Rattle.clip.specs.Area.{emptyBox, addClippedArc, addClippedArcs, addSpan, addEdges, clippedAreaOf, clippedArea};
+ghost use Rattle.clip.specs.Area.{empty_box, add_clipped_arc, add_clipped_arcs, add_span, add_edges, clipped_area_of, clipped_area};
 
 use boundary::arcs::{Arcs, BoundaryArc, Outline};
 use boundary::walk::{outline_from, outline_of};
@@ -18,7 +18,7 @@ use intersections::points::Intersections;
 
 // Whether the box has no inside.
 pub fn empty_box(bounds: Bounds) -> bool
-    ensures { result ≡ emptyBox bounds }
+    ensures { result ≡ empty_box bounds }
 {
     bounds.x_max <= bounds.x_min || bounds.y_max <= bounds.y_min
 }
@@ -31,7 +31,7 @@ fn add_clipped_arc(
     n: usize,
     arc: BoundaryArc,
 ) -> f64
-    ensures { result ≡ addClippedArc bounds (take n circles) total arc }
+    ensures { result ≡ add_clipped_arc bounds (take n circles) total arc }
 {
     let at = arc.circle;
     if n <= at {
@@ -45,7 +45,7 @@ fn add_clipped_arc(
 
 // A factor times the length of a span, added.
 pub fn add_span(factor: f64, total: f64, span: Span) -> f64
-    ensures { result ≡ addSpan factor total (spans span) }
+    ensures { result ≡ add_span factor total (spans span) }
 {
     match span {
         Span::None => total,
@@ -55,7 +55,7 @@ pub fn add_span(factor: f64, total: f64, span: Span) -> f64
 
 // The spans of the four edges, counterclockwise from the bottom, added.
 fn add_edges(total: f64, bounds: Bounds, set: Members) -> f64
-    ensures { result ≡ addEdges bounds (circleList set) total }
+    ensures { result ≡ add_edges bounds (circle_list set) total }
 {
     let x_min = bounds.x_min;
     let x_max = bounds.x_max;
@@ -73,7 +73,7 @@ fn add_edges(total: f64, bounds: Bounds, set: Members) -> f64
 
 // The arcs of an outline, added up.
 fn arcs_sum(arcs: Outline, bounds: Bounds, circles: [Circle; 10], n_sets: usize) -> f64
-    ensures { result ≡ addClippedArcs bounds (take n_sets circles) zero64 (outlineList arcs) }
+    ensures { result ≡ add_clipped_arcs bounds (take n_sets circles) zero64 (outline_list arcs) }
 {
     let n = arcs.n;
     let mut total = 0.0;
@@ -96,7 +96,7 @@ pub fn area_from_clipped_arcs(
     mask: usize,
     n_sets: usize,
 ) -> f64
-    ensures { result ≡ clippedAreaOf bounds (take n_sets circles) (map (circleAt (take n_sets circles)) (headsOf (length (take n_sets circles)) mask)) (arcList arcs) }
+    ensures { result ≡ clipped_area_of bounds (take n_sets circles) (map (circle_at (take n_sets circles)) (heads_of (length (take n_sets circles)) mask)) (arc_list arcs) }
 {
     if empty_box(bounds) {
         return 0.0;
@@ -113,7 +113,7 @@ pub fn clipped_region_area(
     n_sets: usize,
     bounds: Bounds,
 ) -> f64
-    ensures { result ≡ clippedArea bounds (members_of (take n_sets circles) (pointList points) mask) }
+    ensures { result ≡ clipped_area bounds (members_of (take n_sets circles) (point_list points) mask) }
 {
     if empty_box(bounds) {
         return 0.0;

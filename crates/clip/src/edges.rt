@@ -1,8 +1,8 @@
 // The spans of the four edges of the box, summed together with their shares of the gradient. Rests on specs/Gradient.antt.
 ghost use Rattle.std.specs.Prelude.{◌≡◌, min, ◌*◌, ◌≤◌};
-ghost use Rattle.intersections.specs.Counted.{circleList};
+ghost use Rattle.intersections.specs.Counted.{circle_list};
 ghost use Rattle.inside.specs.Span.{spans};
-ghost use Rattle.clip.specs.Gradient.{with-gradient, moved, edgeSlopes, addSpanWithGradient, bottomEdge, rightEdge, topEdge, leftEdge, addEdgesWithGradient};
+ghost use Rattle.clip.specs.Gradient.{with_gradient, moved, edge_slopes, add_span_with_gradient, bottom_edge, right_edge, top_edge, left_edge, add_edges_with_gradient};
 
 use geometry::bounds::Bounds;
 use inside::span::{Span, horizontal_edge_inside_interval, vertical_edge_inside_interval};
@@ -33,7 +33,7 @@ pub struct Edge {
 // The share of a span of length l in the box's four entries.
 fn edge_slopes(grad: &mut [f64], edge: Edge, at: usize, l: f64)
     requires { at ≤ 30 }
-    ensures { grad.new ≡ edgeSlopes edge at l grad.old }
+    ensures { grad.new ≡ edge_slopes edge at l grad.old }
 {
     let along = if edge.upright { at } else { at + 1 };
     let share = edge.across / 4.0 * l;
@@ -45,7 +45,7 @@ fn edge_slopes(grad: &mut [f64], edge: Edge, at: usize, l: f64)
 // The span of an edge, added.
 fn add_span_with_gradient(total: f64, grad: &mut [f64], edge: Edge, at: usize, span: Span) -> f64
     requires { at ≤ 30 }
-    ensures { with-gradient result grad.new ≡ addSpanWithGradient edge at (with-gradient total grad.old) (spans span) }
+    ensures { with_gradient result grad.new ≡ add_span_with_gradient edge at (with_gradient total grad.old) (spans span) }
 {
     match span {
         Span::None => total,
@@ -59,13 +59,13 @@ fn add_span_with_gradient(total: f64, grad: &mut [f64], edge: Edge, at: usize, s
 
 // The same, the box's four entries after three a head of n, of which at most ten count.
 pub fn add_edge_with_gradient(total: f64, grad: &mut [f64], edge: Edge, n: usize, span: Span) -> f64
-    ensures { with-gradient result grad.new ≡ addSpanWithGradient edge (min n 10 * 3) (with-gradient total grad.old) (spans span) }
+    ensures { with_gradient result grad.new ≡ add_span_with_gradient edge (min n 10 * 3) (with_gradient total grad.old) (spans span) }
 {
     add_span_with_gradient(total, grad, edge, at_most_ten(n) * 3, span)
 }
 
 pub fn bottom_edge(bounds: Bounds) -> Edge
-    ensures { result ≡ bottomEdge bounds }
+    ensures { result ≡ bottom_edge bounds }
 {
     Edge {
         upright: false,
@@ -76,7 +76,7 @@ pub fn bottom_edge(bounds: Bounds) -> Edge
 }
 
 pub fn right_edge(bounds: Bounds) -> Edge
-    ensures { result ≡ rightEdge bounds }
+    ensures { result ≡ right_edge bounds }
 {
     Edge {
         upright: true,
@@ -87,7 +87,7 @@ pub fn right_edge(bounds: Bounds) -> Edge
 }
 
 pub fn top_edge(bounds: Bounds) -> Edge
-    ensures { result ≡ topEdge bounds }
+    ensures { result ≡ top_edge bounds }
 {
     Edge {
         upright: false,
@@ -98,7 +98,7 @@ pub fn top_edge(bounds: Bounds) -> Edge
 }
 
 pub fn left_edge(bounds: Bounds) -> Edge
-    ensures { result ≡ leftEdge bounds }
+    ensures { result ≡ left_edge bounds }
 {
     Edge {
         upright: true,
@@ -117,7 +117,7 @@ pub(crate) fn add_edges_with_gradient(
     at: usize,
 ) -> f64
     requires { at ≤ 30 }
-    ensures { with-gradient result grad.new ≡ addEdgesWithGradient bounds (circleList set) at (with-gradient total grad.old) }
+    ensures { with_gradient result grad.new ≡ add_edges_with_gradient bounds (circle_list set) at (with_gradient total grad.old) }
 {
     let x_min = bounds.x_min;
     let x_max = bounds.x_max;

@@ -1,10 +1,10 @@
 // The area of a set inside the box with its gradient: of a list of arcs, and of a set. Rests on specs/Gradient.antt.
 ghost use Rattle.std.specs.Prelude.{◌≡◌, map, take, length};
 ghost use Rattle.binary64.specs.Constants.{zero64};
-ghost use Rattle.intersections.specs.Members.{headsOf, circleAt, members_of};
-ghost use Rattle.intersections.specs.Counted.{pointList};
-ghost use Rattle.boundary.specs.Counted.{arcList, outlineList};
-ghost use Rattle.clip.specs.Gradient.{with-gradient, addClippedArcsWithGradient, clippedWithGradient, clippedOnto};
+ghost use Rattle.intersections.specs.Members.{heads_of, circle_at, members_of};
+ghost use Rattle.intersections.specs.Counted.{point_list};
+ghost use Rattle.boundary.specs.Counted.{arc_list, outline_list};
+ghost use Rattle.clip.specs.Gradient.{with_gradient, add_clipped_arcs_with_gradient, clipped_with_gradient, clipped_onto};
 
 use crate::area::empty_box;
 use crate::edges::add_edges_with_gradient;
@@ -24,7 +24,7 @@ fn arcs_sum_with_gradient(
     n_sets: usize,
     grad: &mut [f64],
 ) -> f64
-    ensures { with-gradient result grad.new ≡ addClippedArcsWithGradient bounds (take n_sets circles) (with-gradient zero64 grad.old) (outlineList arcs) }
+    ensures { with_gradient result grad.new ≡ add_clipped_arcs_with_gradient bounds (take n_sets circles) (with_gradient zero64 grad.old) (outline_list arcs) }
 {
     let n = arcs.n;
     let mut total = 0.0;
@@ -48,7 +48,7 @@ pub fn area_and_gradient_from_clipped_arcs(
     n_sets: usize,
     grad: &mut [f64],
 ) -> f64
-    ensures { with-gradient result grad.new ≡ clippedWithGradient bounds (take n_sets circles) (map (circleAt (take n_sets circles)) (headsOf (length (take n_sets circles)) mask)) (arcList arcs) grad.old }
+    ensures { with_gradient result grad.new ≡ clipped_with_gradient bounds (take n_sets circles) (map (circle_at (take n_sets circles)) (heads_of (length (take n_sets circles)) mask)) (arc_list arcs) grad.old }
 {
     if empty_box(bounds) {
         return 0.0;
@@ -69,7 +69,7 @@ pub fn clipped_region_area_and_gradient(
     bounds: Bounds,
     grad: &mut [f64],
 ) -> f64
-    ensures { with-gradient result grad.new ≡ clippedOnto bounds (members_of (take n_sets circles) (pointList points) mask) grad.old }
+    ensures { with_gradient result grad.new ≡ clipped_onto bounds (members_of (take n_sets circles) (point_list points) mask) grad.old }
 {
     if empty_box(bounds) {
         return 0.0;

@@ -5,49 +5,49 @@ use Rattle.masks.specs.Presence.{stands}
 use Rattle.geometry.specs.declared.circle.Circle.{Circle}
 use Rattle.geometry.specs.declared.rectangle.Rectangle.{Rectangle}
 use Rattle.intersections.specs.Points.{collected}
-use Rattle.sets.specs.Regions.{setBytes}
-use Rattle.exclusive.specs.Exclusive.{rowsAnswer}
-use Rattle.exclusive_gradients.specs.Gradient.{widthAnswer}
-use Rattle.diagram.specs.Rows.{Rows, Slopes, presenceWritten, exclusivesWritten, areasWritten, slopesWritten}
-use Rattle.diagram.specs.Drawing.{open_rows, clippedRows, openSlopes, clippedSlopes}
+use Rattle.sets.specs.Regions.{set_bytes}
+use Rattle.exclusive.specs.Exclusive.{rows_answer}
+use Rattle.exclusive_gradients.specs.Gradient.{width_answer}
+use Rattle.diagram.specs.Rows.{Rows, Slopes, presence_written, exclusives_written, areas_written, slopes_written}
+use Rattle.diagram.specs.Drawing.{open_rows, clipped_rows, open_slopes, clipped_slopes}
 
 -- ---- the rows of circles: their sets are those that discover_regions finds
 
-abbrev pub openDiagram : List Circle → Rows
-openDiagram circles = open_rows circles (collected circles) (stands (setBytes circles (collected circles)))
+abbrev pub open_diagram : List Circle → Rows
+open_diagram circles = open_rows circles (collected circles) (stands (set_bytes circles (collected circles)))
 
-abbrev pub clippedDiagram : Rectangle → List Circle → Rows
-clippedDiagram box circles = clippedRows circles (collected circles) (stands (setBytes circles (collected circles))) box
+abbrev pub clipped_diagram : Rectangle → List Circle → Rows
+clipped_diagram box circles = clipped_rows circles (collected circles) (stands (set_bytes circles (collected circles))) box
 
-abbrev pub openWithGradients : List Circle → Slopes
-openWithGradients circles = openSlopes circles (collected circles) (stands (setBytes circles (collected circles)))
+abbrev pub open_with_gradients : List Circle → Slopes
+open_with_gradients circles = open_slopes circles (collected circles) (stands (set_bytes circles (collected circles)))
 
-abbrev pub clippedWithGradients : Rectangle → List Circle → Slopes
-clippedWithGradients box circles = clippedSlopes circles (collected circles) (stands (setBytes circles (collected circles))) box
+abbrev pub clipped_with_gradients : Rectangle → List Circle → Slopes
+clipped_with_gradients box circles = clipped_slopes circles (collected circles) (stands (set_bytes circles (collected circles))) box
 
 -- ---- presence bytes and exclusives in two slices
 
 module _ (n : ℕ) (rows : Rows) (bytes : List ℕ) (numbers : List Float) where
   abbrev pub answer : ℕ
-  answer = rowsAnswer n (min (length bytes) (length numbers))
+  answer = rows_answer n (min (length bytes) (length numbers))
 
-  abbrev pub presenceLeft : List ℕ
-  presenceLeft = cond (eqb answer 0) (presenceWritten n rows bytes) bytes
+  abbrev pub presence_left : List ℕ
+  presence_left = cond (eqb answer 0) (presence_written n rows bytes) bytes
 
-  abbrev pub exclusivesLeft : List Float
-  exclusivesLeft = cond (eqb answer 0) (exclusivesWritten n rows numbers) numbers
+  abbrev pub exclusives_left : List Float
+  exclusives_left = cond (eqb answer 0) (exclusives_written n rows numbers) numbers
 
 -- ---- presence bytes, exclusives and their gradients in three slices
 
 module _ (n : ℕ) (slopes : Slopes) (bytes : List ℕ) (numbers gradients : List Float) where
-  abbrev pub answerWith : ℕ
-  answerWith = widthAnswer n slopes.width (min (length bytes) (length numbers)) (length gradients)
+  abbrev pub answer_with : ℕ
+  answer_with = width_answer n slopes.width (min (length bytes) (length numbers)) (length gradients)
 
-  abbrev pub presenceLeftWith : List ℕ
-  presenceLeftWith = cond (eqb answerWith 0) (presenceWritten n slopes.rows bytes) bytes
+  abbrev pub presence_left_with : List ℕ
+  presence_left_with = cond (eqb answer_with 0) (presence_written n slopes.rows bytes) bytes
 
-  abbrev pub areasLeft : List Float
-  areasLeft = cond (eqb answerWith 0) (areasWritten n slopes numbers) numbers
+  abbrev pub areas_left : List Float
+  areas_left = cond (eqb answer_with 0) (areas_written n slopes numbers) numbers
 
-  abbrev pub gradientsLeft : List Float
-  gradientsLeft = cond (eqb answerWith 0) (slopesWritten n slopes gradients) gradients
+  abbrev pub gradients_left : List Float
+  gradients_left = cond (eqb answer_with 0) (slopes_written n slopes gradients) gradients

@@ -7,95 +7,95 @@ use Rattle.geometry.specs.Rectangle.{area, bounds}
 use Rattle.geometry.specs.declared.circle.Circle.{Circle}
 use Rattle.geometry.specs.declared.rectangle.Rectangle.{Rectangle}
 use Rattle.intersections.specs.declared.points.IntersectionPoint.{IntersectionPoint}
-use Rattle.intersections.specs.Counted.{pointList}
-use Rattle.intersections.specs.Members.{headsOf, circleAt, members_of}
-use Rattle.boundary.specs.Set.{regionArcs}
-use Rattle.outline.specs.Area.{areaOf, addGradient, openArea}
-use Rattle.clip.specs.Area.{clippedArea}
-use Rattle.clip.specs.Gradient.{WithGradient, with-gradient, clippedWithGradient}
+use Rattle.intersections.specs.Counted.{point_list}
+use Rattle.intersections.specs.Members.{heads_of, circle_at, members_of}
+use Rattle.boundary.specs.Set.{region_arcs}
+use Rattle.outline.specs.Area.{area_of, add_gradient, open_area}
+use Rattle.clip.specs.Area.{clipped_area}
+use Rattle.clip.specs.Gradient.{WithGradient, with_gradient, clipped_with_gradient}
 use Rattle.diagram.specs.declared.drawing.Drawing.{Drawing}
 use Rattle.diagram.specs.Rows.{Rows, Slopes}
 
 module _ (circles : List Circle) (points : List IntersectionPoint) where
   -- the area that the heads of a set water together, without a box and in one, and its gradient by head, added to a gradient
-  abbrev pub openOnto : ℕ → List Float → WithGradient
-  openOnto S g = with-gradient (areaOf circles (regionArcs circles points S)) (addGradient circles g (regionArcs circles points S))
+  abbrev pub open_onto : ℕ → List Float → WithGradient
+  open_onto S g = with_gradient (area_of circles (region_arcs circles points S)) (add_gradient circles g (region_arcs circles points S))
 
-  abbrev pub clippedOnto : Rectangle → ℕ → List Float → WithGradient
-  clippedOnto box S g =
-      clippedWithGradient (bounds box) circles (map (circleAt circles) (headsOf (length circles) S)) (regionArcs circles points S) g
+  abbrev pub clipped_onto : Rectangle → ℕ → List Float → WithGradient
+  clipped_onto box S g =
+      clipped_with_gradient (bounds box) circles (map (circle_at circles) (heads_of (length circles) S)) (region_arcs circles points S) g
 
   -- three numbers a head, and the box's four
-  abbrev pub openWidth : ℕ
-  openWidth = 3 * length circles
+  abbrev pub open_width : ℕ
+  open_width = 3 * length circles
 
-  abbrev pub clippedWidth : ℕ
-  clippedWidth = length circles * 3 + 4
+  abbrev pub clipped_width : ℕ
+  clipped_width = length circles * 3 + 4
 
   module _ (sets : ℕ → Bool) where
     -- the rows without a box: there is no row 0
     abbrev pub open_rows : Rows
-    open_rows = record { hasBox = false; boxArea = zero64; sets = sets; area = λ S. openArea (members_of circles points S) }
+    open_rows = record { has_box = false; box_area = zero64; sets = sets; area = λ S. open_area (members_of circles points S) }
 
     -- the rows in a box: row 0 has the box's area
-    abbrev pub clippedRows : Rectangle → Rows
-    clippedRows box = record { hasBox = true; boxArea = area box; sets = sets; area = λ S. clippedArea (bounds box) (members_of circles points S) }
+    abbrev pub clipped_rows : Rectangle → Rows
+    clipped_rows box = record { has_box = true; box_area = area box; sets = sets; area = λ S. clipped_area (bounds box) (members_of circles points S) }
 
     -- The same with gradients. The area that comes with a gradient in a box is summed in another order.
-    abbrev pub openSlopes : Slopes
-    openSlopes = record {
-      rows = record { hasBox = false; boxArea = zero64; sets = sets; area = λ S. (openOnto S (replicate openWidth zero64)).sum };
-      width = openWidth;
-      boxRow = replicate openWidth zero64;
-      row = λ S. (openOnto S (replicate openWidth zero64)).grad;
+    abbrev pub open_slopes : Slopes
+    open_slopes = record {
+      rows = record { has_box = false; box_area = zero64; sets = sets; area = λ S. (open_onto S (replicate open_width zero64)).sum };
+      width = open_width;
+      box_row = replicate open_width zero64;
+      row = λ S. (open_onto S (replicate open_width zero64)).grad;
     }
 
     -- The gradient of row 0 is all +0 but for the box's area at its third box entry.
-    abbrev pub clippedSlopes : Rectangle → Slopes
-    clippedSlopes box = record {
-      rows = record { hasBox = true; boxArea = area box; sets = sets; area = λ S. (clippedOnto box S (replicate clippedWidth zero64)).sum };
-      width = clippedWidth;
-      boxRow = set (replicate clippedWidth zero64) (length circles * 3 + 2) (area box);
-      row = λ S. (clippedOnto box S (replicate clippedWidth zero64)).grad;
+    abbrev pub clipped_slopes : Rectangle → Slopes
+    clipped_slopes box = record {
+      rows = record { has_box = true; box_area = area box; sets = sets; area = λ S. (clipped_onto box S (replicate clipped_width zero64)).sum };
+      width = clipped_width;
+      box_row = set (replicate clipped_width zero64) (length circles * 3 + 2) (area box);
+      row = λ S. (clipped_onto box S (replicate clipped_width zero64)).grad;
     }
 
 -- ---- as the code holds it
 
-abbrev pub circlesOf : Drawing → List Circle
-circlesOf d = take d.n d.circles
+abbrev pub circles_of : Drawing → List Circle
+circles_of d = take d.n d.circles
 
 abbrev pub points_of : Drawing → List IntersectionPoint
-points_of d = pointList d.points
+points_of d = point_list d.points
 
 -- the area of a set, and the same with its gradient, added to one; what row 0 has, and its gradient
-abbrev pub setArea : Drawing → ℕ → Float
-setArea d S =
-    cond d.boxed (clippedArea (bounds d.container) (members_of (circlesOf d) (points_of d) S)) (openArea (members_of (circlesOf d) (points_of d) S))
+abbrev pub set_area : Drawing → ℕ → Float
+set_area d S =
+    cond d.boxed (clipped_area (bounds d.container) (members_of (circles_of d) (points_of d) S)) (open_area (members_of (circles_of d) (points_of d) S))
 
-abbrev pub setOnto : Drawing → ℕ → List Float → WithGradient
-setOnto d S g = cond d.boxed (clippedOnto (circlesOf d) (points_of d) d.container S g) (openOnto (circlesOf d) (points_of d) S g)
+abbrev pub set_onto : Drawing → ℕ → List Float → WithGradient
+set_onto d S g = cond d.boxed (clipped_onto (circles_of d) (points_of d) d.container S g) (open_onto (circles_of d) (points_of d) S g)
 
-abbrev pub boxAreaOf : Drawing → Float
-boxAreaOf d = cond d.boxed (area d.container) zero64
+abbrev pub box_area_of : Drawing → Float
+box_area_of d = cond d.boxed (area d.container) zero64
 
-abbrev pub boxRowOf : ℕ → Drawing → List Float
-boxRowOf width d =
-    cond d.boxed (set (replicate width zero64) (length (circlesOf d) * 3 + 2) (area d.container)) (replicate width zero64)
+abbrev pub box_row_of : ℕ → Drawing → List Float
+box_row_of width d =
+    cond d.boxed (set (replicate width zero64) (length (circles_of d) * 3 + 2) (area d.container)) (replicate width zero64)
 
 abbrev pub width_of : Drawing → ℕ
-width_of d = cond d.boxed (clippedWidth (circlesOf d) (points_of d)) (openWidth (circlesOf d) (points_of d))
+width_of d = cond d.boxed (clipped_width (circles_of d) (points_of d)) (open_width (circles_of d) (points_of d))
 
 -- the rows, and the rows with gradients of some width
 abbrev pub rows_of : Drawing → (ℕ → Bool) → Rows
-rows_of d sets = record { hasBox = d.boxed; boxArea = boxAreaOf d; sets = sets; area = setArea d }
+rows_of d sets = record { has_box = d.boxed; box_area = box_area_of d; sets = sets; area = set_area d }
 
-abbrev pub slopesBy : ℕ → Drawing → (ℕ → Bool) → Slopes
-slopesBy width d sets = record {
-  rows = record { hasBox = d.boxed; boxArea = boxAreaOf d; sets = sets; area = λ S. (setOnto d S (replicate width zero64)).sum };
+abbrev pub slopes_by : ℕ → Drawing → (ℕ → Bool) → Slopes
+slopes_by width d sets = record {
+  rows = record { has_box = d.boxed; box_area = box_area_of d; sets = sets; area = λ S. (set_onto d S (replicate width zero64)).sum };
   width = width;
-  boxRow = boxRowOf width d;
-  row = λ S. (setOnto d S (replicate width zero64)).grad;
+  box_row = box_row_of width d;
+  row = λ S. (set_onto d S (replicate width zero64)).grad;
 }
 
-abbrev pub slopesOf : Drawing → (ℕ → Bool) → Slopes
-slopesOf d = slopesBy (width_of d) d
+abbrev pub slopes_of : Drawing → (ℕ → Bool) → Slopes
+slopes_of d = slopes_by (width_of d) d

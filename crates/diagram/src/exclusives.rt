@@ -2,9 +2,9 @@
 // Rests on specs/Diagram.antt.
 ghost use Rattle.std.specs.Prelude.{◌≡◌, ◌≤◌, ◌^◌, length, take};
 ghost use Rattle.masks.specs.Presence.{stands};
-ghost use Rattle.diagram.specs.Rows.{presenceWritten, exclusivesWritten};
+ghost use Rattle.diagram.specs.Rows.{presence_written, exclusives_written};
 ghost use Rattle.diagram.specs.Drawing.{rows_of};
-ghost use Rattle.diagram.specs.Diagram.{openDiagram, clippedDiagram, answer, presenceLeft, exclusivesLeft};
+ghost use Rattle.diagram.specs.Diagram.{open_diagram, clipped_diagram, answer, presence_left, exclusives_left};
 
 use crate::drawing::{Drawing, no_box};
 use crate::rows::write_rows;
@@ -22,8 +22,8 @@ fn write_exclusives(
     exclusives: &mut [f64],
 )
     requires { (drawing.n ≤ 10) × (2 ^ drawing.n ≤ length presence.old) × (2 ^ drawing.n ≤ length exclusives.old) }
-    ensures presence_after { presence.new ≡ presenceWritten drawing.n (rows_of drawing (stands sets.now)) presence.old }
-    ensures exclusives_after { exclusives.new ≡ exclusivesWritten drawing.n (rows_of drawing (stands sets.now)) exclusives.old }
+    ensures presence_after { presence.new ≡ presence_written drawing.n (rows_of drawing (stands sets.now)) presence.old }
+    ensures exclusives_after { exclusives.new ≡ exclusives_written drawing.n (rows_of drawing (stands sets.now)) exclusives.old }
 {
     let n = drawing.n;
     write_rows(drawing, sets, presence, exclusives);
@@ -39,8 +39,8 @@ pub fn exclusive_areas_of(
     exclusives: &mut [f64],
 ) -> u8
     ensures value { result ≡ answer drawing.n (rows_of drawing (stands sets.now)) presence.old exclusives.old }
-    ensures presence_after { presence.new ≡ presenceLeft drawing.n (rows_of drawing (stands sets.now)) presence.old exclusives.old }
-    ensures exclusives_after { exclusives.new ≡ exclusivesLeft drawing.n (rows_of drawing (stands sets.now)) presence.old exclusives.old }
+    ensures presence_after { presence.new ≡ presence_left drawing.n (rows_of drawing (stands sets.now)) presence.old exclusives.old }
+    ensures exclusives_after { exclusives.new ≡ exclusives_left drawing.n (rows_of drawing (stands sets.now)) presence.old exclusives.old }
 {
     let rows = shorter(presence.len(), exclusives.len());
     let answer = rows_answer(drawing.n, rows);
@@ -57,9 +57,9 @@ pub fn compute_exclusive_regions(
     presence: &mut [u8],
     exclusives: &mut [f64],
 ) -> u8
-    ensures value { result ≡ answer n_sets (openDiagram (take n_sets circles)) presence.old exclusives.old }
-    ensures presence_after { presence.new ≡ presenceLeft n_sets (openDiagram (take n_sets circles)) presence.old exclusives.old }
-    ensures exclusives_after { exclusives.new ≡ exclusivesLeft n_sets (openDiagram (take n_sets circles)) presence.old exclusives.old }
+    ensures value { result ≡ answer n_sets (open_diagram (take n_sets circles)) presence.old exclusives.old }
+    ensures presence_after { presence.new ≡ presence_left n_sets (open_diagram (take n_sets circles)) presence.old exclusives.old }
+    ensures exclusives_after { exclusives.new ≡ exclusives_left n_sets (open_diagram (take n_sets circles)) presence.old exclusives.old }
 {
     let points = collect_intersections(circles, n_sets);
     let sets = discover_regions(circles, points, n_sets);
@@ -82,9 +82,9 @@ pub fn compute_exclusive_regions_clipped(
     presence: &mut [u8],
     exclusives: &mut [f64],
 ) -> u8
-    ensures value { result ≡ answer n_sets (clippedDiagram container (take n_sets circles)) presence.old exclusives.old }
-    ensures presence_after { presence.new ≡ presenceLeft n_sets (clippedDiagram container (take n_sets circles)) presence.old exclusives.old }
-    ensures exclusives_after { exclusives.new ≡ exclusivesLeft n_sets (clippedDiagram container (take n_sets circles)) presence.old exclusives.old }
+    ensures value { result ≡ answer n_sets (clipped_diagram container (take n_sets circles)) presence.old exclusives.old }
+    ensures presence_after { presence.new ≡ presence_left n_sets (clipped_diagram container (take n_sets circles)) presence.old exclusives.old }
+    ensures exclusives_after { exclusives.new ≡ exclusives_left n_sets (clipped_diagram container (take n_sets circles)) presence.old exclusives.old }
 {
     let points = collect_intersections(circles, n_sets);
     let sets = discover_regions(circles, points, n_sets);

@@ -2,9 +2,9 @@
 // discover_regions finds. A gradient has three numbers a head, and in a box four more. Rests on specs/Diagram.antt.
 ghost use Rattle.std.specs.Prelude.{◌≡◌, min, ◌*◌, ◌≤◌, ◌^◌, length, take};
 ghost use Rattle.masks.specs.Presence.{stands};
-ghost use Rattle.diagram.specs.Rows.{presenceWritten, areasWritten, slopesWritten};
-ghost use Rattle.diagram.specs.Drawing.{rows_of, slopesBy, slopesOf, width_of};
-ghost use Rattle.diagram.specs.Diagram.{openWithGradients, clippedWithGradients, answerWith, presenceLeftWith, areasLeft, gradientsLeft};
+ghost use Rattle.diagram.specs.Rows.{presence_written, areas_written, slopes_written};
+ghost use Rattle.diagram.specs.Drawing.{rows_of, slopes_by, slopes_of, width_of};
+ghost use Rattle.diagram.specs.Diagram.{open_with_gradients, clipped_with_gradients, answer_with, presence_left_with, areas_left, gradients_left};
 
 use crate::drawing::{Drawing, no_box, width_of};
 use crate::rows::write_rows_with_gradients;
@@ -25,9 +25,9 @@ fn write_exclusives_with_gradients(
     gradients: &mut [f64],
 )
     requires { (drawing.n ≤ 10) × (2 ^ drawing.n ≤ length presence.old) × (2 ^ drawing.n ≤ length exclusives.old) × (2 ^ drawing.n * width ≤ length gradients.old) }
-    ensures presence_after { presence.new ≡ presenceWritten drawing.n (rows_of drawing (stands sets.now)) presence.old }
-    ensures exclusives_after { exclusives.new ≡ areasWritten drawing.n (slopesBy width drawing (stands sets.now)) exclusives.old }
-    ensures gradients_after { gradients.new ≡ slopesWritten drawing.n (slopesBy width drawing (stands sets.now)) gradients.old }
+    ensures presence_after { presence.new ≡ presence_written drawing.n (rows_of drawing (stands sets.now)) presence.old }
+    ensures exclusives_after { exclusives.new ≡ areas_written drawing.n (slopes_by width drawing (stands sets.now)) exclusives.old }
+    ensures gradients_after { gradients.new ≡ slopes_written drawing.n (slopes_by width drawing (stands sets.now)) gradients.old }
 {
     let n = drawing.n;
     write_rows_with_gradients(drawing, sets, width, presence, exclusives, gradients);
@@ -43,10 +43,10 @@ pub fn exclusive_areas_and_gradients_of(
     exclusives: &mut [f64],
     gradients: &mut [f64],
 ) -> u8
-    ensures value { result ≡ answerWith drawing.n (slopesOf drawing (stands sets.now)) presence.old exclusives.old gradients.old }
-    ensures presence_after { presence.new ≡ presenceLeftWith drawing.n (slopesOf drawing (stands sets.now)) presence.old exclusives.old gradients.old }
-    ensures exclusives_after { exclusives.new ≡ areasLeft drawing.n (slopesOf drawing (stands sets.now)) presence.old exclusives.old gradients.old }
-    ensures gradients_after { gradients.new ≡ gradientsLeft drawing.n (slopesOf drawing (stands sets.now)) presence.old exclusives.old gradients.old }
+    ensures value { result ≡ answer_with drawing.n (slopes_of drawing (stands sets.now)) presence.old exclusives.old gradients.old }
+    ensures presence_after { presence.new ≡ presence_left_with drawing.n (slopes_of drawing (stands sets.now)) presence.old exclusives.old gradients.old }
+    ensures exclusives_after { exclusives.new ≡ areas_left drawing.n (slopes_of drawing (stands sets.now)) presence.old exclusives.old gradients.old }
+    ensures gradients_after { gradients.new ≡ gradients_left drawing.n (slopes_of drawing (stands sets.now)) presence.old exclusives.old gradients.old }
 {
     let rows = shorter(presence.len(), exclusives.len());
     let width = width_of(drawing);
@@ -65,10 +65,10 @@ pub fn compute_exclusive_regions_with_gradient_circles(
     exclusives: &mut [f64],
     gradients: &mut [f64],
 ) -> u8
-    ensures value { result ≡ answerWith n_sets (openWithGradients (take n_sets circles)) presence.old exclusives.old gradients.old }
-    ensures presence_after { presence.new ≡ presenceLeftWith n_sets (openWithGradients (take n_sets circles)) presence.old exclusives.old gradients.old }
-    ensures exclusives_after { exclusives.new ≡ areasLeft n_sets (openWithGradients (take n_sets circles)) presence.old exclusives.old gradients.old }
-    ensures gradients_after { gradients.new ≡ gradientsLeft n_sets (openWithGradients (take n_sets circles)) presence.old exclusives.old gradients.old }
+    ensures value { result ≡ answer_with n_sets (open_with_gradients (take n_sets circles)) presence.old exclusives.old gradients.old }
+    ensures presence_after { presence.new ≡ presence_left_with n_sets (open_with_gradients (take n_sets circles)) presence.old exclusives.old gradients.old }
+    ensures exclusives_after { exclusives.new ≡ areas_left n_sets (open_with_gradients (take n_sets circles)) presence.old exclusives.old gradients.old }
+    ensures gradients_after { gradients.new ≡ gradients_left n_sets (open_with_gradients (take n_sets circles)) presence.old exclusives.old gradients.old }
 {
     let points = collect_intersections(circles, n_sets);
     let sets = discover_regions(circles, points, n_sets);
@@ -92,10 +92,10 @@ pub fn compute_exclusive_regions_clipped_with_gradient(
     exclusives: &mut [f64],
     gradients: &mut [f64],
 ) -> u8
-    ensures value { result ≡ answerWith n_sets (clippedWithGradients container (take n_sets circles)) presence.old exclusives.old gradients.old }
-    ensures presence_after { presence.new ≡ presenceLeftWith n_sets (clippedWithGradients container (take n_sets circles)) presence.old exclusives.old gradients.old }
-    ensures exclusives_after { exclusives.new ≡ areasLeft n_sets (clippedWithGradients container (take n_sets circles)) presence.old exclusives.old gradients.old }
-    ensures gradients_after { gradients.new ≡ gradientsLeft n_sets (clippedWithGradients container (take n_sets circles)) presence.old exclusives.old gradients.old }
+    ensures value { result ≡ answer_with n_sets (clipped_with_gradients container (take n_sets circles)) presence.old exclusives.old gradients.old }
+    ensures presence_after { presence.new ≡ presence_left_with n_sets (clipped_with_gradients container (take n_sets circles)) presence.old exclusives.old gradients.old }
+    ensures exclusives_after { exclusives.new ≡ areas_left n_sets (clipped_with_gradients container (take n_sets circles)) presence.old exclusives.old gradients.old }
+    ensures gradients_after { gradients.new ≡ gradients_left n_sets (clipped_with_gradients container (take n_sets circles)) presence.old exclusives.old gradients.old }
 {
     let points = collect_intersections(circles, n_sets);
     let sets = discover_regions(circles, points, n_sets);

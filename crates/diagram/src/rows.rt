@@ -5,9 +5,9 @@ ghost use Rattle.std.specs.Float.{nan};
 ghost use Rattle.lists.specs.Written.{written};
 ghost use Rattle.masks.specs.Presence.{stands};
 ghost use Rattle.binary64.specs.Constants.{zero64};
-ghost use Rattle.exclusive.proofs.TableRows.{byRow};
-ghost use Rattle.diagram.specs.Rows.{in_row, areaAt, slopesAt, presenceWritten};
-ghost use Rattle.diagram.specs.Drawing.{rows_of, slopesBy, boxAreaOf, boxRowOf};
+ghost use Rattle.exclusive.proofs.TableRows.{by_row};
+ghost use Rattle.diagram.specs.Rows.{in_row, area_at, slopes_at, presence_written};
+ghost use Rattle.diagram.specs.Drawing.{rows_of, slopes_by, box_area_of, box_row_of};
 
 use crate::drawing::Drawing;
 use intersections::members::at_most_ten;
@@ -19,8 +19,8 @@ use sums::rows::write_areas;
 // the presence bytes follow.
 fn finish_rows(drawing: Drawing, sets: &[u8; 1024], presence: &mut [u8], areas: &mut [f64])
     requires { (drawing.n ≤ 10) × (2 ^ drawing.n ≤ length presence.old) × (2 ^ drawing.n ≤ length areas.old) }
-    ensures presence_after { presence.new ≡ presenceWritten drawing.n (rows_of drawing (stands sets.now)) presence.old }
-    ensures areas_after { areas.new ≡ written (in_row drawing.boxed (stands sets.now) (boxAreaOf drawing) (λ S. get_or areas.old S nan) zero64) (2 ^ drawing.n) areas.old }
+    ensures presence_after { presence.new ≡ presence_written drawing.n (rows_of drawing (stands sets.now)) presence.old }
+    ensures areas_after { areas.new ≡ written (in_row drawing.boxed (stands sets.now) (box_area_of drawing) (λ S. get_or areas.old S nan) zero64) (2 ^ drawing.n) areas.old }
 {
     let n = drawing.n;
     let boxed = drawing.boxed;
@@ -38,8 +38,8 @@ pub(crate) fn write_rows(
     areas: &mut [f64],
 )
     requires { (drawing.n ≤ 10) × (2 ^ drawing.n ≤ length presence.old) × (2 ^ drawing.n ≤ length areas.old) }
-    ensures presence_after { presence.new ≡ presenceWritten drawing.n (rows_of drawing (stands sets.now)) presence.old }
-    ensures areas_after { areas.new ≡ written (areaAt (rows_of drawing (stands sets.now))) (2 ^ drawing.n) areas.old }
+    ensures presence_after { presence.new ≡ presence_written drawing.n (rows_of drawing (stands sets.now)) presence.old }
+    ensures areas_after { areas.new ≡ written (area_at (rows_of drawing (stands sets.now))) (2 ^ drawing.n) areas.old }
 {
     let n = drawing.n;
     let boxed = drawing.boxed;
@@ -61,7 +61,7 @@ fn put_at(numbers: &mut [f64], i: usize, x: f64)
 
 // The gradient of row 0, written anew.
 fn write_box_row(drawing: Drawing, grad: &mut [f64])
-    ensures { grad.new ≡ boxRowOf (length grad.old) drawing }
+    ensures { grad.new ≡ box_row_of (length grad.old) drawing }
 {
     clear(grad);
     if drawing.boxed {
@@ -81,9 +81,9 @@ pub(crate) fn write_rows_with_gradients(
     gradients: &mut [f64],
 )
     requires { (drawing.n ≤ 10) × (2 ^ drawing.n ≤ length presence.old) × (2 ^ drawing.n ≤ length areas.old) × (2 ^ drawing.n * width ≤ length gradients.old) }
-    ensures presence_after { presence.new ≡ presenceWritten drawing.n (rows_of drawing (stands sets.now)) presence.old }
-    ensures areas_after { areas.new ≡ written (areaAt (slopesBy width drawing (stands sets.now)).rows) (2 ^ drawing.n) areas.old }
-    ensures gradients_after { gradients.new ≡ written (byRow width nan (slopesAt (slopesBy width drawing (stands sets.now)))) (2 ^ drawing.n * width) gradients.old }
+    ensures presence_after { presence.new ≡ presence_written drawing.n (rows_of drawing (stands sets.now)) presence.old }
+    ensures areas_after { areas.new ≡ written (area_at (slopes_by width drawing (stands sets.now)).rows) (2 ^ drawing.n) areas.old }
+    ensures gradients_after { gradients.new ≡ written (by_row width nan (slopes_at (slopes_by width drawing (stands sets.now)))) (2 ^ drawing.n * width) gradients.old }
 {
     let n = drawing.n;
     let boxed = drawing.boxed;

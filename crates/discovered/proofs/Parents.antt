@@ -8,14 +8,14 @@ use borrow.Author.Tests.{eqb-true, eq-eqb}
 use lib.Dec.{eqb}
 use lib.ListN.{length}
 use Rattle.lists.specs.Some.{some, any}
-use Rattle.lists.proofs.Somes.{some_of, some-none, some-cong, any-upTo}
+use Rattle.lists.proofs.Somes.{some_of, some_none, some_cong, any_up_to}
 use Rattle.masks.specs.Subset.{and_both}
-use Rattle.geometry.specs.Circle.{intersectionPoints}
+use Rattle.geometry.specs.Circle.{intersection_points}
 use Rattle.geometry.specs.declared.point.Point.{Point}
 use Rattle.geometry.specs.declared.circle.Circle.{Circle}
-use Rattle.intersections.specs.Members.{circleAt}
-use Rattle.intersections.specs.Points.{withAdopters, pairPoints, laterPoints, collected}
-use Rattle.sets.specs.Regions.{parents, meetsAt}
+use Rattle.intersections.specs.Members.{circle_at}
+use Rattle.intersections.specs.Points.{with_adopters, pair_points, later_points, collected}
+use Rattle.sets.specs.Regions.{parents, meets_at}
 
 -- ---- a test on the parents of the collected points
 
@@ -29,34 +29,34 @@ module _ (cs : List Circle) (i j : ℕ) where
   these a b = (eqb a i && eqb b j) || (eqb a j && eqb b i)
 
   abbrev pub points : ℕ → ℕ → List Point
-  points a b = intersectionPoints (circleAt cs a) (circleAt cs b)
+  points a b = intersection_points (circle_at cs a) (circle_at cs b)
 
-  of-points : (a b : ℕ) (l : List Point) → any (parents i j) (map (withAdopters cs a b) l) ≡ (these a b && nonempty l)
-  unfolding any withAdopters
-  of-points a b [] = none (these a b)
+  of_points : (a b : ℕ) (l : List Point) → any (parents i j) (map (with_adopters cs a b) l) ≡ (these a b && nonempty l)
+  unfolding any with_adopters
+  of_points a b [] = none (these a b)
     where
       none : (t : Bool) → false ≡ (t && false)
       none true = refl
       none false = refl
-  of-points a b (x ∷ l) = ap (λ (t : Bool). these a b || t) (of-points a b l) ∙ more (these a b) (nonempty l)
+  of_points a b (x ∷ l) = ap (λ (t : Bool). these a b || t) (of_points a b l) ∙ more (these a b) (nonempty l)
     where
       more : (t u : Bool) → (t || (t && u)) ≡ (t && true)
       more true u = refl
       more false u = refl
 
-  of-pairs : meetsAt (collected cs) i j ≡ some (length cs) (λ a. some (length cs - (a + 1)) (λ d. these a (a + 1 + d) && nonempty (points a (a + 1 + d))))
-  unfolding collected laterPoints pairPoints
-  of-pairs =
-      any-upTo (parents i j) (laterPoints cs) (length cs)
-      ∙ some-cong (length cs) (λ a. any (parents i j) (laterPoints cs a))
+  of_pairs : meets_at (collected cs) i j ≡ some (length cs) (λ a. some (length cs - (a + 1)) (λ d. these a (a + 1 + d) && nonempty (points a (a + 1 + d))))
+  unfolding collected later_points pair_points
+  of_pairs =
+      any_up_to (parents i j) (later_points cs) (length cs)
+      ∙ some_cong (length cs) (λ a. any (parents i j) (later_points cs a))
       (λ a. some (length cs - (a + 1)) (λ d. these a (a + 1 + d) && nonempty (points a (a + 1 + d))))
-      (λ a h. any-upTo (parents i j) (λ d. pairPoints cs a (a + 1 + d)) (length cs - (a + 1))
-      ∙ some-cong (length cs - (a + 1)) (λ d. any (parents i j) (pairPoints cs a (a + 1 + d))) (λ d. these a (a + 1 + d) && nonempty (points a (a + 1 + d)))
-      (λ d k. of-points a (a + 1 + d) (points a (a + 1 + d))))
+      (λ a h. any_up_to (parents i j) (λ d. pair_points cs a (a + 1 + d)) (length cs - (a + 1))
+      ∙ some_cong (length cs - (a + 1)) (λ d. any (parents i j) (pair_points cs a (a + 1 + d))) (λ d. these a (a + 1 + d) && nonempty (points a (a + 1 + d)))
+      (λ d k. of_points a (a + 1 + d) (points a (a + 1 + d))))
 
   -- for j below i it is whether their circles have a point
-  pub met-points : j < i → i < length cs → meetsAt (collected cs) i j ≡ nonempty (points j i)
-  met-points h k = of-pairs ∙ go (nonempty (points j i)) refl
+  pub met_points : j < i → i < length cs → meets_at (collected cs) i j ≡ nonempty (points j i)
+  met_points h k = of_pairs ∙ go (nonempty (points j i)) refl
     where
       last : (a : Bool) {b : Bool} → b ≡ false → (a && b) ≡ false
       last true e = e
@@ -77,8 +77,8 @@ module _ (cs : List Circle) (i j : ℕ) where
           (ap (λ (b : ℕ). these j b && nonempty (points j b)) at
           ∙ ap₂ ◌&&◌ (second (eqb j i && eqb i j) (eqb j j && eqb i i) (ap₂ ◌&&◌ (eq-eqb j j refl) (eq-eqb i i refl))) e))
       go false e =
-          some-none (length cs) (λ a. some (length cs - (a + 1)) (λ d. these a (a + 1 + d) && nonempty (points a (a + 1 + d))))
-          (λ a l. some-none (length cs - (a + 1)) (λ d. these a (a + 1 + d) && nonempty (points a (a + 1 + d)))
+          some_none (length cs) (λ a. some (length cs - (a + 1)) (λ d. these a (a + 1 + d) && nonempty (points a (a + 1 + d))))
+          (λ a l. some_none (length cs - (a + 1)) (λ d. these a (a + 1 + d) && nonempty (points a (a + 1 + d)))
           (λ d m. no a (a + 1 + d) (omega arith) (these a (a + 1 + d)) refl))
         where
           no : (a b : ℕ) → a < b → (t : Bool) → these a b ≡ t → (these a b && nonempty (points a b)) ≡ false

@@ -8,12 +8,12 @@ use Rattle.geometry.specs.Point.{at}
 use Rattle.geometry.specs.Rectangle.{around}
 use Rattle.geometry.specs.declared.circle.Circle.{Circle}
 use Rattle.geometry.specs.declared.rectangle.Rectangle.{Rectangle}
-use Rattle.exact.specs.Circle.{circleOf}
+use Rattle.exact.specs.Circle.{circle_of}
 
 -- the circles of a plan's heads
-unfoldable pub planCircles : Plan → List Circle
-planCircles p = take p.n (map circleOf p.heads)
+unfoldable pub plan_circles : Plan → List Circle
+plan_circles p = take p.n (map circle_of p.heads)
 
 -- the box of a plan's ground, by its centre
-unfoldable pub boxOf : Ground → Rectangle
-boxOf g = around (at (of_int binary64 g.x) (of_int binary64 g.y)) (of_int binary64 g.width) (of_int binary64 g.height)
+unfoldable pub box_of : Ground → Rectangle
+box_of g = around (at (of_int binary64 g.x) (of_int binary64 g.y)) (of_int binary64 g.width) (of_int binary64 g.height)

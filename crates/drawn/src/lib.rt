@@ -1,7 +1,7 @@
 // A plan drawn: its heads as circles and its ground as a box, of f64. Rests on the plan of `plan` and the circle of a head of `exact`.
 ghost use Rattle.std.specs.Prelude.{◌≡◌, map};
-ghost use Rattle.exact.specs.Circle.{circleOf};
-ghost use Rattle.drawn.specs.Drawn.{boxOf};
+ghost use Rattle.exact.specs.Circle.{circle_of};
+ghost use Rattle.drawn.specs.Drawn.{box_of};
 
 use exact::circle_of;
 use geometry::circle::Circle;
@@ -12,7 +12,7 @@ use plan::{Ground, Plan};
 
 // The circles of ten heads.
 fn circles_of_heads(heads: [Head; 10]) -> [Circle; 10]
-    ensures { result ≡ map circleOf heads }
+    ensures { result ≡ map circle_of heads }
 {
     let nowhere = Circle::new(Point::new(0.0, 0.0), 0.0);
     let mut circles = [nowhere; 10];
@@ -26,7 +26,7 @@ fn circles_of_heads(heads: [Head; 10]) -> [Circle; 10]
 
 // The circles of all ten heads; the first n of them are the plan's.
 pub fn circles_of(plan: Plan) -> [Circle; 10]
-    ensures { result ≡ map circleOf plan.heads }
+    ensures { result ≡ map circle_of plan.heads }
 {
     let heads = plan.heads;
     circles_of_heads(heads)
@@ -34,7 +34,7 @@ pub fn circles_of(plan: Plan) -> [Circle; 10]
 
 // The box of a plan: each of its whole numbers is an f64 as it stands.
 pub fn box_of(ground: Ground) -> Rectangle
-    ensures { result ≡ boxOf ground }
+    ensures { result ≡ box_of ground }
 {
     Rectangle::new(
         Point::new(ground.x as f64, ground.y as f64),

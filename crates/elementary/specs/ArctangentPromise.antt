@@ -4,7 +4,7 @@
 use Rattle.std.specs.Prelude.{◌≡◌, ℕ, suc, ◌+◌, ◌*◌, ◌^◌, ◌<◌, ◌≤◌, true, false, cond, T, pos, ◌-ℤ◌, ◌*ℤ◌, unsigned_abs, refl, Float}
 use Rattle.std.specs.Float.{binary64}
 use Rattle.std.specs.Float.Ieee.{fits, of_bits, neg, round}
-use Rattle.binary64.specs.Units.{Finite, mag, negative, signedZero}
+use Rattle.binary64.specs.Units.{Finite, mag, negative, signed_zero}
 use Rattle.binary64.specs.Magnitude.{Most}
 use Rattle.binary64.specs.Constants.{zero64, pi}
 use Rattle.series.specs.Fraction.{Fraction, ◌⊹◌, exact}
@@ -43,8 +43,8 @@ Positive f = (n : ℕ) × (f.num ≡ pos (suc n))
 
 -- Magnitudes up to 2^20, not both zero. (`Most j 1074 x`: x is finite and |x| ≤ j, since 1 is 2^1074 units of the smallest float.)
 pub record Domain (y x : Float) : Type 0 where
-  pub x-size : Most 1048576 1074 x
-  pub y-size : Most 1048576 1074 y
+  pub x_size : Most 1048576 1074 x
+  pub y_size : Most 1048576 1074 y
   pub some : 0 < mag x + mag y
 
 -- t is finite, and at most PI in magnitude.
@@ -59,12 +59,12 @@ pub record Angle (y x t : Float) : Type 0 where
   pub within : UpToPi t
 
 -- PI / 2, rounded.
-abbrev pub halfPi : Float
-halfPi = of_bits binary64 0x3FF9_21FB_5444_2D18
+abbrev pub half_pi : Float
+half_pi = of_bits binary64 0x3FF9_21FB_5444_2D18
 
-pub halfPi-is : halfPi ≡ round binary64 false 314159265358979323846264338327950288 (2 * 10 ^ 35)
+pub half_pi_is : half_pi ≡ round binary64 false 314159265358979323846264338327950288 (2 * 10 ^ 35)
 unfolding of_bits round
-halfPi-is = refl
+half_pi_is = refl
 
 -- t with the sign bit of y, for a t above zero
 abbrev pub with_sign : Float → Float → Float
@@ -78,9 +78,9 @@ pub record Atan2Promise : Type 0 where
   -- whatever a program hands it
   pub always : (y x : Float) → T (fits binary64 y) → T (fits binary64 x) → UpToPi (atan2 y x)
   -- IEEE 754's zeros, y's sign on each: atan2(±0, x) is ±0 for x above zero and ±PI for x below zero; atan2(y, ±0) is ±PI/2 for y not zero
-  pub right : (y x : Float) → Domain y x → mag y ≡ 0 → negative x ≡ false → atan2 y x ≡ signedZero (negative y)
+  pub right : (y x : Float) → Domain y x → mag y ≡ 0 → negative x ≡ false → atan2 y x ≡ signed_zero (negative y)
   pub left : (y x : Float) → Domain y x → mag y ≡ 0 → negative x ≡ true → atan2 y x ≡ with_sign y pi
-  pub upright : (y x : Float) → Domain y x → mag x ≡ 0 → atan2 y x ≡ with_sign y halfPi
+  pub upright : (y x : Float) → Domain y x → mag x ≡ 0 → atan2 y x ≡ with_sign y half_pi
 
 -- ---- acos and asin
 

@@ -29,4 +29,4 @@ pub record RootPromise : Type 0 where
   pub infinities : (s : Bool) → root (inf s) ≡ zero64
   -- of whatever a program holds the root is finite and not below zero
   pub finite : (x : Float) → T (fits binary64 x) → Finite (root x)
-  pub not-below : (x : Float) → T (fits binary64 x) → lt (root x) zero64 ≡ false
+  pub not_below : (x : Float) → T (fits binary64 x) → lt (root x) zero64 ≡ false

@@ -3,10 +3,10 @@
 // (specs/ArctangentPromise.antt).
 ghost use Rattle.std.specs.Prelude.{◌≡◌, ◌≤◌};
 ghost use Rattle.series.specs.Kernel.{horner as hornerOf};
-ghost use Rattle.cells.specs.Arc.{arc as arcOf, firstArc, arcs, middleArc, laterArcs, quarterTurn};
-ghost use Rattle.elementary.specs.Arctangent.{tangent as tangentOf, firstQuarter, upperHalf, inDomain};
+ghost use Rattle.cells.specs.Arc.{arc as arcOf, first_arc, arcs, middle_arc, later_arcs, quarter_turn};
+ghost use Rattle.elementary.specs.Arctangent.{tangent as tangentOf, first_quarter, upper_half, in_domain};
 ghost use Rattle.elementary.specs.Arctangent.{atan2 as atan2Of};
-ghost use Rattle.elementary.specs.Arctangent.{cofunction as cofunctionOf, inUnit, acos as acosOf, asin as asinOf};
+ghost use Rattle.elementary.specs.Arctangent.{cofunction as cofunctionOf, in_unit, acos as acosOf, asin as asinOf};
 ghost use Rattle.elementary.specs.ArctangentSteps.{Ordered, InQuarter};
 
 use crate::fixed::{mulhi, step};
@@ -18,7 +18,7 @@ const HALF_TURN: u64 = 14488038916154245685;
 
 // The alternating polynomial of the recipe at z, by Horner's rule: the later half of its coefficients.
 fn later_half(z: u64) -> u64
-    ensures { (result ≡ hornerOf middleArc laterArcs z) × (result ≤ middleArc) }
+    ensures { (result ≡ hornerOf middle_arc later_arcs z) × (result ≤ middle_arc) }
 {
     let h20 = step(920345952552169, z, 76258801422460);
     let h19 = step(5283079048034907, z, h20);
@@ -34,7 +34,7 @@ fn later_half(z: u64) -> u64
 
 // The same polynomial, whole.
 fn horner(z: u64) -> u64
-    ensures { (result ≡ hornerOf firstArc arcs z) × (result ≤ firstArc) }
+    ensures { (result ≡ hornerOf first_arc arcs z) × (result ≤ first_arc) }
 {
     let h11 = later_half(z);
     let h10 = step(437529649618516332, z, h11);
@@ -52,7 +52,7 @@ fn horner(z: u64) -> u64
 
 // The angle whose tangent is n / 2^64.
 fn arc(n: u64) -> u64
-    ensures { (result ≡ arcOf n) × (result ≤ quarterTurn) }
+    ensures { (result ≡ arcOf n) × (result ≤ quarter_turn) }
 {
     mulhi(n, horner(mulhi(n, n))) / 2
 }
@@ -72,7 +72,7 @@ fn tangent(low: f64, high: f64) -> u64
 // The angle of the point (x, y), neither below zero.
 fn first_quarter(x: f64, y: f64) -> u64
     requires { InQuarter x y }
-    ensures { (result ≡ firstQuarter x y) × (result ≤ quarterTurn) }
+    ensures { (result ≡ first_quarter x y) × (result ≤ quarter_turn) }
 {
     if x < y {
         return QUARTER_TURN - arc(tangent(x, y));
@@ -83,7 +83,7 @@ fn first_quarter(x: f64, y: f64) -> u64
 // The angle of the point (x, y), y not below zero.
 fn upper_half(x: f64, size: f64, y: f64) -> u64
     requires { InQuarter size y }
-    ensures { result ≡ upperHalf x size y }
+    ensures { result ≡ upper_half x size y }
 {
     let first = first_quarter(size, y);
     if is_sign_negative(x) {
@@ -94,7 +94,7 @@ fn upper_half(x: f64, size: f64, y: f64) -> u64
 
 // Whether atan2 is promised for a point of these magnitudes.
 fn in_domain(width: f64, height: f64) -> bool
-    ensures { result ≡ inDomain width height }
+    ensures { result ≡ in_domain width height }
 {
     if width <= 1048576.0 {
         if height <= 1048576.0 {
@@ -133,7 +133,7 @@ fn cofunction(c: f64) -> f64
 
 // Whether c is a cosine: -1 ≤ c ≤ 1.
 fn in_unit(c: f64) -> bool
-    ensures { result ≡ inUnit c }
+    ensures { result ≡ in_unit c }
 {
     if -1.0 <= c {
         return c <= 1.0;

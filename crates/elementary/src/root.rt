@@ -4,7 +4,7 @@
 ghost use Rattle.std.specs.Prelude.{◌≡◌, ◌*◌, ◌^◌, ◌<◌, ◌≤◌, from_bits};
 ghost use Rattle.std.specs.Float.{binary64};
 ghost use Rattle.binary64.specs.Units.{mag};
-ghost use Rattle.elementary.specs.Root.{nearestRoot, root as rootOf, hypot as hypotOf};
+ghost use Rattle.elementary.specs.Root.{nearest_root, root as root_of, hypot as hypotOf};
 ghost use Rattle.elementary.specs.RootSteps.{Near, Balanced, Leading};
 
 // The bits of the positive infinity: those of the positive finite numbers lie below.
@@ -15,7 +15,7 @@ const FIRST_DIGIT: u64 = 0x10_0000_0000_0000;
 
 // The root of x; +0 where x is no number, infinite or below zero. The zeros are their own roots.
 pub fn root(x: f64) -> f64
-    ensures { result ≡ rootOf x }
+    ensures { result ≡ root_of x }
 {
     if 0.0 < x {
         let bits = f64::to_bits(x);
@@ -70,7 +70,7 @@ fn split(bits: u64) -> Parts
 // digits, of which the first adds that one.
 fn positive(bits: u64) -> f64
     requires { (0 < bits) × (bits < 2047 * 2 ^ 52) }
-    ensures { result ≡ rootOf (from_bits binary64 bits) }
+    ensures { result ≡ root_of (from_bits binary64 bits) }
 {
     let parts = split(bits);
     let lead = parts.lead;
@@ -106,7 +106,7 @@ fn guess(bits: u64) -> f64
 // settle it, digit by digit.
 fn nearest(m: u64, guess: f64) -> u64
     requires { (2 ^ 52 ≤ m) × (m < 2 ^ 54) }
-    ensures { result ≡ nearestRoot 53 (m * 2 ^ 52) }
+    ensures { result ≡ nearest_root 53 (m * 2 ^ 52) }
 {
     if 0.0 < guess {
         let digits = f64::to_bits(guess) % FIRST_DIGIT + FIRST_DIGIT;
@@ -123,7 +123,7 @@ fn nearest(m: u64, guess: f64) -> u64
 // `rest` what its square leaves.
 fn nearest_by_digits(m: u64) -> u64
     requires { (2 ^ 52 ≤ m) × (m < 2 ^ 54) }
-    ensures { result ≡ nearestRoot 53 (m * 2 ^ 52) }
+    ensures { result ≡ nearest_root 53 (m * 2 ^ 52) }
 {
     let mut digits = m << 10;
     let mut root: u64 = 0;

@@ -3,13 +3,13 @@
 // a definition (specs/Sine.antt, over the crate series), and what it is worth a theorem
 // (specs/SinePromise.antt).
 ghost use Rattle.std.specs.Prelude.{◌≡◌, ◌≤◌, true};
-ghost use Rattle.series.specs.Kernel.{quarter, firstCoefficient, coefficients};
+ghost use Rattle.series.specs.Kernel.{quarter, first_coefficient, coefficients};
 ghost use Rattle.series.specs.Kernel.{horner as hornerOf};
-ghost use Rattle.series.specs.Kernel.{quarterSine, reduced as reducedOf, halfTurned};
+ghost use Rattle.series.specs.Kernel.{quarter_sine, reduced as reducedOf, half_turned};
 ghost use Rattle.std.specs.Float.Ieee.{le};
 ghost use Rattle.binary64.specs.Functions.{absolute};
-ghost use Rattle.elementary.specs.Sine.{sine, cosine, fixedSine, sixteen};
-ghost use Rattle.elementary.specs.Sine.{angle as angleOf};
+ghost use Rattle.elementary.specs.Sine.{sine, cosine, fixed_sine, sixteen};
+ghost use Rattle.elementary.specs.Sine.{angle as angle_of};
 
 use crate::fixed::{mulhi, step};
 use binary64::abs;
@@ -19,7 +19,7 @@ const QUARTER: u64 = 905502432259640355;
 
 // The alternating polynomial of the recipe at z, by Horner's rule.
 fn horner(z: u64) -> u64
-    ensures { result ≡ hornerOf firstCoefficient coefficients z }
+    ensures { result ≡ hornerOf first_coefficient coefficients z }
 {
     let h9 = step(9938138, z, 94649);
     let h8 = step(849710816, z, h9);
@@ -36,7 +36,7 @@ fn horner(z: u64) -> u64
 // The sine of an angle of the first quarter turn, at most 1.
 fn quarter_sine(n: u64) -> u64
     requires { n ≤ quarter }
-    ensures { result ≡ quarterSine n }
+    ensures { result ≡ quarter_sine n }
 {
     let m = 16 * n;
     let s = mulhi(m, horner(mulhi(m, m)));
@@ -61,14 +61,14 @@ fn reduced(w: u64) -> u64
 
 // Whether the sine of w is negative.
 fn half_turned(w: u64) -> bool
-    ensures { result ≡ halfTurned w }
+    ensures { result ≡ half_turned w }
 {
     w / QUARTER / 2 % 2 == 1
 }
 
 // The sine of w, or of -w, as a float.
 fn fixed_sine(negative: bool, w: u64) -> f64
-    ensures { result ≡ fixedSine negative w }
+    ensures { result ≡ fixed_sine negative w }
 {
     let size = std::num::nearest_u64_to_f64(quarter_sine(reduced(w))) * 4.336808689942018e-19;
     if negative != half_turned(w) {
@@ -88,7 +88,7 @@ fn inside(v: f64) -> bool
 // |v| in units of 2^-59, cut.
 fn angle(v: f64) -> u64
     requires { le (absolute v) sixteen ≡ true }
-    ensures { (result ≡ angleOf v) × (result ≤ 9223372036854775808) }
+    ensures { (result ≡ angle_of v) × (result ≤ 9223372036854775808) }
 {
     std::num::truncating_f64_to_u64(abs(v) * 576460752303423488.0)
 }

@@ -12,15 +12,15 @@ use Rattle.binary64.specs.Constants.{zero64}
 use Rattle.binary64.specs.Units.{pow2, one, Finite, mag, negative, plus, minus}
 use Rattle.binary64.specs.Rounding.{rnd, Near}
 use Rattle.binary64.specs.Magnitude.{Most}
-use Rattle.binary64.proofs.Naturals.{lt-or-ge}
-use Rattle.binary64.proofs.Units.{one-pos, pow2-pos, pow2-split, plus-minus, plus-is, minus_is, plus-sign, zero64-plus, zero64-minus}
-use Rattle.binary64.proofs.Rounding.{rnd-mono, rnd-relative, plus-ge, minus-ge}
-use Rattle.binary64.proofs.Operations.{sub-result, result-rounded, mul-mag, mul-sign, div-sign}
-use Rattle.binary64.proofs.Magnitude.{bound-digits, add_most, sub-most}
-use Rattle.binary64.proofs.Error.{add-near}
-use Rattle.exact.proofs.Distance.{margin, Is, whole_is, is-mag}
+use Rattle.binary64.proofs.Naturals.{lt_or_ge}
+use Rattle.binary64.proofs.Units.{one_pos, pow2_pos, pow2_split, plus_minus, plus_is, minus_is, plus_sign, zero64_plus, zero64_minus}
+use Rattle.binary64.proofs.Rounding.{rnd_mono, rnd_relative, plus_ge, minus_ge}
+use Rattle.binary64.proofs.Operations.{sub_result, result_rounded, mul_mag, mul_sign, div_sign}
+use Rattle.binary64.proofs.Magnitude.{bound_digits, add_most, sub_most}
+use Rattle.binary64.proofs.Error.{add_near}
+use Rattle.exact.proofs.Distance.{margin, Is, whole_is, is_mag}
 use Rattle.exact.proofs.Steps.{float}
-use Rattle.exact.proofs.Coordinates.{product-most, quotient-most, product-least, quotient-least, part-most, Leg, way-most, offset-most}
+use Rattle.exact.proofs.Coordinates.{product_most, quotient_most, product_least, quotient_least, part_most, Leg, way_most, offset_most}
 
 -- ---- along one axis
 
@@ -30,38 +30,38 @@ module _ {x w ρ T c : Float} (X : Most 20000 1074 x) (W : Most 20000 1074 w) (R
   abbrev foot : Float
   foot = add binary64 x w
 
-  foot-most : Most 40000 1074 foot
-  foot-most = add_most X W (omega arith) (omega arith)
+  foot_most : Most 40000 1074 foot
+  foot_most = add_most X W (omega arith) (omega arith)
 
   abbrev z : Float
   z = add binary64 foot ρ
 
-  z-most : Most 80000 1074 z
-  z-most = add_most foot-most R (omega arith) (omega arith)
+  z_most : Most 80000 1074 z
+  z_most = add_most foot_most R (omega arith) (omega arith)
 
-  difference-finite : Finite (sub binary64 z c)
-  difference-finite = (sub-most z-most C (omega arith) (omega arith)).finite
+  difference_finite : Finite (sub binary64 z c)
+  difference_finite = (sub_most z_most C (omega arith) (omega arith)).finite
 
   A : Near foot (plus x + plus w) (minus x + minus w) 1 margin
-  A = add-near X W foot-most.finite 17 1037 (omega arith) refl
+  A = add_near X W foot_most.finite 17 1037 (omega arith) refl
 
   B : Near z (plus foot + plus ρ) (minus foot + minus ρ) 1 margin
-  B = add-near foot-most R z-most.finite 17 1037 (omega arith) refl
+  B = add_near foot_most R z_most.finite 17 1037 (omega arith) refl
 
   -- where w - T + ρ is at least 2 ^ -35 in size, the point is not at c
-  pub above-centre : plus T + minus w + minus ρ + 4 * margin ≤ plus w + minus T + plus ρ → 0 < mag (sub binary64 z c)
-  above-centre h =
+  pub above_centre : plus T + minus w + minus ρ + 4 * margin ≤ plus w + minus T + plus ρ → 0 < mag (sub binary64 z c)
+  above_centre h =
       let least : 1 * margin ≤ plus (sub binary64 z c) =
-      plus-ge (le_refl 1) (result-rounded (le_refl 1) (sub-result z-most.finite C.finite) difference-finite)
-      (bound-digits 1037 (omega arith)) (omega (arith, A, B, near)) in
-      omega (arith, plus-minus (sub binary64 z c), pow2-pos 1037)
+      plus_ge (le_refl 1) (result_rounded (le_refl 1) (sub_result z_most.finite C.finite) difference_finite)
+      (bound_digits 1037 (omega arith)) (omega (arith, A, B, near)) in
+      omega (arith, plus_minus (sub binary64 z c), pow2_pos 1037)
 
-  pub below-centre : plus w + minus T + plus ρ + 4 * margin ≤ plus T + minus w + minus ρ → 0 < mag (sub binary64 z c)
-  below-centre h =
+  pub below_centre : plus w + minus T + plus ρ + 4 * margin ≤ plus T + minus w + minus ρ → 0 < mag (sub binary64 z c)
+  below_centre h =
       let least : 1 * margin ≤ minus (sub binary64 z c) =
-      minus-ge (le_refl 1) (result-rounded (le_refl 1) (sub-result z-most.finite C.finite) difference-finite)
-      (bound-digits 1037 (omega arith)) (omega (arith, A, B, near)) in
-      omega (arith, plus-minus (sub binary64 z c), pow2-pos 1037)
+      minus_ge (le_refl 1) (result_rounded (le_refl 1) (sub_result z_most.finite C.finite) difference_finite)
+      (bound_digits 1037 (omega arith)) (omega (arith, A, B, near)) in
+      omega (arith, plus_minus (sub binary64 z c), pow2_pos 1037)
 
 -- w lies above T, or below it, give or take 2 ^ -37
 abbrev pub SideIs : Bool → Float → Float → Type 0
@@ -69,15 +69,15 @@ SideIs false w T = plus T + minus w ≤ plus w + minus T + margin
 SideIs true w T = plus w + minus T ≤ plus T + minus w + margin
 
 -- On the side to which ρ points, the point is not at c.
-pub off-axis : {x w ρ T c : Float} → Most 20000 1074 x → Most 20000 1074 w → Most 40000 1074 ρ → Most 20000 1074 c
+pub off_axis : {x w ρ T c : Float} → Most 20000 1074 x → Most 20000 1074 w → Most 40000 1074 ρ → Most 20000 1074 c
     → Near T (plus c + minus x) (minus c + plus x) 1 margin → (s : Bool) → SideIs s w T → negative ρ ≡ s → 1 * pow2 1041 ≤ mag ρ
     → 0 < mag (sub binary64 (add binary64 (add binary64 x w) ρ) c)
-off-axis {ρ = ρ} X W R C near false side e l =
-    let u = plus-is ρ e in
-    above-centre X W R C near (omega (arith, side, u, rw (pow2-split 4 1037) at l))
-off-axis {ρ = ρ} X W R C near true side e l =
+off_axis {ρ = ρ} X W R C near false side e l =
+    let u = plus_is ρ e in
+    above_centre X W R C near (omega (arith, side, u, rw (pow2_split 4 1037) at l))
+off_axis {ρ = ρ} X W R C near true side e l =
     let u = minus_is ρ e in
-    below-centre X W R C near (omega (arith, side, u, rw (pow2-split 4 1037) at l))
+    below_centre X W R C near (omega (arith, side, u, rw (pow2_split 4 1037) at l))
 
 -- ---- the way to the foot, f * Δ / d, against Δ
 
@@ -88,61 +88,61 @@ no_more p a m n b h e k = omega (arith, mul-le-mul_right (a * n) h)
 no_less : (p a m n b w : ℕ) → m ≤ 2 ^ 16 → w + 1 ≡ m * 2 ^ 37 → b ≡ a * (m * (2 ^ 37 * n)) → 2 ^ 53 * b ≤ 2 ^ 53 * p + b → w * n * a ≤ p
 no_less p a m n b w h e g k = omega (arith, mul-le-mul_right (a * n) h, ap (λ (i : ℕ). i * (a * n)) e)
 
-unlike-plain : (b : Bool) → unlike b false ≡ b
-unlike-plain true = refl
-unlike-plain false = refl
+unlike_plain : (b : Bool) → unlike b false ≡ b
+unlike_plain true = refl
+unlike_plain false = refl
 
 module _ {Δ d f : Float} {m : ℕ} (leg : Leg Δ d m) (D : Finite d) (far : one ≤ mag d) (ahead : negative d ≡ false)
     {r : ℕ} (L : r ≤ 20000) (F : Most r 1074 f) where
   abbrev w : Float
   w = div binary64 (mul binary64 f Δ) d
 
-  d-pos : 0 < mag d
-  d-pos = lt_of_lt_of_le one-pos far
+  d_pos : 0 < mag d
+  d_pos = lt_of_lt_of_le one_pos far
 
-  product-finite : Finite (mul binary64 f Δ)
-  product-finite =
-      (product-most F.finite leg.finite {j = r * m} {a = 1074} (omega (arith, mul-le-mul L leg.small)) (omega arith)
+  product_finite : Finite (mul binary64 f Δ)
+  product_finite =
+      (product_most F.finite leg.finite {j = r * m} {a = 1074} (omega (arith, mul-le-mul L leg.small)) (omega arith)
       (le_trans (mul-le-mul F.bound (le_of_eq leg.size)) (omega arith))).finite
 
-  w-finite : Finite w
-  w-finite = (way-most leg D far L F).finite
+  w_finite : Finite w
+  w_finite = (way_most leg D far L F).finite
 
   -- it points as f * Δ does
-  pub way-sign : negative w ≡ unlike (negative f) (negative Δ)
-  way-sign =
-      div-sign product-finite D d-pos w-finite
-      ∙ ap₂ unlike (mul-sign F.finite leg.finite product-finite) ahead
-      ∙ unlike-plain (unlike (negative f) (negative Δ))
+  pub way_sign : negative w ≡ unlike (negative f) (negative Δ)
+  way_sign =
+      div_sign product_finite D d_pos w_finite
+      ∙ ap₂ unlike (mul_sign F.finite leg.finite product_finite) ahead
+      ∙ unlike_plain (unlike (negative f) (negative Δ))
 
   -- f * Δ beside d * Δ
   abbrev whole : ℕ
   whole = mag d * mag Δ
 
   whole_parts : whole ≡ mag d * (m * (2 ^ 37 * margin))
-  whole_parts = ap (λ (k : ℕ). mag d * k) (leg.size ∙ ap (λ (k : ℕ). m * k) (pow2-split 37 1037))
+  whole_parts = ap (λ (k : ℕ). mag d * k) (leg.size ∙ ap (λ (k : ℕ). m * k) (pow2_split 37 1037))
 
-  whole-large : 0 < m → 2 ^ 52 * one ≤ whole
-  whole-large h =
-      let digits : 2 ^ 52 ≤ one = le_trans (omega (arith, pow2-pos 1022)) (le_of_eq (sym (pow2-split 52 1022))) in
-      let leg-large : one ≤ mag Δ = le_trans (omega (arith, mul-le-mul_right one h)) (le_of_eq (sym leg.size)) in
-      mul-le-mul (le_trans digits far) leg-large
+  whole_large : 0 < m → 2 ^ 52 * one ≤ whole
+  whole_large h =
+      let digits : 2 ^ 52 ≤ one = le_trans (omega (arith, pow2_pos 1022)) (le_of_eq (sym (pow2_split 52 1022))) in
+      let leg_large : one ≤ mag Δ = le_trans (omega (arith, mul-le-mul_right one h)) (le_of_eq (sym leg.size)) in
+      mul-le-mul (le_trans digits far) leg_large
 
   relative : 0 < m → (2 ^ 53 * (rnd whole one * one) ≤ 2 ^ 53 * whole + whole) × (2 ^ 53 * whole ≤ 2 ^ 53 * (rnd whole one * one) + whole)
-  relative h = rnd-relative whole one one-pos (whole-large h)
+  relative h = rnd_relative whole one one_pos (whole_large h)
 
   product_is : mag (mul binary64 f Δ) ≡ rnd (mag f * mag Δ) one
-  product_is = mul-mag F.finite leg.finite product-finite
+  product_is = mul_mag F.finite leg.finite product_finite
 
   -- where |f| is at most d, it is at most |Δ|, give or take 2 ^ -37
-  way-short : 0 < m → mag f ≤ mag d → mag w ≤ mag Δ + margin
-  way-short h k =
-      let mono = rnd-mono (mag f * mag Δ) one whole one one-pos one-pos (mul-le-mul_right one (mul-le-mul_right (mag Δ) k)) in
+  way_short : 0 < m → mag f ≤ mag d → mag w ≤ mag Δ + margin
+  way_short h k =
+      let mono = rnd_mono (mag f * mag Δ) one whole one one_pos one_pos (mul-le-mul_right one (mul-le-mul_right (mag Δ) k)) in
       let p : 2 ^ 53 * (mag (mul binary64 f Δ) * one) ≤ 2 ^ 53 * whole + whole =
       omega (arith, relative h, mul-le-mul_right one (le_trans (le_of_eq product_is) mono)) in
-      let q = quotient-most product-finite D {j = m * 2 ^ 37 + 1} {a = 1037} (omega (arith, leg.small)) (omega arith) d-pos
+      let q = quotient_most product_finite D {j = m * 2 ^ 37 + 1} {a = 1037} (omega (arith, leg.small)) (omega arith) d_pos
       (no_more (mag (mul binary64 f Δ) * one) (mag d) m margin whole (omega (arith, leg.small)) whole_parts p) in
-      omega (arith, q.bound, leg.size, ap (λ (i : ℕ). m * i) (pow2-split 37 1037))
+      omega (arith, q.bound, leg.size, ap (λ (i : ℕ). m * i) (pow2_split 37 1037))
 
   -- where it is at least d, at least |Δ|
   way_long : 0 < m → mag d ≤ mag f → mag Δ ≤ mag w + margin
@@ -150,69 +150,69 @@ module _ {Δ d f : Float} {m : ℕ} (leg : Leg Δ d m) (D : Finite d) (far : one
     where
       go : (v : ℕ) → v + 1 ≡ m * 2 ^ 37 → mag Δ ≤ mag w + margin
       go v e =
-          let mono = rnd-mono whole one (mag f * mag Δ) one one-pos one-pos (mul-le-mul_right one (mul-le-mul_right (mag Δ) k)) in
+          let mono = rnd_mono whole one (mag f * mag Δ) one one_pos one_pos (mul-le-mul_right one (mul-le-mul_right (mag Δ) k)) in
           let p : 2 ^ 53 * whole ≤ 2 ^ 53 * (mag (mul binary64 f Δ) * one) + whole =
           omega (arith, relative h, mul-le-mul_right one (le_trans mono (le_of_eq (sym product_is)))) in
-          let q = quotient-least product-finite D 1037 (omega (arith, leg.small)) d-pos w-finite
+          let q = quotient_least product_finite D 1037 (omega (arith, leg.small)) d_pos w_finite
           (no_less (mag (mul binary64 f Δ) * one) (mag d) m margin whole v (omega (arith, leg.small)) e whole_parts p) in
-          omega (arith, q, leg.size, ap (λ (i : ℕ). m * i) (pow2-split 37 1037), ap (λ (i : ℕ). i * margin) e)
+          omega (arith, q, leg.size, ap (λ (i : ℕ). m * i) (pow2_split 37 1037), ap (λ (i : ℕ). i * margin) e)
 
   -- seen from the second centre it points as Δ does where f is at least d, and against it otherwise; from the first as f says
   pub from_second : 0 < m → (g : Bool) → (g ≡ false → mag d ≤ plus f) → (g ≡ true → plus f ≤ mag d) → SideIs (unlike g (negative Δ)) w Δ
   from_second h false long short =
       let l = long refl in
-      let s = way-sign ∙ ap (λ (b : Bool). unlike b (negative Δ)) (plus-sign f (lt_of_lt_of_le d-pos l)) in
-      let k = way_long h (omega (arith, plus-minus f)) in
+      let s = way_sign ∙ ap (λ (b : Bool). unlike b (negative Δ)) (plus_sign f (lt_of_lt_of_le d_pos l)) in
+      let k = way_long h (omega (arith, plus_minus f)) in
       by (negative Δ) refl s k
     where
       by : (b : Bool) → negative Δ ≡ b → negative w ≡ unlike false (negative Δ) → mag Δ ≤ mag w + margin → SideIs (unlike false (negative Δ)) w Δ
-      by false e s k = rw e (let u = plus-is Δ e in let v = plus-is w (s ∙ ap (unlike false) e) in omega (arith, u, v, k))
+      by false e s k = rw e (let u = plus_is Δ e in let v = plus_is w (s ∙ ap (unlike false) e) in omega (arith, u, v, k))
       by true e s k = rw e (let u = minus_is Δ e in let v = minus_is w (s ∙ ap (unlike false) e) in omega (arith, u, v, k))
   from_second h true long short = by (negative f) (negative Δ) refl refl
     where
       by : (a b : Bool) → negative f ≡ a → negative Δ ≡ b → SideIs (unlike true (negative Δ)) w Δ
       by false false i e =
-          rw e (let u = plus-is Δ e in let v = plus-is w (way-sign ∙ ap₂ unlike i e) in
-          omega (arith, u, v, way-short h (omega (arith, plus-is f i, short refl))))
+          rw e (let u = plus_is Δ e in let v = plus_is w (way_sign ∙ ap₂ unlike i e) in
+          omega (arith, u, v, way_short h (omega (arith, plus_is f i, short refl))))
       by false true i e =
-          rw e (let u = minus_is Δ e in let v = minus_is w (way-sign ∙ ap₂ unlike i e) in
-          omega (arith, u, v, way-short h (omega (arith, plus-is f i, short refl))))
-      by true false i e = rw e (let u = plus-is Δ e in let v = minus_is w (way-sign ∙ ap₂ unlike i e) in omega (arith, u, v))
-      by true true i e = rw e (let u = minus_is Δ e in let v = plus-is w (way-sign ∙ ap₂ unlike i e) in omega (arith, u, v))
+          rw e (let u = minus_is Δ e in let v = minus_is w (way_sign ∙ ap₂ unlike i e) in
+          omega (arith, u, v, way_short h (omega (arith, plus_is f i, short refl))))
+      by true false i e = rw e (let u = plus_is Δ e in let v = minus_is w (way_sign ∙ ap₂ unlike i e) in omega (arith, u, v))
+      by true true i e = rw e (let u = minus_is Δ e in let v = plus_is w (way_sign ∙ ap₂ unlike i e) in omega (arith, u, v))
 
   -- without a leg there is no way
-  way-none : m ≤ 0 → (plus w ≡ 0) × (minus w ≡ 0)
-  way-none h =
+  way_none : m ≤ 0 → (plus w ≡ 0) × (minus w ≡ 0)
+  way_none h =
       let nothing : mag Δ ≤ 0 = omega (arith, leg.size, mul-le-mul_right one h) in
-      let p = product-most F.finite leg.finite {j = 0} {a = 1074} (omega arith) (omega arith) (omega (arith, mul-le-mul_left (mag f) nothing)) in
-      let q = quotient-most product-finite D {j = 0} {a = 1074} (omega arith) (omega arith) d-pos (omega (arith, mul-le-mul_right one p.bound)) in
-      omega (arith, plus-minus w, q.bound)
+      let p = product_most F.finite leg.finite {j = 0} {a = 1074} (omega arith) (omega arith) (omega (arith, mul-le-mul_left (mag f) nothing)) in
+      let q = quotient_most product_finite D {j = 0} {a = 1074} (omega arith) (omega arith) d_pos (omega (arith, mul-le-mul_right one p.bound)) in
+      omega (arith, plus_minus w, q.bound)
 
   pub from_first : SideIs (unlike (negative f) (negative Δ)) w zero64
-  from_first = rw (← way-sign) (by (negative w) refl)
+  from_first = rw (← way_sign) (by (negative w) refl)
     where
       by : (b : Bool) → negative w ≡ b → SideIs b w zero64
-      by false e = let v = plus-is w e in omega (arith, v, zero64-plus, zero64-minus)
-      by true e = let v = minus_is w e in omega (arith, v, zero64-plus, zero64-minus)
+      by false e = let v = plus_is w e in omega (arith, v, zero64_plus, zero64_minus)
+      by true e = let v = minus_is w e in omega (arith, v, zero64_plus, zero64_minus)
 
   -- on which side of 0, and of Δ, it lies; where Δ is 0, on both
-  pub side-of-first : (s : Bool) → (0 < m → s ≡ unlike (negative f) (negative Δ)) → SideIs s w zero64
-  side-of-first s h = go (lt-or-ge 0 m)
+  pub side_of_first : (s : Bool) → (0 < m → s ≡ unlike (negative f) (negative Δ)) → SideIs s w zero64
+  side_of_first s h = go (lt_or_ge 0 m)
     where
       both : (s : Bool) → m ≤ 0 → SideIs s w zero64
-      both false k = omega (arith, way-none k, zero64-plus, zero64-minus)
-      both true k = omega (arith, way-none k, zero64-plus, zero64-minus)
+      both false k = omega (arith, way_none k, zero64_plus, zero64_minus)
+      both true k = omega (arith, way_none k, zero64_plus, zero64_minus)
 
       go : (0 < m) ⊎ (m ≤ 0) → SideIs s w zero64
       go (inl k) = rw (h k) from_first
       go (inr k) = both s k
 
-  pub side-of-second : (g : Bool) → (g ≡ false → mag d ≤ plus f) → (g ≡ true → plus f ≤ mag d) → (s : Bool) → (0 < m → s ≡ unlike g (negative Δ)) → SideIs s w Δ
-  side-of-second g long short s h = go (lt-or-ge 0 m)
+  pub side_of_second : (g : Bool) → (g ≡ false → mag d ≤ plus f) → (g ≡ true → plus f ≤ mag d) → (s : Bool) → (0 < m → s ≡ unlike g (negative Δ)) → SideIs s w Δ
+  side_of_second g long short s h = go (lt_or_ge 0 m)
     where
       both : (s : Bool) → m ≤ 0 → SideIs s w Δ
-      both false k = let nothing : mag Δ ≤ 0 = omega (arith, leg.size, mul-le-mul_right one k) in omega (arith, way-none k, plus-minus Δ)
-      both true k = let nothing : mag Δ ≤ 0 = omega (arith, leg.size, mul-le-mul_right one k) in omega (arith, way-none k, plus-minus Δ)
+      both false k = let nothing : mag Δ ≤ 0 = omega (arith, leg.size, mul-le-mul_right one k) in omega (arith, way_none k, plus_minus Δ)
+      both true k = let nothing : mag Δ ≤ 0 = omega (arith, leg.size, mul-le-mul_right one k) in omega (arith, way_none k, plus_minus Δ)
 
       go : (0 < m) ⊎ (m ≤ 0) → SideIs s w Δ
       go (inl k) = rw (h k) (from_second k g long short)
@@ -221,23 +221,23 @@ module _ {Δ d f : Float} {m : ℕ} (leg : Leg Δ d m) (D : Finite d) (far : one
 -- ---- both axes
 
 -- w points the same way as ρ along one axis: ρ is across, so it points against Δy along x and as Δx along y, or the other way round
-pub one-agrees : (g nx ny e : Bool) → (unlike e (not ny) ≡ unlike g nx) ⊎ (unlike e nx ≡ unlike g ny)
-one-agrees false false false false = inr refl
-one-agrees false false false true = inl refl
-one-agrees false false true false = inl refl
-one-agrees false false true true = inr refl
-one-agrees false true false false = inl refl
-one-agrees false true false true = inr refl
-one-agrees false true true false = inr refl
-one-agrees false true true true = inl refl
-one-agrees true false false false = inl refl
-one-agrees true false false true = inr refl
-one-agrees true false true false = inr refl
-one-agrees true false true true = inl refl
-one-agrees true true false false = inr refl
-one-agrees true true false true = inl refl
-one-agrees true true true false = inl refl
-one-agrees true true true true = inr refl
+pub one_agrees : (g nx ny e : Bool) → (unlike e (not ny) ≡ unlike g nx) ⊎ (unlike e nx ≡ unlike g ny)
+one_agrees false false false false = inr refl
+one_agrees false false false true = inl refl
+one_agrees false false true false = inl refl
+one_agrees false false true true = inr refl
+one_agrees false true false false = inl refl
+one_agrees false true false true = inr refl
+one_agrees false true true false = inr refl
+one_agrees false true true true = inl refl
+one_agrees true false false false = inl refl
+one_agrees true false false true = inr refl
+one_agrees true false true false = inr refl
+one_agrees true false true true = inl refl
+one_agrees true true false false = inr refl
+one_agrees true true false true = inl refl
+one_agrees true true true false = inl refl
+one_agrees true true true true = inr refl
 
 -- what is known along one axis
 pub record Axis (x w ρ T c : Float) : Type 0 where
@@ -248,17 +248,17 @@ pub record Axis (x w ρ T c : Float) : Type 0 where
   pub near : Near T (plus c + minus x) (minus c + plus x) 1 margin
 
 -- The point x + wx + ρx, y + wy + ρy is not at cx, cy.
-pub off-both : {x y wx wy ρx ρy Tx Ty cx cy : Float} → Axis x wx ρx Tx cx → Axis y wy ρy Ty cy → (mx my : ℕ) → (0 < mx) ⊎ (0 < my) → (g nx ny e : Bool)
+pub off_both : {x y wx wy ρx ρy Tx Ty cx cy : Float} → Axis x wx ρx Tx cx → Axis y wy ρy Ty cy → (mx my : ℕ) → (0 < mx) ⊎ (0 < my) → (g nx ny e : Bool)
     → negative ρx ≡ unlike e (not ny) → negative ρy ≡ unlike e nx → (0 < my → 1 * pow2 1041 ≤ mag ρx) → (0 < mx → 1 * pow2 1041 ≤ mag ρy)
     → ((s : Bool) → (0 < mx → s ≡ unlike g nx) → SideIs s wx Tx) → ((s : Bool) → (0 < my → s ≡ unlike g ny) → SideIs s wy Ty)
     → (0 < mag (sub binary64 (add binary64 (add binary64 x wx) ρx) cx)) ⊎ (0 < mag (sub binary64 (add binary64 (add binary64 y wy) ρy) cy))
-off-both {x} {y} {wx} {wy} {ρx} {ρy} {Tx} {Ty} {cx} {cy} ax ay mx my some g nx ny e ex ey lx ly sx sy = go (lt-or-ge 0 mx) (lt-or-ge 0 my)
+off_both {x} {y} {wx} {wy} {ρx} {ρy} {Tx} {Ty} {cx} {cy} ax ay mx my some g nx ny e ex ey lx ly sx sy = go (lt_or_ge 0 mx) (lt_or_ge 0 my)
   where
     at_x : (s : Bool) → SideIs s wx Tx → negative ρx ≡ s → 1 * pow2 1041 ≤ mag ρx → 0 < mag (sub binary64 (add binary64 (add binary64 x wx) ρx) cx)
-    at_x = off-axis ax.start ax.way ax.offset ax.centre ax.near
+    at_x = off_axis ax.start ax.way ax.offset ax.centre ax.near
 
     at_y : (s : Bool) → SideIs s wy Ty → negative ρy ≡ s → 1 * pow2 1041 ≤ mag ρy → 0 < mag (sub binary64 (add binary64 (add binary64 y wy) ρy) cy)
-    at_y = off-axis ay.start ay.way ay.offset ay.centre ay.near
+    at_y = off_axis ay.start ay.way ay.offset ay.centre ay.near
 
     neither : mx ≤ 0 → my ≤ 0 → (0 < mx) ⊎ (0 < my) → ⊥
     neither h k (inl l) = omega arith
@@ -269,7 +269,7 @@ off-both {x} {y} {wx} {wy} {ρx} {ρy} {Tx} {Ty} {cx} {cy} ax ay mx my some g nx
     go (inr h) (inr k) = absurd (neither h k some)
     go (inr h) (inl k) = inl (at_x (unlike e (not ny)) (sx (unlike e (not ny)) (λ l. absurd (omega arith))) ex (lx k))
     go (inl h) (inr k) = inr (at_y (unlike e nx) (sy (unlike e nx) (λ l. absurd (omega arith))) ey (ly h))
-    go (inl h) (inl k) = agree (one-agrees g nx ny e)
+    go (inl h) (inl k) = agree (one_agrees g nx ny e)
       where
         agree : (unlike e (not ny) ≡ unlike g nx) ⊎ (unlike e nx ≡ unlike g ny)
             → (0 < mag (sub binary64 (add binary64 (add binary64 x wx) ρx) cx)) ⊎ (0 < mag (sub binary64 (add binary64 (add binary64 y wy) ρy) cy))
@@ -281,17 +281,17 @@ off-both {x} {y} {wx} {wy} {ρx} {ρy} {Tx} {Ty} {cx} {cy} ax ay mx my some g nx
 -- what is across over d has no sign, so the offsets point as -Δy and as Δx do
 module _ {Δ d h : Float} {m : ℕ} (leg : Leg Δ d m) (D : Finite d) (far : one ≤ mag d) (ahead : negative d ≡ false) {r : ℕ} (L : r ≤ 20000) (H : Most r 1074 h)
     (plain : negative h ≡ false) (over : mag d ≤ mag h * one) where
-  pub offset-sign : negative (mul binary64 Δ (div binary64 h d)) ≡ negative Δ
-  offset-sign =
-      let q = part-most D far L H in
-      mul-sign leg.finite q.finite (offset-most leg D far L H over).finite
-      ∙ ap (unlike (negative Δ)) (div-sign H.finite D (lt_of_lt_of_le one-pos far) q.finite ∙ ap₂ unlike plain ahead)
-      ∙ unlike-plain (negative Δ)
+  pub offset_sign : negative (mul binary64 Δ (div binary64 h d)) ≡ negative Δ
+  offset_sign =
+      let q = part_most D far L H in
+      mul_sign leg.finite q.finite (offset_most leg D far L H over).finite
+      ∙ ap (unlike (negative Δ)) (div_sign H.finite D (lt_of_lt_of_le one_pos far) q.finite ∙ ap₂ unlike plain ahead)
+      ∙ unlike_plain (negative Δ)
 
 -- a sign as it is, and turned
-pub as-it-is : (b : Bool) → b ≡ unlike false b
-as-it-is true = refl
-as-it-is false = refl
+pub as_it_is : (b : Bool) → b ≡ unlike false b
+as_it_is true = refl
+as_it_is false = refl
 
 pub turned : (b : Bool) → not b ≡ unlike true b
 turned true = refl
@@ -304,14 +304,14 @@ module _ {Δ f : Float} {m n : ℕ} (leg : Leg Δ (float n) m) (some : 0 < m) (N
   abbrev d : Float
   d = float n
 
-  d-is : Is d n
-  d-is = whole_is n (omega arith)
+  d_is : Is d n
+  d_is = whole_is n (omega arith)
 
-  d-far : one ≤ mag d
-  d-far = le_trans (omega (arith, mul-le-mul_right one N)) (le_of_eq (sym (is-mag d-is)))
+  d_far : one ≤ mag d
+  d_far = le_trans (omega (arith, mul-le-mul_right one N)) (le_of_eq (sym (is_mag d_is)))
 
-  d-ahead : negative d ≡ false
-  d-ahead = plus-sign d (omega (arith, d-is.up, mul-le-mul_right one N, one-pos))
+  d_ahead : negative d ≡ false
+  d_ahead = plus_sign d (omega (arith, d_is.up, mul-le-mul_right one N, one_pos))
 
   -- r₁ m, which is whole
   product : mag f * mag Δ ≡ r * m * one * one
@@ -320,95 +320,95 @@ module _ {Δ f : Float} {m n : ℕ} (leg : Leg Δ (float n) m) (some : 0 < m) (N
   few : r * m ≤ 2 ^ 53
   few = omega (arith, mul-le-mul L leg.small)
 
-  touch-product : Most (r * m) 1074 (mul binary64 f Δ)
-  touch-product = product-most F.finite leg.finite few (omega arith) (le_of_eq product)
+  touch_product : Most (r * m) 1074 (mul binary64 f Δ)
+  touch_product = product_most F.finite leg.finite few (omega arith) (le_of_eq product)
 
-  touch-product-least : r * m * one ≤ mag (mul binary64 f Δ)
-  touch-product-least = product-least F.finite leg.finite 1074 few touch-product.finite (le_of_eq (sym product))
+  touch_product_least : r * m * one ≤ mag (mul binary64 f Δ)
+  touch_product_least = product_least F.finite leg.finite 1074 few touch_product.finite (le_of_eq (sym product))
 
-  abbrev touch-way : Float
-  touch-way = div binary64 (mul binary64 f Δ) d
+  abbrev touch_way : Float
+  touch_way = div binary64 (mul binary64 f Δ) d
 
-  touch-finite : Finite touch-way
-  touch-finite = (way-most leg d-is.finite d-far L F).finite
+  touch_finite : Finite touch_way
+  touch_finite = (way_most leg d_is.finite d_far L F).finite
 
   -- over n: at least 2 ^ -17,
-  touch-least : 1 * pow2 1057 ≤ mag touch-way
-  touch-least =
-      quotient-least touch-product.finite d-is.finite 1057 (omega arith) (lt_of_lt_of_le one-pos d-far) touch-finite
-      (rw (is-mag d-is) (le_trans (scaled n M) (mul-le-mul_right one touch-product-least)))
+  touch_least : 1 * pow2 1057 ≤ mag touch_way
+  touch_least =
+      quotient_least touch_product.finite d_is.finite 1057 (omega arith) (lt_of_lt_of_le one_pos d_far) touch_finite
+      (rw (is_mag d_is) (le_trans (scaled n M) (mul-le-mul_right one touch_product_least)))
     where
       scaled : (n : ℕ) → n ≤ 40000 → 1 * pow2 1057 * (n * one) ≤ r * m * one * one
       scaled n h =
           let whole : 1 ≤ r * m = mul-le-mul P some in
-          let digits : n * pow2 1057 ≤ one = le_trans (mul-le-mul_right (pow2 1057) (omega (arith, h))) (le_of_eq (sym (pow2-split 17 1057))) in
+          let digits : n * pow2 1057 ≤ one = le_trans (mul-le-mul_right (pow2 1057) (omega (arith, h))) (le_of_eq (sym (pow2_split 17 1057))) in
           omega (arith, mul-le-mul_right one digits, mul-le-mul_right (one * one) whole)
 
   -- less than |Δ| by as much where r₁ < n, and more where n < r₁
-  touch-short : r < n → mag touch-way + pow2 1057 ≤ mag Δ
-  touch-short h = go (m * 2 ^ 17 - 1) (omega arith)
+  touch_short : r < n → mag touch_way + pow2 1057 ≤ mag Δ
+  touch_short h = go (m * 2 ^ 17 - 1) (omega arith)
     where
-      go : (v : ℕ) → v + 1 ≡ m * 2 ^ 17 → mag touch-way + pow2 1057 ≤ mag Δ
+      go : (v : ℕ) → v + 1 ≡ m * 2 ^ 17 → mag touch_way + pow2 1057 ≤ mag Δ
       go v e =
           let room : r * m * 2 ^ 17 ≤ v * n = omega (arith, mul-le-mul_left (m * 2 ^ 17) h, ap (λ (i : ℕ). i * n) e, mul-le-mul_right n some) in
-          let q = quotient-most touch-product.finite d-is.finite {j = v} {a = 1057} (omega (arith, leg.small)) (omega arith)
-          (lt_of_lt_of_le one-pos d-far)
-          (rw (is-mag d-is) (le_trans (mul-le-mul_right one touch-product.bound) (scaled v room))) in
-          omega (arith, q.bound, leg.size, ap (λ (i : ℕ). m * i) (pow2-split 17 1057), ap (λ (i : ℕ). i * pow2 1057) e)
+          let q = quotient_most touch_product.finite d_is.finite {j = v} {a = 1057} (omega (arith, leg.small)) (omega arith)
+          (lt_of_lt_of_le one_pos d_far)
+          (rw (is_mag d_is) (le_trans (mul-le-mul_right one touch_product.bound) (scaled v room))) in
+          omega (arith, q.bound, leg.size, ap (λ (i : ℕ). m * i) (pow2_split 17 1057), ap (λ (i : ℕ). i * pow2 1057) e)
         where
           scaled : (v : ℕ) → r * m * 2 ^ 17 ≤ v * n → r * m * one * one ≤ v * pow2 1057 * (n * one)
-          scaled v h = rw (pow2-split 17 1057) (omega (arith, mul-le-mul_right (pow2 1057 * (2 ^ 17 * pow2 1057)) h))
+          scaled v h = rw (pow2_split 17 1057) (omega (arith, mul-le-mul_right (pow2 1057 * (2 ^ 17 * pow2 1057)) h))
 
-  touch-long : n < r → mag Δ + pow2 1057 ≤ mag touch-way
-  touch-long h =
+  touch_long : n < r → mag Δ + pow2 1057 ≤ mag touch_way
+  touch_long h =
       let room : (m * 2 ^ 17 + 1) * n ≤ r * m * 2 ^ 17 = omega (arith, mul-le-mul_left (m * 2 ^ 17) h, mul-le-mul_right n some) in
-      let q = quotient-least touch-product.finite d-is.finite {j = m * 2 ^ 17 + 1} 1057 (omega (arith, leg.small))
-      (lt_of_lt_of_le one-pos d-far) touch-finite
-      (rw (is-mag d-is) (le_trans (scaled (m * 2 ^ 17 + 1) room) (mul-le-mul_right one touch-product-least))) in
-      omega (arith, q, leg.size, ap (λ (i : ℕ). m * i) (pow2-split 17 1057))
+      let q = quotient_least touch_product.finite d_is.finite {j = m * 2 ^ 17 + 1} 1057 (omega (arith, leg.small))
+      (lt_of_lt_of_le one_pos d_far) touch_finite
+      (rw (is_mag d_is) (le_trans (scaled (m * 2 ^ 17 + 1) room) (mul-le-mul_right one touch_product_least))) in
+      omega (arith, q, leg.size, ap (λ (i : ℕ). m * i) (pow2_split 17 1057))
     where
       scaled : (v : ℕ) → v * n ≤ r * m * 2 ^ 17 → v * pow2 1057 * (n * one) ≤ r * m * one * one
-      scaled v h = rw (pow2-split 17 1057) (omega (arith, mul-le-mul_right (pow2 1057 * (2 ^ 17 * pow2 1057)) h))
+      scaled v h = rw (pow2_split 17 1057) (omega (arith, mul-le-mul_right (pow2 1057 * (2 ^ 17 * pow2 1057)) h))
 
-  far-margin : 4 * margin ≤ pow2 1057
-  far-margin = rw (pow2-split 20 1037) (omega arith)
+  far_margin : 4 * margin ≤ pow2 1057
+  far_margin = rw (pow2_split 20 1037) (omega arith)
 
-  module _ {x ρ T c : Float} (axis : Axis x touch-way ρ T c) (none : Most 0 1074 ρ) where
-    no-offset : (plus ρ ≡ 0) × (minus ρ ≡ 0)
-    no-offset = omega (arith, plus-minus ρ, none.bound)
+  module _ {x ρ T c : Float} (axis : Axis x touch_way ρ T c) (none : Most 0 1074 ρ) where
+    no_offset : (plus ρ ≡ 0) × (minus ρ ≡ 0)
+    no_offset = omega (arith, plus_minus ρ, none.bound)
 
-    up_from : plus T + minus touch-way + pow2 1057 ≤ plus touch-way + minus T → 0 < mag (sub binary64 (add binary64 (add binary64 x touch-way) ρ) c)
-    up_from h = above-centre axis.start axis.way axis.offset axis.centre axis.near (omega (arith, no-offset, far-margin))
+    up_from : plus T + minus touch_way + pow2 1057 ≤ plus touch_way + minus T → 0 < mag (sub binary64 (add binary64 (add binary64 x touch_way) ρ) c)
+    up_from h = above_centre axis.start axis.way axis.offset axis.centre axis.near (omega (arith, no_offset, far_margin))
 
-    down-from : plus touch-way + minus T + pow2 1057 ≤ plus T + minus touch-way → 0 < mag (sub binary64 (add binary64 (add binary64 x touch-way) ρ) c)
-    down-from h = below-centre axis.start axis.way axis.offset axis.centre axis.near (omega (arith, no-offset, far-margin))
+    down_from : plus touch_way + minus T + pow2 1057 ≤ plus T + minus touch_way → 0 < mag (sub binary64 (add binary64 (add binary64 x touch_way) ρ) c)
+    down_from h = below_centre axis.start axis.way axis.offset axis.centre axis.near (omega (arith, no_offset, far_margin))
 
   -- the point of touch is neither centre
-  pub touch-off-first : {x ρ c : Float} → Axis x touch-way ρ zero64 c → Most 0 1074 ρ → 0 < mag (sub binary64 (add binary64 (add binary64 x touch-way) ρ) c)
-  touch-off-first {x} {ρ} {c} axis none = by (negative touch-way) refl
+  pub touch_off_first : {x ρ c : Float} → Axis x touch_way ρ zero64 c → Most 0 1074 ρ → 0 < mag (sub binary64 (add binary64 (add binary64 x touch_way) ρ) c)
+  touch_off_first {x} {ρ} {c} axis none = by (negative touch_way) refl
     where
-      by : (b : Bool) → negative touch-way ≡ b → 0 < mag (sub binary64 (add binary64 (add binary64 x touch-way) ρ) c)
-      by false e = let v = plus-is touch-way e in up_from axis none (omega (arith, v, touch-least, zero64-plus, zero64-minus))
-      by true e = let v = minus_is touch-way e in down-from axis none (omega (arith, v, touch-least, zero64-plus, zero64-minus))
+      by : (b : Bool) → negative touch_way ≡ b → 0 < mag (sub binary64 (add binary64 (add binary64 x touch_way) ρ) c)
+      by false e = let v = plus_is touch_way e in up_from axis none (omega (arith, v, touch_least, zero64_plus, zero64_minus))
+      by true e = let v = minus_is touch_way e in down_from axis none (omega (arith, v, touch_least, zero64_plus, zero64_minus))
 
-  pub touch-off-second : ((negative f ≡ false) × ((r < n) ⊎ (n < r))) ⊎ (negative f ≡ true)
-      → {x ρ c : Float} → Axis x touch-way ρ Δ c → Most 0 1074 ρ → 0 < mag (sub binary64 (add binary64 (add binary64 x touch-way) ρ) c)
-  touch-off-second side {x} {ρ} {c} axis none = by side (negative Δ) refl
+  pub touch_off_second : ((negative f ≡ false) × ((r < n) ⊎ (n < r))) ⊎ (negative f ≡ true)
+      → {x ρ c : Float} → Axis x touch_way ρ Δ c → Most 0 1074 ρ → 0 < mag (sub binary64 (add binary64 (add binary64 x touch_way) ρ) c)
+  touch_off_second side {x} {ρ} {c} axis none = by side (negative Δ) refl
     where
-      sign : negative touch-way ≡ unlike (negative f) (negative Δ)
-      sign = way-sign leg d-is.finite d-far d-ahead L F
+      sign : negative touch_way ≡ unlike (negative f) (negative Δ)
+      sign = way_sign leg d_is.finite d_far d_ahead L F
 
       by : ((negative f ≡ false) × ((r < n) ⊎ (n < r))) ⊎ (negative f ≡ true) → (b : Bool) → negative Δ ≡ b
-          → 0 < mag (sub binary64 (add binary64 (add binary64 x touch-way) ρ) c)
+          → 0 < mag (sub binary64 (add binary64 (add binary64 x touch_way) ρ) c)
       by (inl (i, inl h)) false e =
-          let u = plus-is Δ e in let v = plus-is touch-way (sign ∙ ap₂ unlike i e) in down-from axis none (omega (arith, u, v, touch-short h))
+          let u = plus_is Δ e in let v = plus_is touch_way (sign ∙ ap₂ unlike i e) in down_from axis none (omega (arith, u, v, touch_short h))
       by (inl (i, inl h)) true e =
-          let u = minus_is Δ e in let v = minus_is touch-way (sign ∙ ap₂ unlike i e) in up_from axis none (omega (arith, u, v, touch-short h))
+          let u = minus_is Δ e in let v = minus_is touch_way (sign ∙ ap₂ unlike i e) in up_from axis none (omega (arith, u, v, touch_short h))
       by (inl (i, inr h)) false e =
-          let u = plus-is Δ e in let v = plus-is touch-way (sign ∙ ap₂ unlike i e) in up_from axis none (omega (arith, u, v, touch-long h))
+          let u = plus_is Δ e in let v = plus_is touch_way (sign ∙ ap₂ unlike i e) in up_from axis none (omega (arith, u, v, touch_long h))
       by (inl (i, inr h)) true e =
-          let u = minus_is Δ e in let v = minus_is touch-way (sign ∙ ap₂ unlike i e) in down-from axis none (omega (arith, u, v, touch-long h))
+          let u = minus_is Δ e in let v = minus_is touch_way (sign ∙ ap₂ unlike i e) in down_from axis none (omega (arith, u, v, touch_long h))
       by (inr i) false e =
-          let u = plus-is Δ e in let v = minus_is touch-way (sign ∙ ap₂ unlike i e) in down-from axis none (omega (arith, u, v, touch-least))
+          let u = plus_is Δ e in let v = minus_is touch_way (sign ∙ ap₂ unlike i e) in down_from axis none (omega (arith, u, v, touch_least))
       by (inr i) true e =
-          let u = minus_is Δ e in let v = plus-is touch-way (sign ∙ ap₂ unlike i e) in up_from axis none (omega (arith, u, v, touch-least))
+          let u = minus_is Δ e in let v = plus_is touch_way (sign ∙ ap₂ unlike i e) in up_from axis none (omega (arith, u, v, touch_least))

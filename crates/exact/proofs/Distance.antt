@@ -8,20 +8,20 @@ use native.Mathlib.Omega.{arith}
 use lib.IntN.{pos, nat_abs, ◌-ℤ◌}
 use lib.Ieee.{Float, binary64, of_int}
 use Rattle.heads.specs.declared.Head.{Head}
-use Rattle.heads.specs.Pair.{squaredDistance}
+use Rattle.heads.specs.Pair.{squared_distance}
 use Rattle.heads.specs.Distance.{InLimits}
 use Rattle.binary64.specs.Units.{pow2, one, Finite, mag, plus, minus}
 use Rattle.binary64.specs.Magnitude.{Most}
-use Rattle.binary64.proofs.Naturals.{lt-or-ge}
-use Rattle.binary64.proofs.Units.{pow2-split, plus-minus}
-use Rattle.binary64.proofs.Magnitude.{bound-digits}
-use Rattle.binary64.proofs.Whole.{ofInt-finite, ofInt-pos, sub-ofInt}
+use Rattle.binary64.proofs.Naturals.{lt_or_ge}
+use Rattle.binary64.proofs.Units.{pow2_split, plus_minus}
+use Rattle.binary64.proofs.Magnitude.{bound_digits}
+use Rattle.binary64.proofs.Whole.{of_int_finite, of_int_pos, sub_of_int}
 use Rattle.elementary.specs.Root.{root}
-use Rattle.elementary.proofs.root.Values.{root-finite, root-minus}
+use Rattle.elementary.proofs.root.Values.{root_finite, root_minus}
 use Rattle.elementary.proofs.root.Squares.{at_most, at_least}
-use Rattle.elementary.proofs.root.Integers.{whole_le, whole-ge, excess, shortfall, hypot-whole}
+use Rattle.elementary.proofs.root.Integers.{whole_le, whole_ge, excess, shortfall, hypot_whole}
 use Rattle.geometry.specs.Point.{distance}
-use Rattle.exact.specs.Circle.{circleOf}
+use Rattle.exact.specs.Circle.{circle_of}
 
 -- 2 ^ -37, in units
 abbrev pub margin : ℕ
@@ -38,84 +38,84 @@ pub record Is (x : Float) (n : ℕ) : Type 0 where
 -- a whole number up to 2 ^ 53 is so, and its size
 pub whole_is : (n : ℕ) → n ≤ 2 ^ 53 → Is (of_int binary64 (pos n)) n
 whole_is n h =
-    let p = ofInt-pos n h in
-    record { finite = ofInt-finite (pos n) h; up = p.0; down = p.1 }
+    let p = of_int_pos n h in
+    record { finite = of_int_finite (pos n) h; up = p.0; down = p.1 }
 
-pub is-mag : {x : Float} {n : ℕ} → Is x n → mag x ≡ n * one
-is-mag {x} w = sym (plus-minus x) ∙ omega (arith, w.up, w.down)
+pub is_mag : {x : Float} {n : ℕ} → Is x n → mag x ≡ n * one
+is_mag {x} w = sym (plus_minus x) ∙ omega (arith, w.up, w.down)
 
-pub is-most : {x : Float} {n j : ℕ} → Is x n → n ≤ j → Most j 1074 x
-is-most w h = record { finite = w.finite; bound = le_trans (le_of_eq (is-mag w)) (mul-le-mul_right one h) }
+pub is_most : {x : Float} {n j : ℕ} → Is x n → n ≤ j → Most j 1074 x
+is_most w h = record { finite = w.finite; bound = le_trans (le_of_eq (is_mag w)) (mul-le-mul_right one h) }
 
 -- ---- the distance
 
 -- The root of D, for a D below 2 ^ 32.
-abbrev pub rootOf : ℕ → Float
-rootOf D = root (of_int binary64 (pos D))
+abbrev pub root_of : ℕ → Float
+root_of D = root (of_int binary64 (pos D))
 
 -- a difference of coordinates is below 2 ^ 16, since its square is below 2 ^ 32
-pub part-below : (m D : ℕ) → m * m ≤ D → D < 2 ^ 32 → m < 2 ^ 16
-part-below m D h L = go (lt-or-ge m (2 ^ 16))
+pub part_below : (m D : ℕ) → m * m ≤ D → D < 2 ^ 32 → m < 2 ^ 16
+part_below m D h L = go (lt_or_ge m (2 ^ 16))
   where
     go : (m < 2 ^ 16) ⊎ (2 ^ 16 ≤ m) → m < 2 ^ 16
     go (inl l) = l
     go (inr l) = absurd (omega (arith, mul-le-mul l l))
 
 -- The distance of two heads' centres is the root of D.
-pub distance_is : {a b : Head} → InLimits a → InLimits b → squaredDistance a b < 2 ^ 32 → distance (circleOf a).center (circleOf b).center ≡ rootOf (squaredDistance a b)
+pub distance_is : {a b : Head} → InLimits a → InLimits b → squared_distance a b < 2 ^ 32 → distance (circle_of a).center (circle_of b).center ≡ root_of (squared_distance a b)
 distance_is {a} {b} la lb L =
     rw (
-      sub-ofInt a.x b.x (omega (arith, la.x)) (omega (arith, lb.x)),
-      sub-ofInt a.y b.y (omega (arith, la.y)) (omega (arith, lb.y)),
+      sub_of_int a.x b.x (omega (arith, la.x)) (omega (arith, lb.x)),
+      sub_of_int a.y b.y (omega (arith, la.y)) (omega (arith, lb.y)),
     )
-    (hypot-whole (a.x -ℤ b.x) (a.y -ℤ b.y) (omega arith))
+    (hypot_whole (a.x -ℤ b.x) (a.y -ℤ b.y) (omega arith))
 
 module _ (D : ℕ) (L : D < 2 ^ 32) where
   -- D is exact; its root is finite and not below zero
   radicand : Is (of_int binary64 (pos D)) D
   radicand = whole_is D (omega arith)
 
-  pub root-is-finite : Finite (rootOf D)
-  root-is-finite = root-finite (of_int binary64 (pos D)) radicand.finite.fit
+  pub root_is_finite : Finite (root_of D)
+  root_is_finite = root_finite (of_int binary64 (pos D)) radicand.finite.fit
 
-  pub root-down : minus (rootOf D) ≡ 0
-  root-down = root-minus (of_int binary64 (pos D)) radicand.finite.fit
+  pub root_down : minus (root_of D) ≡ 0
+  root_down = root_minus (of_int binary64 (pos D)) radicand.finite.fit
 
-  pub root-up : plus (rootOf D) ≡ mag (rootOf D)
-  root-up = omega (arith, plus-minus (rootOf D), root-down)
+  pub root_up : plus (root_of D) ≡ mag (root_of D)
+  root_up = omega (arith, plus_minus (root_of D), root_down)
 
   -- it is below 2 ^ 16
-  pub root-most : Most (2 ^ 16) 1074 (rootOf D)
-  root-most = record { finite = root-is-finite; bound = whole_le radicand.finite radicand.down D (is-mag radicand) (2 ^ 16) (omega arith) (omega arith) }
+  pub root_most : Most (2 ^ 16) 1074 (root_of D)
+  root_most = record { finite = root_is_finite; bound = whole_le radicand.finite radicand.down D (is_mag radicand) (2 ^ 16) (omega arith) (omega arith) }
 
   -- against a whole number n: at most n, at least n, beyond n and short of n by the margin, as D and n² compare
   module _ (n : ℕ) (N : n ≤ 2 ^ 16 - 1) where
-    pub root-at-most : D ≤ n * n → mag (rootOf D) ≤ n * one
-    root-at-most h = whole_le radicand.finite radicand.down D (is-mag radicand) n (omega arith) h
+    pub root-at-most : D ≤ n * n → mag (root_of D) ≤ n * one
+    root-at-most h = whole_le radicand.finite radicand.down D (is_mag radicand) n (omega arith) h
 
-    pub root-at-least : n * n ≤ D → n * one ≤ mag (rootOf D)
-    root-at-least h = whole-ge radicand.finite radicand.down D (is-mag radicand) n (omega arith) h
+    pub root_at_least : n * n ≤ D → n * one ≤ mag (root_of D)
+    root_at_least h = whole_ge radicand.finite radicand.down D (is_mag radicand) n (omega arith) h
 
-    pub root-beyond : n * n < D → n * one + margin ≤ mag (rootOf D)
-    root-beyond h =
+    pub root_beyond : n * n < D → n * one + margin ≤ mag (root_of D)
+    root_beyond h =
         le_trans (omega arith)
-        (excess radicand.finite radicand.down D (is-mag radicand) n 1 37 1037 refl (omega arith) (omega arith) (omega arith))
+        (excess radicand.finite radicand.down D (is_mag radicand) n 1 37 1037 refl (omega arith) (omega arith) (omega arith))
 
-    pub root-short : D < n * n → mag (rootOf D) + margin ≤ n * one
-    root-short h =
+    pub root_short : D < n * n → mag (root_of D) + margin ≤ n * one
+    root_short h =
         le_trans (omega arith)
-        (shortfall radicand.finite radicand.down D (is-mag radicand) n 1 37 1037 refl (omega arith) (omega arith) (omega arith))
+        (shortfall radicand.finite radicand.down D (is_mag radicand) n 1 37 1037 refl (omega arith) (omega arith) (omega arith))
 
   -- against v / 2 ^ 37, as D * 2 ^ 74 and v² compare
   module _ (v : ℕ) (few : v ≤ 2 ^ 53) where
     -- both squares, in units of 2 ^ -37 squared
     squares : (mag (of_int binary64 (pos D)) * one ≡ D * 2 ^ 74 * (margin * margin)) × (v * margin * (v * margin) ≡ v * v * (margin * margin))
-    squares = (rw (is-mag radicand, pow2-split 37 1037) (omega arith), omega arith)
+    squares = (rw (is_mag radicand, pow2_split 37 1037) (omega arith), omega arith)
 
-    pub root-at-most-fine : D * 2 ^ 74 ≤ v * v → mag (rootOf D) ≤ v * margin
-    root-at-most-fine h =
-        at_most radicand.finite radicand.down (v * margin) (bound-digits 1037 few) (le_trans (le_of_eq squares.0) (le_trans (mul-le-mul_right (margin * margin) h) (le_of_eq (sym squares.1))))
+    pub root_at_most_fine : D * 2 ^ 74 ≤ v * v → mag (root_of D) ≤ v * margin
+    root_at_most_fine h =
+        at_most radicand.finite radicand.down (v * margin) (bound_digits 1037 few) (le_trans (le_of_eq squares.0) (le_trans (mul-le-mul_right (margin * margin) h) (le_of_eq (sym squares.1))))
 
-    pub root-at-least-fine : v * v ≤ D * 2 ^ 74 → v * margin ≤ mag (rootOf D)
-    root-at-least-fine h =
-        at_least radicand.finite radicand.down (v * margin) (bound-digits 1037 few) (le_trans (le_of_eq squares.1) (le_trans (mul-le-mul_right (margin * margin) h) (le_of_eq (sym squares.0))))
+    pub root_at_least_fine : v * v ≤ D * 2 ^ 74 → v * margin ≤ mag (root_of D)
+    root_at_least_fine h =
+        at_least radicand.finite radicand.down (v * margin) (bound_digits 1037 few) (le_trans (le_of_eq squares.1) (le_trans (mul-le-mul_right (margin * margin) h) (le_of_eq (sym squares.0))))

@@ -9,17 +9,17 @@ use native.Mathlib.Omega.{arith}
 use lib.IntN.{pos}
 use lib.Ieee.{Float, binary64, add, sub, mul, div, of_int, unlike}
 use Rattle.heads.specs.Relation.{gap}
-use Rattle.heads.specs.Cases.{gap-le}
+use Rattle.heads.specs.Cases.{gap_le}
 use Rattle.binary64.specs.Units.{one, limit, Finite, mag, negative, plus, minus, Digits53}
 use Rattle.binary64.specs.Rounding.{Result}
-use Rattle.binary64.proofs.Units.{plus-is, plus-minus}
-use Rattle.binary64.proofs.Rounding.{plus-exact, minus-exact, plus_none, minus-none}
-use Rattle.binary64.proofs.Operations.{sub-result, result-finite, result-rounded, mul-sign}
-use Rattle.binary64.proofs.Magnitude.{bound-digits, bound-limit}
-use Rattle.binary64.proofs.Whole.{ofInt-whole, mul-ofInt-pos}
+use Rattle.binary64.proofs.Units.{plus_is, plus_minus}
+use Rattle.binary64.proofs.Rounding.{plus_exact, minus_exact, plus_none, minus_none}
+use Rattle.binary64.proofs.Operations.{sub_result, result_finite, result_rounded, mul_sign}
+use Rattle.binary64.proofs.Magnitude.{bound_digits, bound_limit}
+use Rattle.binary64.proofs.Whole.{of_int_whole, mul_of_int_pos}
 use Rattle.elementary.specs.Root.{root}
-use Rattle.binary64.specs.Constants.{two64, two64-is}
-use Rattle.exact.proofs.Chord.{gap-either}
+use Rattle.binary64.specs.Constants.{two64, two64_is}
+use Rattle.exact.proofs.Chord.{gap_either}
 use Rattle.exact.proofs.Distance.{Is, whole_is}
 
 -- ---- a sum or difference that comes out exactly
@@ -35,7 +35,7 @@ pub exact : {z : Float} {p n w : ℕ} → Result z p n 1 → Digits53 w → w < 
 exact {z} {p} {n} {w} r d l h = record { finite = f; parts = (go h).0; size = (go h).1 }
   where
     f : Finite z
-    f = result-finite (le_refl 1) r d (bound h).0 (bound h).1 l
+    f = result_finite (le_refl 1) r d (bound h).0 (bound h).1 l
       where
         bound : (p ≡ n + w) ⊎ (n ≡ p + w) → (p ≤ n + w * 1) × (n ≤ p + w * 1)
         bound (inl e) = omega arith
@@ -43,27 +43,27 @@ exact {z} {p} {n} {w} r d l h = record { finite = f; parts = (go h).0; size = (g
 
     go : (p ≡ n + w) ⊎ (n ≡ p + w) → (plus z + n ≡ minus z + p) × (mag z ≡ w)
     go (inl e) =
-        let u = plus-exact (le_refl 1) (result-rounded (le_refl 1) r f) d (e ∙ ap (λ (k : ℕ). n + k) (sym (mul-one w))) in
-        let v = minus-none (le_refl 1) (result-rounded (le_refl 1) r f) (omega arith) in
-        (omega arith, omega (arith, plus-minus z))
+        let u = plus_exact (le_refl 1) (result_rounded (le_refl 1) r f) d (e ∙ ap (λ (k : ℕ). n + k) (sym (mul-one w))) in
+        let v = minus_none (le_refl 1) (result_rounded (le_refl 1) r f) (omega arith) in
+        (omega arith, omega (arith, plus_minus z))
     go (inr e) =
-        let u = minus-exact (le_refl 1) (result-rounded (le_refl 1) r f) d (e ∙ ap (λ (k : ℕ). p + k) (sym (mul-one w))) in
-        let v = plus_none (le_refl 1) (result-rounded (le_refl 1) r f) (omega arith) in
-        (omega arith, omega (arith, plus-minus z))
+        let u = minus_exact (le_refl 1) (result_rounded (le_refl 1) r f) d (e ∙ ap (λ (k : ℕ). p + k) (sym (mul-one w))) in
+        let v = plus_none (le_refl 1) (result_rounded (le_refl 1) r f) (omega arith) in
+        (omega arith, omega (arith, plus_minus z))
 
 -- ---- the squares of the radii
 
 -- The square of a float has no sign.
-pub square-parts : {f : Float} → Finite f → Finite (mul binary64 f f) → (plus (mul binary64 f f) ≡ mag (mul binary64 f f)) × (minus (mul binary64 f f) ≡ 0)
-square-parts {f} h k = plus-is (mul binary64 f f) (mul-sign h h k ∙ alike (negative f))
+pub square_parts : {f : Float} → Finite f → Finite (mul binary64 f f) → (plus (mul binary64 f f) ≡ mag (mul binary64 f f)) × (minus (mul binary64 f f) ≡ 0)
+square_parts {f} h k = plus_is (mul binary64 f f) (mul_sign h h k ∙ alike (negative f))
   where
     alike : (s : Bool) → unlike s s ≡ false
     alike true = refl
     alike false = refl
 
 -- r², for a radius r
-pub square-is : (r : ℕ) → r ≤ 20000 → Is (mul binary64 (of_int binary64 (pos r)) (of_int binary64 (pos r))) (r * r)
-square-is r L = rw (mul-ofInt-pos r r (omega arith) (omega arith)) (whole_is (r * r) (omega (arith, mul-le-mul L L)))
+pub square_is : (r : ℕ) → r ≤ 20000 → Is (mul binary64 (of_int binary64 (pos r)) (of_int binary64 (pos r))) (r * r)
+square_is r L = rw (mul_of_int_pos r r (omega arith) (omega arith)) (whole_is (r * r) (omega (arith, mul-le-mul L L)))
 
 -- the radius r
 abbrev pub float : ℕ → Float
@@ -71,7 +71,7 @@ float r = of_int binary64 (pos r)
 
 -- 2.0
 pub two_is : two64 ≡ float 2
-two_is = two64-is ∙ sym (ofInt-whole (pos 2))
+two_is = two64_is ∙ sym (of_int_whole (pos 2))
 
 -- r₁² - r₂²
 abbrev pub difference : ℕ → ℕ → Float
@@ -89,12 +89,12 @@ abbrev pub across : ℕ → Float → Float
 across r₁ f = root (rest r₁ f)
 
 -- r₁² - r₂² is exact
-pub difference-exact : (r₁ r₂ : ℕ) → r₁ ≤ 20000 → r₂ ≤ 20000 → Exact (difference r₁ r₂) (r₁ * r₁ * one + 0) (0 + r₂ * r₂ * one) (gap (r₁ * r₁) (r₂ * r₂) * one)
-difference-exact r₁ r₂ L₁ L₂ =
-    let a = square-is r₁ L₁ in
-    let b = square-is r₂ L₂ in
-    let few : gap (r₁ * r₁) (r₂ * r₂) ≤ 2 ^ 53 = omega (arith, gap-le (r₁ * r₁) (r₂ * r₂), mul-le-mul L₁ L₁, mul-le-mul L₂ L₂) in
-    exact (rw (a.up, a.down, b.up, b.down) at (sub-result a.finite b.finite)) (bound-digits 1074 few) (bound-limit few (omega arith)) (go (gap (r₁ * r₁) (r₂ * r₂)) (gap-either (r₁ * r₁) (r₂ * r₂)))
+pub difference_exact : (r₁ r₂ : ℕ) → r₁ ≤ 20000 → r₂ ≤ 20000 → Exact (difference r₁ r₂) (r₁ * r₁ * one + 0) (0 + r₂ * r₂ * one) (gap (r₁ * r₁) (r₂ * r₂) * one)
+difference_exact r₁ r₂ L₁ L₂ =
+    let a = square_is r₁ L₁ in
+    let b = square_is r₂ L₂ in
+    let few : gap (r₁ * r₁) (r₂ * r₂) ≤ 2 ^ 53 = omega (arith, gap_le (r₁ * r₁) (r₂ * r₂), mul-le-mul L₁ L₁, mul-le-mul L₂ L₂) in
+    exact (rw (a.up, a.down, b.up, b.down) at (sub_result a.finite b.finite)) (bound_digits 1074 few) (bound_limit few (omega arith)) (go (gap (r₁ * r₁) (r₂ * r₂)) (gap_either (r₁ * r₁) (r₂ * r₂)))
   where
     go : (w : ℕ) → (r₁ * r₁ ≡ r₂ * r₂ + w) ⊎ (r₂ * r₂ ≡ r₁ * r₁ + w) → (r₁ * r₁ * one + 0 ≡ 0 + r₂ * r₂ * one + w * one) ⊎ (0 + r₂ * r₂ * one ≡ r₁ * r₁ * one + 0 + w * one)
     go w (inl h) = inl (omega (arith, ap (λ (k : ℕ). k * one) h))

@@ -17,42 +17,42 @@ use Rattle.heads.specs.declared.Head.{Head}
 use Rattle.heads.specs.declared.Relation.{Relation}
 use Rattle.heads.specs.declared.Relation.TheVariants.{Apart, TouchingOutside, Crossing, TouchingInside, Holding, Identical}
 use Rattle.heads.specs.Relation.{gap, identical, relation, meets, meeting, touching, points}
-use Rattle.heads.specs.Cases.{Case, gap-comm, gap-le, gap-square-le, gap-zero, relation-is, case-of, meets-relation, meetsOnce-relation, meets-facts}
-use Rattle.heads.specs.Pair.{squaredDistance, radiusOf, relationOf, meetsOf, meetsOnceOf}
-use Rattle.heads.specs.Distance.{InLimits, limits_of, distance-fits, meetsOf-comm}
+use Rattle.heads.specs.Cases.{Case, gap_comm, gap_le, gap_square_le, gap_zero, relation_is, case_of, meets_relation, meets_once_relation, meets_facts}
+use Rattle.heads.specs.Pair.{squared_distance, radius_of, relation_of, meets_of, meets_once_of}
+use Rattle.heads.specs.Distance.{InLimits, limits_of, distance_fits, meets_of_comm}
 use Rattle.binary64.specs.Units.{one}
 use Rattle.binary64.specs.Magnitude.{Most, Least}
-use Rattle.binary64.proofs.Naturals.{lt-or-ge}
-use Rattle.binary64.proofs.Whole.{ofInt-sign, ofInt-most, ofInt-least}
+use Rattle.binary64.proofs.Naturals.{lt_or_ge}
+use Rattle.binary64.proofs.Whole.{of_int_sign, of_int_most, of_int_least}
 use Rattle.geometry.specs.declared.point.Point.{Point}
 use Rattle.geometry.specs.Circle as circle
 use Rattle.geometry.specs.Meeting.{number-of-points}
 use Rattle.geometry.specs.Point.{at, distance}
-use Rattle.exact.specs.Circle.{circleOf}
+use Rattle.exact.specs.Circle.{circle_of}
 use Rattle.exact.specs.Decisions.{IsDrawn, DecidesExactly, StaysBounded, NoPointsUnlessMet, NoAreaBeyond, QuotientsWithin, sum, difference, quotient}
-use Rattle.exact.proofs.Chord.{gap-either}
-use Rattle.exact.proofs.Crossing.{quotient-within}
+use Rattle.exact.proofs.Chord.{gap_either}
+use Rattle.exact.proofs.Crossing.{quotient_within}
 use Rattle.exact.proofs.Steps.{float}
-use Rattle.exact.proofs.Distance.{rootOf, distance_is, root-is-finite, root-most, root-at-least}
-use Rattle.exact.proofs.Tests.{identical-is, apart-is, intersects-is, contains-heads, beyond-is, within-is}
+use Rattle.exact.proofs.Distance.{root_of, distance_is, root_is_finite, root_most, root_at_least}
+use Rattle.exact.proofs.Tests.{identical_is, apart_is, intersects_is, contains_heads, beyond_is, within_is}
 use Rattle.exact.proofs.Meeting.{Found, touching as found-touching, crossed as found-crossed}
 
 -- ---- touch from inside
 
 -- where the circles touch from inside, r₁² - r₂² + t² is 2 r₁ t or -2 r₁ t
-touch-inside : (a b t : ℕ) → (a ≡ b + t) ⊎ (b ≡ a + t) → (a * a + t * t ≡ b * b + 2 * (a * t)) ⊎ (b * b ≡ a * a + t * t + 2 * (a * t))
-touch-inside a b t (inl e) = inl (omega (arith, ap (λ (k : ℕ). k * k) e, ap (λ (k : ℕ). k * t) e))
-touch-inside a b t (inr e) = inr (omega (arith, ap (λ (k : ℕ). k * k) e))
+touch_inside : (a b t : ℕ) → (a ≡ b + t) ⊎ (b ≡ a + t) → (a * a + t * t ≡ b * b + 2 * (a * t)) ⊎ (b * b ≡ a * a + t * t + 2 * (a * t))
+touch_inside a b t (inl e) = inl (omega (arith, ap (λ (k : ℕ). k * k) e, ap (λ (k : ℕ). k * t) e))
+touch_inside a b t (inr e) = inr (omega (arith, ap (λ (k : ℕ). k * k) e))
 
 -- ---- the tests before the points
 
 -- c are the points, i and o the tests that turn the circles away: identical, and not met; p and q are the centres
 module _ {p q : Point} (c : List Point) where
-  none-chosen : (i o : Bool) → (i ≡ true) ⊎ (o ≡ true) → Found p q (cond i [] (cond o [] c)) 0
-  none-chosen true o h = record { count = refl; placed = tt; off = (tt, tt) }
-  none-chosen false true h = record { count = refl; placed = tt; off = (tt, tt) }
-  none-chosen false false (inl e) = absurd (false≢true e)
-  none-chosen false false (inr e) = absurd (false≢true e)
+  none_chosen : (i o : Bool) → (i ≡ true) ⊎ (o ≡ true) → Found p q (cond i [] (cond o [] c)) 0
+  none_chosen true o h = record { count = refl; placed = tt; off = (tt, tt) }
+  none_chosen false true h = record { count = refl; placed = tt; off = (tt, tt) }
+  none_chosen false false (inl e) = absurd (false≢true e)
+  none_chosen false false (inr e) = absurd (false≢true e)
 
   chosen : {n : ℕ} (i o : Bool) → i ≡ false → o ≡ false → Found p q c n → Found p q (cond i [] (cond o [] c)) n
   chosen false false e f h = h
@@ -60,20 +60,20 @@ module _ {p q : Point} (c : List Point) where
   chosen false true e f h = absurd (true≢false f)
 
 -- at a distance heads are not identical
-not-identical : (D a b : ℕ) → 0 < D → identical D a b ≡ false
-not-identical D a b h = ap (λ (p : Bool). p && eqb a b) (ne_eqb D 0 (λ e. omega arith))
+not_identical : (D a b : ℕ) → 0 < D → identical D a b ≡ false
+not_identical D a b h = ap (λ (p : Bool). p && eqb a b) (ne_eqb D 0 (λ e. omega arith))
 
 -- ---- two heads
 
-module _ {a b : Head} (la : InLimits a) (lb : InLimits b) (L : squaredDistance a b < 2 ^ 32) where
+module _ {a b : Head} (la : InLimits a) (lb : InLimits b) (L : squared_distance a b < 2 ^ 32) where
   abbrev D : ℕ
-  D = squaredDistance a b
+  D = squared_distance a b
 
   abbrev r₁ : ℕ
-  r₁ = radiusOf a
+  r₁ = radius_of a
 
   abbrev r₂ : ℕ
-  r₂ = radiusOf b
+  r₂ = radius_of b
 
   abbrev s : ℕ
   s = sum a b
@@ -83,7 +83,7 @@ module _ {a b : Head} (la : InLimits a) (lb : InLimits b) (L : squaredDistance a
 
   -- `crossing` of the two circles, with the radii as the integers u and v
   abbrev crossing_of : ℤ → ℤ → List Point
-  crossing_of u v = circle.crossing (circle.around (at (of_int binary64 a.x) (of_int binary64 a.y)) (of_int binary64 u)) (circle.around (at (of_int binary64 b.x) (of_int binary64 b.y)) (of_int binary64 v)) (rootOf D)
+  crossing_of u v = circle.crossing (circle.around (at (of_int binary64 a.x) (of_int binary64 a.y)) (of_int binary64 u)) (circle.around (at (of_int binary64 b.x) (of_int binary64 b.y)) (of_int binary64 v)) (root_of D)
 
   abbrev crossing : List Point
   crossing = crossing_of (pos r₁) (pos r₂)
@@ -93,48 +93,48 @@ module _ {a b : Head} (la : InLimits a) (lb : InLimits b) (L : squaredDistance a
   missing = ltb (s * s) D || ltb D (t * t)
 
   -- the meeting points, with the tests on whole numbers
-  abbrev pointsBy : List Point
-  pointsBy = cond (identical D r₁ r₂) [] (cond missing [] crossing)
+  abbrev points_by : List Point
+  points_by = cond (identical D r₁ r₂) [] (cond missing [] crossing)
 
-  points-are : circle.intersectionPoints (circleOf a) (circleOf b) ≡ pointsBy
-  points-are =
-      ap (λ (d : Float). cond (circle.identical (circleOf a) (circleOf b)) [] (cond (circle.apart (circleOf a) (circleOf b) d) [] (circle.crossing (circleOf a) (circleOf b) d))) (distance_is la lb L)
-      ∙ ap₂ (λ (i o : Bool). cond i [] (cond o [] (crossing_of a.radius b.radius))) (identical-is la lb L) (apart-is la lb L)
+  points_are : circle.intersection_points (circle_of a) (circle_of b) ≡ points_by
+  points_are =
+      ap (λ (d : Float). cond (circle.identical (circle_of a) (circle_of b)) [] (cond (circle.apart (circle_of a) (circle_of b) d) [] (circle.crossing (circle_of a) (circle_of b) d))) (distance_is la lb L)
+      ∙ ap₂ (λ (i o : Bool). cond i [] (cond o [] (crossing_of a.radius b.radius))) (identical_is la lb L) (apart_is la lb L)
       ∙ ap₂ (λ (u v : ℤ). cond (identical D r₁ r₂) [] (cond missing [] (crossing_of u v))) la.whole lb.whole
 
   -- one point where the circles touch
-  found-touch : (n : ℕ) → D ≡ n * n → 1 ≤ n → n ≤ 40000 → (r₁ * r₁ + n * n ≡ r₂ * r₂ + 2 * (r₁ * n)) ⊎ (r₂ * r₂ ≡ r₁ * r₁ + n * n + 2 * (r₁ * n))
-      → Found (circleOf a).center (circleOf b).center crossing 1
-  found-touch n e p q h =
+  found_touch : (n : ℕ) → D ≡ n * n → 1 ≤ n → n ≤ 40000 → (r₁ * r₁ + n * n ≡ r₂ * r₂ + 2 * (r₁ * n)) ⊎ (r₂ * r₂ ≡ r₁ * r₁ + n * n + 2 * (r₁ * n))
+      → Found (circle_of a).center (circle_of b).center crossing 1
+  found_touch n e p q h =
       found-touching a.x a.y b.x b.y la.x la.y lb.x lb.y r₁ r₂ la.least la.most lb.least lb.most L (omega (arith, mul-le-mul p p)) n e p q h
 
   -- two where they cross
-  found-cross : t * t < D → D < s * s → Found (circleOf a).center (circleOf b).center crossing 2
-  found-cross h k =
+  found_cross : t * t < D → D < s * s → Found (circle_of a).center (circle_of b).center crossing 2
+  found_cross h k =
       found-crossed a.x a.y b.x b.y la.x la.y lb.x lb.y r₁ r₂ la.least la.most lb.least lb.most L (omega arith) h k
 
   -- either is met, since no test before turns it away
-  met : {n : ℕ} → 0 < D → t * t ≤ D → D ≤ s * s → Found (circleOf a).center (circleOf b).center crossing n
-      → Found (circleOf a).center (circleOf b).center pointsBy n
-  met z h k f = chosen crossing (identical D r₁ r₂) missing (not-identical D r₁ r₂ z) (ap₂ (λ (p q : Bool). p || q) (le-ltb (s * s) D k) (le-ltb D (t * t) h)) f
+  met : {n : ℕ} → 0 < D → t * t ≤ D → D ≤ s * s → Found (circle_of a).center (circle_of b).center crossing n
+      → Found (circle_of a).center (circle_of b).center points_by n
+  met z h k f = chosen crossing (identical D r₁ r₂) missing (not_identical D r₁ r₂ z) (ap₂ (λ (p q : Bool). p || q) (le-ltb (s * s) D k) (le-ltb D (t * t) h)) f
 
   -- in each case of the relation as many points as it has
-  found_in : (r : Relation) → Case r D r₁ r₂ → Found (circleOf a).center (circleOf b).center pointsBy (points r)
-  found_in Apart h = none-chosen crossing (identical D r₁ r₂) missing (inr (ap (λ (p : Bool). p || ltb D (t * t)) (lt-ltb (s * s) D h)))
+  found_in : (r : Relation) → Case r D r₁ r₂ → Found (circle_of a).center (circle_of b).center points_by (points r)
+  found_in Apart h = none_chosen crossing (identical D r₁ r₂) missing (inr (ap (λ (p : Bool). p || ltb D (t * t)) (lt-ltb (s * s) D h)))
   found_in TouchingOutside h =
-      met (omega arith) (omega arith) (le_of_eq h.1) (found-touch s h.1 (omega (arith, la.least)) (omega (arith, la.most, lb.most)) (inl (omega arith)))
-  found_in Crossing h = met (omega arith) (omega arith) (omega arith) (found-cross h.0 h.1)
+      met (omega arith) (omega arith) (le_of_eq h.1) (found_touch s h.1 (omega (arith, la.least)) (omega (arith, la.most, lb.most)) (inl (omega arith)))
+  found_in Crossing h = met (omega arith) (omega arith) (omega arith) (found_cross h.0 h.1)
   found_in TouchingInside h =
-      met (omega (arith, mul-le-mul h.0 h.0)) (le_of_eq (sym h.1)) (le_trans (le_of_eq h.1) (gap-square-le r₁ r₂))
-      (found-touch t h.1 h.0 (omega (arith, gap-le r₁ r₂, la.most, lb.most)) (touch-inside r₁ r₂ t (gap-either r₁ r₂)))
-  found_in Holding h = none-chosen crossing (identical D r₁ r₂) missing (inr (ap (λ (p : Bool). ltb (s * s) D || p) (lt-ltb D (t * t) h) ∙ or-true (ltb (s * s) D)))
-  found_in Identical h = none-chosen crossing (identical D r₁ r₂) missing (inl (ap₂ (λ (p q : Bool). p && q) (eq-eqb D 0 h.0) (eq-eqb r₁ r₂ h.1)))
+      met (omega (arith, mul-le-mul h.0 h.0)) (le_of_eq (sym h.1)) (le_trans (le_of_eq h.1) (gap_square_le r₁ r₂))
+      (found_touch t h.1 h.0 (omega (arith, gap_le r₁ r₂, la.most, lb.most)) (touch_inside r₁ r₂ t (gap_either r₁ r₂)))
+  found_in Holding h = none_chosen crossing (identical D r₁ r₂) missing (inr (ap (λ (p : Bool). ltb (s * s) D || p) (lt-ltb D (t * t) h) ∙ or-true (ltb (s * s) D)))
+  found_in Identical h = none_chosen crossing (identical D r₁ r₂) missing (inl (ap₂ (λ (p q : Bool). p && q) (eq-eqb D 0 h.0) (eq-eqb r₁ r₂ h.1)))
 
   -- as many points as the relation has, each placed
-  found : Found (circleOf a).center (circleOf b).center (circle.intersectionPoints (circleOf a) (circleOf b)) (points (relationOf a b))
+  found : Found (circle_of a).center (circle_of b).center (circle.intersection_points (circle_of a) (circle_of b)) (points (relation_of a b))
   found =
-      subst (λ (l : List Point). Found (circleOf a).center (circleOf b).center l (points (relationOf a b))) (sym points-are)
-      (found_in (relationOf a b) (case-of D r₁ r₂))
+      subst (λ (l : List Point). Found (circle_of a).center (circle_of b).center l (points (relation_of a b))) (sym points_are)
+      (found_in (relation_of a b) (case_of D r₁ r₂))
 
 -- ---- how many points there are, and what the relation says
 
@@ -144,26 +144,26 @@ Counted l m o = ((l ≡ []) ↔ (m ≡ false)) × ((length l ≡ 1) ↔ (o ≡ t
 
 -- it counts as the relation says
 module _ (l : List Point) where
-  no-points : length l ≡ 0 → Counted l false false
-  no-points e = ((λ _. refl, λ _. empty l e), (λ h. absurd (omega arith), λ h. absurd (false≢true h)), (λ h. absurd (omega arith), λ h. absurd (false≢true h.0)))
+  no_points : length l ≡ 0 → Counted l false false
+  no_points e = ((λ _. refl, λ _. empty l e), (λ h. absurd (omega arith), λ h. absurd (false≢true h)), (λ h. absurd (omega arith), λ h. absurd (false≢true h.0)))
     where
       empty : (l : List Point) → length l ≡ 0 → l ≡ []
       empty [] e = refl
       empty (p ∷ rest) e = absurd (omega arith)
 
-  one-point : length l ≡ 1 → Counted l true true
-  one-point e = ((λ h. absurd (omega (arith, ap length h)), λ h. absurd (true≢false h)), (λ _. refl, λ _. e), (λ h. absurd (omega arith), λ h. absurd (true≢false h.1)))
+  one_point : length l ≡ 1 → Counted l true true
+  one_point e = ((λ h. absurd (omega (arith, ap length h)), λ h. absurd (true≢false h)), (λ _. refl, λ _. e), (λ h. absurd (omega arith), λ h. absurd (true≢false h.1)))
 
-  two-points : length l ≡ 2 → Counted l true false
-  two-points e = ((λ h. absurd (omega (arith, ap length h)), λ h. absurd (true≢false h)), (λ h. absurd (omega arith), λ h. absurd (false≢true h)), (λ _. (refl, refl), λ _. e))
+  two_points : length l ≡ 2 → Counted l true false
+  two_points e = ((λ h. absurd (omega (arith, ap length h)), λ h. absurd (true≢false h)), (λ h. absurd (omega arith), λ h. absurd (false≢true h)), (λ _. (refl, refl), λ _. e))
 
   counted : (r : Relation) → length l ≡ points r → Counted l (meeting r) (touching r)
-  counted Apart e = no-points e
-  counted TouchingOutside e = one-point e
-  counted Crossing e = two-points e
-  counted TouchingInside e = one-point e
-  counted Holding e = no-points e
-  counted Identical e = no-points e
+  counted Apart e = no_points e
+  counted TouchingOutside e = one_point e
+  counted Crossing e = two_points e
+  counted TouchingInside e = one_point e
+  counted Holding e = no_points e
+  counted Identical e = no_points e
 
 -- ---- the theorems
 
@@ -174,16 +174,16 @@ crosses D a b = (there, back)
     there : (ltb (gap a b * gap a b) D && ltb D ((a + b) * (a + b))) ≡ true → relation D a b ≡ Crossing
     there e =
         let both = and_yes (ltb (gap a b * gap a b) D) (ltb D ((a + b) * (a + b))) (subst T (sym e) tt) in
-        relation-is Crossing D a b (ltb→lt (gap a b * gap a b) D both.0, ltb→lt D ((a + b) * (a + b)) both.1)
+        relation_is Crossing D a b (ltb→lt (gap a b * gap a b) D both.0, ltb→lt D ((a + b) * (a + b)) both.1)
 
     back : relation D a b ≡ Crossing → (ltb (gap a b * gap a b) D && ltb D ((a + b) * (a + b))) ≡ true
     back e =
-        let h = subst (λ (r : Relation). Case r D a b) e (case-of D a b) in
+        let h = subst (λ (r : Relation). Case r D a b) e (case_of D a b) in
         ap₂ (λ (p q : Bool). p && q) (lt-ltb (gap a b * gap a b) D h.0) (lt-ltb D ((a + b) * (a + b)) h.1)
 
 -- heads that meet have different centres
-meet-apart : (D a b : ℕ) → meets D a b ≡ true → 0 < D
-meet-apart D a b e = go (lt-or-ge 0 D) ((meets-facts D a b).0 e)
+meet_apart : (D a b : ℕ) → meets D a b ≡ true → 0 < D
+meet_apart D a b e = go (lt_or_ge 0 D) ((meets_facts D a b).0 e)
   where
     none : (n : ℕ) → n * n ≤ 0 → n ≡ 0
     none zero h = refl
@@ -191,33 +191,33 @@ meet-apart D a b e = go (lt-or-ge 0 D) ((meets-facts D a b).0 e)
 
     go : (0 < D) ⊎ (D ≤ 0) → (gap a b * gap a b ≤ D) × (D ≤ (a + b) * (a + b)) × (D ≡ 0 → a ≡ b → ⊥) → 0 < D
     go (inl h) f = h
-    go (inr h) f = absurd (f.2 (omega arith) (gap-zero a b (none (gap a b) (le_trans f.0 h))))
+    go (inr h) f = absurd (f.2 (omega arith) (gap_zero a b (none (gap a b) (le_trans f.0 h))))
 
 -- The circle of a head within the limits.
 pub is-drawn : IsDrawn
 is-drawn h t =
     let l = limits_of h t in
     record {
-      x = ofInt-most h.x (omega (arith, l.x)) l.x;
-      y = ofInt-most h.y (omega (arith, l.y)) l.y;
-      most = rw l.whole (ofInt-most (pos (radiusOf h)) (omega (arith, l.most)) l.most);
-      least = rw l.whole (ofInt-least (pos (radiusOf h)) (omega (arith, l.most)) l.least);
-      positive = rw l.whole (ofInt-sign (pos (radiusOf h)) (omega (arith, l.most)));
+      x = of_int_most h.x (omega (arith, l.x)) l.x;
+      y = of_int_most h.y (omega (arith, l.y)) l.y;
+      most = rw l.whole (of_int_most (pos (radius_of h)) (omega (arith, l.most)) l.most);
+      least = rw l.whole (of_int_least (pos (radius_of h)) (omega (arith, l.most)) l.least);
+      positive = rw l.whole (of_int_sign (pos (radius_of h)) (omega (arith, l.most)));
     }
 
 -- Two heads within the limits: the float code decides as whole numbers do.
-pub decides-exactly : DecidesExactly
-decides-exactly a b ha hb = record {
+pub decides_exactly : DecidesExactly
+decides_exactly a b ha hb = record {
   count = f.count;
   answer = λ m h. number-of-points m ∙ ap length h ∙ f.count;
   none = c.0;
   one = c.1;
   two = c.2;
-  contained = contains-heads la lb L;
+  contained = contains_heads la lb L;
   crossed = e;
-  crossing = (λ h. (crosses (squaredDistance a b) (radiusOf a) (radiusOf b)).0 (sym e ∙ h), λ h. e ∙ (crosses (squaredDistance a b) (radiusOf a) (radiusOf b)).1 h);
-  outside = beyond-is la lb L;
-  inside = within-is la lb L;
+  crossing = (λ h. (crosses (squared_distance a b) (radius_of a) (radius_of b)).0 (sym e ∙ h), λ h. e ∙ (crosses (squared_distance a b) (radius_of a) (radius_of b)).1 h);
+  outside = beyond_is la lb L;
+  inside = within_is la lb L;
 }
   where
     la : InLimits a
@@ -226,59 +226,59 @@ decides-exactly a b ha hb = record {
     lb : InLimits b
     lb = limits_of b hb
 
-    L : squaredDistance a b < 2 ^ 32
-    L = distance-fits a b ha hb
+    L : squared_distance a b < 2 ^ 32
+    L = distance_fits a b ha hb
 
-    f : Found (circleOf a).center (circleOf b).center (circle.intersectionPoints (circleOf a) (circleOf b)) (points (relationOf a b))
+    f : Found (circle_of a).center (circle_of b).center (circle.intersection_points (circle_of a) (circle_of b)) (points (relation_of a b))
     f = found la lb L
 
-    c : Counted (circle.intersectionPoints (circleOf a) (circleOf b)) (meetsOf a b) (meetsOnceOf a b)
+    c : Counted (circle.intersection_points (circle_of a) (circle_of b)) (meets_of a b) (meets_once_of a b)
     c =
-        subst₂ (λ (m o : Bool). Counted (circle.intersectionPoints (circleOf a) (circleOf b)) m o)
-        (sym (meets-relation (squaredDistance a b) (radiusOf a) (radiusOf b))) (sym (meetsOnce-relation (squaredDistance a b) (radiusOf a) (radiusOf b)))
-        (counted (circle.intersectionPoints (circleOf a) (circleOf b)) (relationOf a b) f.count)
+        subst₂ (λ (m o : Bool). Counted (circle.intersection_points (circle_of a) (circle_of b)) m o)
+        (sym (meets_relation (squared_distance a b) (radius_of a) (radius_of b))) (sym (meets_once_relation (squared_distance a b) (radius_of a) (radius_of b)))
+        (counted (circle.intersection_points (circle_of a) (circle_of b)) (relation_of a b) f.count)
 
-    e : circle.intersects (circleOf a) (circleOf b) ≡ (ltb (difference a b * difference a b) (squaredDistance a b) && ltb (squaredDistance a b) (sum a b * sum a b))
-    e = intersects-is la lb L ∙ and_comm (ltb (squaredDistance a b) (sum a b * sum a b)) (ltb (difference a b * difference a b) (squaredDistance a b))
+    e : circle.intersects (circle_of a) (circle_of b) ≡ (ltb (difference a b * difference a b) (squared_distance a b) && ltb (squared_distance a b) (sum a b * sum a b))
+    e = intersects_is la lb L ∙ and_comm (ltb (squared_distance a b) (sum a b * sum a b)) (ltb (difference a b * difference a b) (squared_distance a b))
 
 -- What is worked out from them is finite, and no divisor is near zero.
-pub stays-bounded : StaysBounded
-stays-bounded a b ha hb = record {
-  near = subst (λ (d : Float). Most 65536 1074 d) (sym e) (root-most (squaredDistance a b) L);
-  apart = λ h. subst (λ (d : Float). Least 1 1074 d) (sym e) (record { finite = root-is-finite (squaredDistance a b) L; bound = root-at-least (squaredDistance a b) L 1 (omega arith) h });
-  divides = meet-apart (squaredDistance a b) (radiusOf a) (radiusOf b);
+pub stays_bounded : StaysBounded
+stays_bounded a b ha hb = record {
+  near = subst (λ (d : Float). Most 65536 1074 d) (sym e) (root_most (squared_distance a b) L);
+  apart = λ h. subst (λ (d : Float). Least 1 1074 d) (sym e) (record { finite = root_is_finite (squared_distance a b) L; bound = root_at_least (squared_distance a b) L 1 (omega arith) h });
+  divides = meet_apart (squared_distance a b) (radius_of a) (radius_of b);
   placed = (found (limits_of a ha) (limits_of b hb) L).placed;
   off = (found (limits_of a ha) (limits_of b hb) L).off;
 }
   where
-    L : squaredDistance a b < 2 ^ 32
-    L = distance-fits a b ha hb
+    L : squared_distance a b < 2 ^ 32
+    L = distance_fits a b ha hb
 
-    e : distance (circleOf a).center (circleOf b).center ≡ rootOf (squaredDistance a b)
+    e : distance (circle_of a).center (circle_of b).center ≡ root_of (squared_distance a b)
     e = distance_is (limits_of a ha) (limits_of b hb) L
 
 -- Heads that do not meet have no meeting points, in either order.
-pub no-points-unless-met : NoPointsUnlessMet
-no-points-unless-met a b ha hb e = ((decides-exactly a b ha hb).none.1 e, (decides-exactly b a hb ha).none.1 (meetsOf-comm b a ∙ e))
+pub no_points_unless_met : NoPointsUnlessMet
+no_points_unless_met a b ha hb e = ((decides_exactly a b ha hb).none.1 e, (decides_exactly b a hb ha).none.1 (meets_of_comm b a ∙ e))
 
 -- Heads that touch from outside or are apart share no area.
-pub no-area-beyond : NoAreaBeyond
-no-area-beyond a b ha hb h = rw ((decides-exactly a b ha hb).outside ∙ le-leb (sum a b * sum a b) (squaredDistance a b) h)
+pub no_area_beyond : NoAreaBeyond
+no_area_beyond a b ha hb h = rw ((decides_exactly a b ha hb).outside ∙ le-leb (sum a b * sum a b) (squared_distance a b) h)
 
 -- both quotients, over whole numbers
-both-within : (r₁ r₂ D : ℕ) → 1 ≤ r₁ → r₁ ≤ 20000 → 1 ≤ r₂ → r₂ ≤ 20000 → gap r₁ r₂ * gap r₁ r₂ < D → D < (r₁ + r₂) * (r₁ + r₂)
-    → Most 1 1074 (quotient (float r₁) (float r₂) (rootOf D)) × Most 1 1074 (quotient (float r₂) (float r₁) (rootOf D))
-both-within r₁ r₂ D P₁ L₁ P₂ L₂ low high =
-    (quotient-within r₁ r₂ D P₁ L₁ P₂ L₂ low high, quotient-within r₂ r₁ D P₂ L₂ P₁ L₁ (rw (gap-comm r₂ r₁) low) (omega arith))
+both_within : (r₁ r₂ D : ℕ) → 1 ≤ r₁ → r₁ ≤ 20000 → 1 ≤ r₂ → r₂ ≤ 20000 → gap r₁ r₂ * gap r₁ r₂ < D → D < (r₁ + r₂) * (r₁ + r₂)
+    → Most 1 1074 (quotient (float r₁) (float r₂) (root_of D)) × Most 1 1074 (quotient (float r₂) (float r₁) (root_of D))
+both_within r₁ r₂ D P₁ L₁ P₂ L₂ low high =
+    (quotient_within r₁ r₂ D P₁ L₁ P₂ L₂ low high, quotient_within r₂ r₁ D P₂ L₂ P₁ L₁ (rw (gap_comm r₂ r₁) low) (omega arith))
 
 -- Where a lens is worked out, what is handed to acos is within -1 to 1.
-pub quotients-within : QuotientsWithin
-quotients-within a b ha hb out held =
+pub quotients_within : QuotientsWithin
+quotients_within a b ha hb out held =
     let la = limits_of a ha in
     let lb = limits_of b hb in
-    let D = squaredDistance a b in
+    let D = squared_distance a b in
     let t = difference a b in
     let s = sum a b in
-    rw (distance_is la lb (distance-fits a b ha hb), la.whole, lb.whole)
-    (both-within (radiusOf a) (radiusOf b) D la.least la.most lb.least lb.most
-    (leb-false D (t * t) (sym (decides-exactly a b ha hb).inside ∙ held)) (leb-false (s * s) D (sym (decides-exactly a b ha hb).outside ∙ out)))
+    rw (distance_is la lb (distance_fits a b ha hb), la.whole, lb.whole)
+    (both_within (radius_of a) (radius_of b) D la.least la.most lb.least lb.most
+    (leb-false D (t * t) (sym (decides_exactly a b ha hb).inside ∙ held)) (leb-false (s * s) D (sym (decides_exactly a b ha hb).outside ∙ out)))

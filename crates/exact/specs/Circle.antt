@@ -7,5 +7,5 @@ use Rattle.geometry.specs.Circle.{around}
 use Rattle.geometry.specs.Point.{at}
 
 -- The circle of a head.
-abbrev pub circleOf : Head → Circle
-circleOf h = around (at (of_int binary64 h.x) (of_int binary64 h.y)) (of_int binary64 h.radius)
+abbrev pub circle_of : Head → Circle
+circle_of h = around (at (of_int binary64 h.x) (of_int binary64 h.y)) (of_int binary64 h.radius)

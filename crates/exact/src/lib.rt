@@ -1,7 +1,7 @@
 // A head as a circle of f64. What is here for a reader are the theorems of specs/: on the heads of the domain the float
 // decisions about circles are the whole-number ones. Rests on `heads`, `geometry`, and the laws of `binary64` and `elementary`.
 ghost use Rattle.std.specs.Prelude.{◌≡◌};
-ghost use Rattle.exact.specs.Circle.{circleOf};
+ghost use Rattle.exact.specs.Circle.{circle_of};
 
 use geometry::circle::Circle;
 use geometry::point::Point;
@@ -9,7 +9,7 @@ use heads::Head;
 
 // The circle of a head: each of its whole numbers is an f64 as it stands.
 pub fn circle_of(head: Head) -> Circle
-    ensures { result ≡ circleOf head }
+    ensures { result ≡ circle_of head }
 {
     Circle::new(Point::new(head.x as f64, head.y as f64), head.radius as f64)
 }

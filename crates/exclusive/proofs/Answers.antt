@@ -5,19 +5,19 @@ use Prim.Native.Nat.{ℕ, ◌^◌, ◌≤◌, ◌<◌}
 use native.Mathlib.Omega.{arith}
 use borrow.Author.Tests.{lt-ltb, le-ltb, ltb-false}
 use lib.Dec.{ltb}
-use Rattle.exclusive.specs.Exclusive.{rowsAnswer}
+use Rattle.exclusive.specs.Exclusive.{rows_answer}
 
 module _ (n rows : ℕ) where
-  pub too_many : 10 < n → 2 ≡ rowsAnswer n rows
+  pub too_many : 10 < n → 2 ≡ rows_answer n rows
   too_many h = rw (lt-ltb 10 n h) refl
 
-  pub too_few : n ≤ 10 → rows < 2 ^ n → 7 ≡ rowsAnswer n rows
+  pub too_few : n ≤ 10 → rows < 2 ^ n → 7 ≡ rows_answer n rows
   too_few h k = rw (le-ltb 10 n h, lt-ltb rows (2 ^ n) k) refl
 
-  pub room : n ≤ 10 → 2 ^ n ≤ rows → 0 ≡ rowsAnswer n rows
+  pub room : n ≤ 10 → 2 ^ n ≤ rows → 0 ≡ rows_answer n rows
   room h k = rw (le-ltb 10 n h, le-ltb rows (2 ^ n) k) refl
 
-  pub taken : rowsAnswer n rows ≡ 0 → (n ≤ 10) × (2 ^ n ≤ rows)
+  pub taken : rows_answer n rows ≡ 0 → (n ≤ 10) × (2 ^ n ≤ rows)
   taken = by (ltb 10 n) refl (ltb rows (2 ^ n)) refl
     where
       by : (a : Bool) → ltb 10 n ≡ a → (b : Bool) → ltb rows (2 ^ n) ≡ b → ◌≡◌ {A = ℕ} (cond a 2 (cond b 7 0)) 0 → (n ≤ 10) × (2 ^ n ≤ rows)

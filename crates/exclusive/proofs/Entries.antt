@@ -13,7 +13,7 @@ use lib.Seq.{get_or-set_same, get_or-set_other, drop-set-lt}
 use Rattle.lists.specs.Every.{Every, every_map}
 use Rattle.binary64.specs.Constants.{zero64}
 use Rattle.binary64.specs.Floats.{◌-ᶠ◌}
-use Rattle.exclusive.specs.Entries.{entry, rowSums, RowSubtracted}
+use Rattle.exclusive.specs.Entries.{entry, row_sums, RowSubtracted}
 use Rattle.exclusive.proofs.Unclamped.{sum_same}
 
 -- a place has one row and one number in it
@@ -24,13 +24,13 @@ pub same_number : (w S T : ℕ) {j k : ℕ} → j < w → k < w → T * w + j �
 same_number w S T hj hk e = sym (digits_mod T hj) ∙ ap (λ (x : ℕ). x % w) e ∙ digits_mod S hk
 
 -- a table of one number a row
-pub one-wide : (S : ℕ) (l : List Float) → entry 1 l 0 S ≡ get_or l S nan
-one-wide S l = let e : S * 1 + 0 ≡ S = omega arith in ap (λ (x : ℕ). get_or l x nan) e
+pub one_wide : (S : ℕ) (l : List Float) → entry 1 l 0 S ≡ get_or l S nan
+one_wide S l = let e : S * 1 + 0 ≡ S = omega arith in ap (λ (x : ℕ). get_or l x nan) e
 
 module _ (w S : ℕ) (sums : ℕ → Float) (before after : List Float) where
   -- nothing is subtracted yet
-  pub row-start : RowSubtracted w S sums 0 before before
-  row-start =
+  pub row_start : RowSubtracted w S sums 0 before before
+  row_start =
       record { own = λ j h. absurd (omega arith); others = λ T j h k. refl; rest = λ m h. refl; many = refl }
 
   -- the next number
@@ -61,6 +61,6 @@ module _ (w S : ℕ) (sums : ℕ → Float) (before after : List Float) where
           ∙ ap₂ ◌-ᶠ◌ (r.others S k (λ f. le_refl k) hk) e
 
   -- the sums of other rows are not touched
-  pub sums-stay : (rows : List ℕ) (k j : ℕ) → j < w → Every (λ T. T ≡ S → ⊥) rows → RowSubtracted w S sums k before after → rowSums w after rows j ≡ rowSums w before rows j
-  sums-stay rows k j hj other r =
+  pub sums_stay : (rows : List ℕ) (k j : ℕ) → j < w → Every (λ T. T ≡ S → ⊥) rows → RowSubtracted w S sums k before after → row_sums w after rows j ≡ row_sums w before rows j
+  sums_stay rows k j hj other r =
       sum_same (entry w after j) (entry w before j) zero64 rows (every_map rows (λ T h. r.others T j (λ f. absurd (h f)) hj) other)

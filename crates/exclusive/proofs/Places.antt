@@ -15,9 +15,9 @@ use lib.Pow.{pow_mono}
 use lib.Seq.{take-suc-set}
 use Rattle.lists.specs.Lists.{up_to, keep}
 use Rattle.lists.specs.Written.{tab}
-use Rattle.lists.proofs.Lists.{keep_append, keep-push, keep-length}
-use Rattle.masks.specs.Mask.{strictSubset}
-use Rattle.exclusive.specs.RowOrder.{rows_of, rowOrder}
+use Rattle.lists.proofs.Lists.{keep_append, keep_push, keep_length}
+use Rattle.masks.specs.Mask.{strict_subset}
+use Rattle.exclusive.specs.RowOrder.{rows_of, row_order}
 use Rattle.exclusive.specs.Exclusive.{above}
 use Rattle.exclusive.proofs.RowOrder.{row}
 
@@ -25,8 +25,8 @@ use Rattle.exclusive.proofs.RowOrder.{row}
 pub row_lt : (n S : ℕ) → n ≤ 10 → S < 2 ^ n → S < 1024
 row_lt n S h k = lt_of_lt_of_le k (pow_mono {i = n} {j = 10} h)
 
-pub masks-le : (n : ℕ) → n ≤ 10 → 2 ^ n ≤ 1024
-masks-le n h = pow_mono {i = n} {j = 10} h
+pub masks_le : (n : ℕ) → n ≤ 10 → 2 ^ n ≤ 1024
+masks_le n h = pow_mono {i = n} {j = 10} h
 
 module _ (present : ℕ → Bool) where
   -- the rows below m of fewer than C heads
@@ -37,9 +37,9 @@ module _ (present : ℕ → Bool) where
   at_most_one true S = omega arith
   at_most_one false S = omega arith
 
-  not-its : (c S : ℕ) → (ones S ≡ c → ⊥) → (b : Bool) → (b && eqb (ones S) c) ≡ false
-  not-its c S h true = ne_eqb (ones S) c h
-  not-its c S h false = refl
+  not_its : (c S : ℕ) → (ones S ≡ c → ⊥) → (b : Bool) → (b && eqb (ones S) c) ≡ false
+  not_its c S h true = ne_eqb (ones S) c h
+  not_its c S h false = refl
 
   -- mask m is a row of one number of heads at most
   its : (c m : ℕ) → length (row present c m) ≤ 1 - (suc (ones m) - suc c) - (1 - (suc (ones m) - c))
@@ -47,7 +47,7 @@ module _ (present : ℕ → Bool) where
     where
       go : Dec (ones m ≡ c) → length (row present c m) ≤ 1 - (suc (ones m) - suc c) - (1 - (suc (ones m) - c))
       go (yes e) = omega (arith, at_most_one (present m && eqb (ones m) c) m)
-      go (no h) = omega (arith, ap (λ (b : Bool). length (cond b (m ∷ []) [])) (not-its c m h (present m)))
+      go (no h) = omega (arith, ap (λ (b : Bool). length (cond b (m ∷ []) [])) (not_its c m h (present m)))
 
   more : (m C : ℕ) → length (rows (suc m) C) ≤ length (rows m C) + (1 - (suc (ones m) - C))
   unfolding up_to rows_of
@@ -67,24 +67,24 @@ module _ (present : ℕ → Bool) where
   no_rows zero = refl
   no_rows (suc C) = length-append (rows 0 C) [] ∙ omega (arith, no_rows C)
 
-  pub few-rows : (m C : ℕ) → length (rows m C) ≤ m
-  few-rows zero C = omega (arith, no_rows C)
-  few-rows (suc m) C = omega (arith, more m C, few-rows m C)
+  pub few_rows : (m C : ℕ) → length (rows m C) ≤ m
+  few_rows zero C = omega (arith, no_rows C)
+  few_rows (suc m) C = omega (arith, more m C, few_rows m C)
 
-  pub order-few : (n : ℕ) → length (rowOrder present n) ≤ 2 ^ n
-  unfolding rowOrder
-  order-few n = few-rows (2 ^ n) (suc n)
+  pub order_few : (n : ℕ) → length (row_order present n) ≤ 2 ^ n
+  unfolding row_order
+  order_few n = few_rows (2 ^ n) (suc n)
 
-  pub above-few : (n S : ℕ) → length (above n present S) ≤ 2 ^ n
+  pub above_few : (n S : ℕ) → length (above n present S) ≤ 2 ^ n
   unfolding above
-  above-few n S = omega (arith, keep-length (strictSubset n S) (rowOrder present n), order-few n)
+  above_few n S = omega (arith, keep_length (strict_subset n S) (row_order present n), order_few n)
 
   -- ---- as the loops go on
 
   -- one mask more
-  pub level-next : (c s : ℕ) → rows_of present c (s + 1) ≡ rows_of present c s ++ row present c s
+  pub level_next : (c s : ℕ) → rows_of present c (s + 1) ≡ rows_of present c s ++ row present c s
   unfolding up_to rows_of
-  level-next c s = ap (rows_of present c) (add-one s)
+  level_next c s = ap (rows_of present c) (add-one s)
 
   -- one number of heads more
   pub rows_next : (m c : ℕ) → rows m (c + 1) ≡ rows m c ++ rows_of present c m
@@ -101,30 +101,30 @@ one_kept c S false = refl
 
 module _ (present : ℕ → Bool) where
   -- the present rows below m
-  abbrev pub rowsBelow : ℕ → List ℕ
-  rowsBelow m = keep present (tab (λ S. S) m)
+  abbrev pub rows_below : ℕ → List ℕ
+  rows_below m = keep present (tab (λ S. S) m)
 
   -- those of c heads
-  pub level-kept : (c m : ℕ) → keep (λ S. eqb (ones S) c) (rowsBelow m) ≡ rows_of present c m
+  pub level_kept : (c m : ℕ) → keep (λ S. eqb (ones S) c) (rows_below m) ≡ rows_of present c m
   unfolding up_to keep tab rows_of
-  level-kept c zero = refl
-  level-kept c (suc m) =
-      ap (keep (λ S. eqb (ones S) c)) (keep-push present (tab (λ S. S) m) m)
-      ∙ keep_append (λ S. eqb (ones S) c) (rowsBelow m) (cond (present m) (m ∷ []) [])
-      ∙ ap₂ ◌++◌ (level-kept c m) (one_kept c m (present m))
+  level_kept c zero = refl
+  level_kept c (suc m) =
+      ap (keep (λ S. eqb (ones S) c)) (keep_push present (tab (λ S. S) m) m)
+      ∙ keep_append (λ S. eqb (ones S) c) (rows_below m) (cond (present m) (m ∷ []) [])
+      ∙ ap₂ ◌++◌ (level_kept c m) (one_kept c m (present m))
 
-  below_next : (s : ℕ) (b : Bool) → present s ≡ b → rowsBelow s ++ cond b (s ∷ []) [] ≡ rowsBelow (s + 1)
+  below_next : (s : ℕ) (b : Bool) → present s ≡ b → rows_below s ++ cond b (s ∷ []) [] ≡ rows_below (s + 1)
   unfolding tab
   below_next s b e =
-      ap (λ (b : Bool). rowsBelow s ++ cond b (s ∷ []) []) (sym e)
-      ∙ sym (ap rowsBelow (add-one s) ∙ keep-push present (tab (λ S. S) s) s)
+      ap (λ (b : Bool). rows_below s ++ cond b (s ∷ []) []) (sym e)
+      ∙ sym (ap rows_below (add-one s) ∙ keep_push present (tab (λ S. S) s) s)
 
   -- one mask more
-  pub below-with : (s : ℕ) → present s ≡ true → rowsBelow s ++ (s ∷ []) ≡ rowsBelow (s + 1)
-  below-with s e = below_next s true e
+  pub below_with : (s : ℕ) → present s ≡ true → rows_below s ++ (s ∷ []) ≡ rows_below (s + 1)
+  below_with s e = below_next s true e
 
-  pub below-without : (s : ℕ) → present s ≡ false → rowsBelow s ≡ rowsBelow (s + 1)
-  below-without s e = sym (append-nil (rowsBelow s)) ∙ below_next s false e
+  pub below_without : (s : ℕ) → present s ≡ false → rows_below s ≡ rows_below (s + 1)
+  below_without s e = sym (append-nil (rows_below s)) ∙ below_next s false e
 
 -- the write of one row
 pub put : (all R : List ℕ) (k s : ℕ) → k < length all → take k all ≡ R → take (k + 1) (set all k s) ≡ R ++ (s ∷ [])

@@ -8,11 +8,11 @@ use lib.Arith.{digits_div, digits_mod}
 use lib.ListN.{length, get_or, take, drop}
 use lib.Seq.{take_at, drop-drop, ext_get_or}
 use Rattle.lists.specs.Written.{tab, written}
-use Rattle.lists.proofs.Writing.{length-tab, getD-tab, tab-cong, drop-written}
+use Rattle.lists.proofs.Writing.{length_tab, get_d_tab, tab_cong, drop_written}
 
 -- the row of a place
-pub row-of-place : (width s x : ℕ) → s * width ≤ x → x < suc s * width → x / width ≡ s
-row-of-place width s x h k =
+pub row_of_place : (width s x : ℕ) → s * width ≤ x → x < suc s * width → x / width ≡ s
+row_of_place width s x h k =
     let e : s * width + (x - s * width) ≡ x = omega arith in
     ap (λ (y : ℕ). y / width) (sym e) ∙ digits_div s {m = width} (omega arith)
 
@@ -24,48 +24,48 @@ place x m (suc w) h = (omega arith, (div-lt_iff_lt-mul {k = suc w} {x = x} {y = 
 -- ---- rows one after another
 
 module _ {A : Type 0} where
-  tab-add : (f : ℕ → A) (m k : ℕ) → tab f (m + k) ≡ tab f m ++ tab (λ i. f (m + i)) k
+  tab_add : (f : ℕ → A) (m k : ℕ) → tab f (m + k) ≡ tab f m ++ tab (λ i. f (m + i)) k
   unfolding tab
-  tab-add f m zero = let e : m + 0 ≡ m = omega arith in ap (tab f) e ∙ sym (append-nil (tab f m))
-  tab-add f m (suc k) =
+  tab_add f m zero = let e : m + 0 ≡ m = omega arith in ap (tab f) e ∙ sym (append-nil (tab f m))
+  tab_add f m (suc k) =
       let e : m + suc k ≡ suc (m + k) = omega arith in
-      ap (tab f) e ∙ ap (λ (l : List A). l ++ (f (m + k) ∷ [])) (tab-add f m k)
+      ap (tab f) e ∙ ap (λ (l : List A). l ++ (f (m + k) ∷ [])) (tab_add f m k)
       ∙ append_assoc (tab f m) (tab (λ i. f (m + i)) k) (f (m + k) ∷ [])
 
   -- a list by its places
-  pub tab-of : (l : List A) (d : A) → l ≡ tab (λ i. get_or l i d) (length l)
-  tab-of l d =
-      ext_get_or d l (tab (λ i. get_or l i d) (length l)) (sym (length-tab (λ i. get_or l i d) (length l)))
-      (λ i h. sym (getD-tab (λ i. get_or l i d) (length l) i d h))
+  pub tab_of : (l : List A) (d : A) → l ≡ tab (λ i. get_or l i d) (length l)
+  tab_of l d =
+      ext_get_or d l (tab (λ i. get_or l i d) (length l)) (sym (length_tab (λ i. get_or l i d) (length l)))
+      (λ i h. sym (get_d_tab (λ i. get_or l i d) (length l) i d h))
 
   -- number x of the rows is number x % width of row x / width
-  abbrev pub byRow : ℕ → A → (ℕ → List A) → ℕ → A
-  byRow width d row x = get_or (row (x / width)) (x % width) d
+  abbrev pub by_row : ℕ → A → (ℕ → List A) → ℕ → A
+  by_row width d row x = get_or (row (x / width)) (x % width) d
 
   -- row s laid after those before it
   pub row_written : (width s : ℕ) (d : A) (row : ℕ → List A) (l now : List A) → suc s * width ≤ length l → length (row s) ≡ width
-      → now ≡ written (byRow width d row) (s * width) l
-      → take (s * width) now ++ (row s ++ drop width (drop (s * width) now)) ≡ written (byRow width d row) ((s + 1) * width) l
+      → now ≡ written (by_row width d row) (s * width) l
+      → take (s * width) now ++ (row s ++ drop width (drop (s * width) now)) ≡ written (by_row width d row) ((s + 1) * width) l
   row_written width s d row l now room many e =
       let end : s * width + width ≡ (s + 1) * width = omega arith in
       ap₂ (λ (a b : List A). a ++ b) before (ap₂ (λ (a b : List A). a ++ b) own beyond)
       ∙ sym (append_assoc (tab F (s * width)) (tab (λ i. F (s * width + i)) width) (drop (s * width + width) l))
-      ∙ ap (λ (a : List A). a ++ drop (s * width + width) l) (sym (tab-add F (s * width) width))
+      ∙ ap (λ (a : List A). a ++ drop (s * width + width) l) (sym (tab_add F (s * width) width))
       ∙ ap (λ (m : ℕ). written F m l) end
     where
       F : ℕ → A
-      F = byRow width d row
+      F = by_row width d row
 
       before : take (s * width) now ≡ tab F (s * width)
-      before = ap (take (s * width)) e ∙ take_at (tab F (s * width)) (drop (s * width) l) (s * width) (length-tab F (s * width))
+      before = ap (take (s * width)) e ∙ take_at (tab F (s * width)) (drop (s * width) l) (s * width) (length_tab F (s * width))
 
       beyond : drop width (drop (s * width) now) ≡ drop (s * width + width) l
       beyond =
           drop-drop width (s * width) now ∙ ap (drop (s * width + width)) e
-          ∙ drop-written F (s * width) (s * width + width) l (omega arith)
+          ∙ drop_written F (s * width) (s * width + width) l (omega arith)
 
       own : row s ≡ tab (λ i. F (s * width + i)) width
       own =
-          tab-of (row s) d ∙ ap (tab (λ i. get_or (row s) i d)) many
-          ∙ tab-cong (λ i. get_or (row s) i d) (λ i. F (s * width + i)) width
+          tab_of (row s) d ∙ ap (tab (λ i. get_or (row s) i d)) many
+          ∙ tab_cong (λ i. get_or (row s) i d) (λ i. F (s * width + i)) width
           (λ i h. sym (ap₂ (λ (q r : ℕ). get_or (row q) r d) (digits_div s h) (digits_mod s h)))

@@ -7,16 +7,16 @@ use Rattle.lists.specs.Every.{Every}
 use Rattle.masks.specs.Mask.{subset}
 use Rattle.binary64.specs.Constants.{zero64}
 use Rattle.binary64.specs.Floats.{◌+ᶠ◌, ◌-ᶠ◌}
-use Rattle.exclusive.specs.RowOrder.{rowOrder}
-use Rattle.exclusive.specs.Exclusive.{sumOnto, unclamped}
+use Rattle.exclusive.specs.RowOrder.{row_order}
+use Rattle.exclusive.specs.Exclusive.{sum_onto, unclamped}
 
 -- number k of row S
 abbrev pub entry : ℕ → List Float → ℕ → ℕ → Float
 entry width numbers k S = get_or numbers (S * width + k) nan
 
 -- the sum of number k of each row of a list
-abbrev pub rowSums : ℕ → List Float → List ℕ → ℕ → Float
-rowSums width numbers rows k = sumOnto (entry width numbers k) zero64 rows
+abbrev pub row_sums : ℕ → List Float → List ℕ → ℕ → Float
+row_sums width numbers rows k = sum_onto (entry width numbers k) zero64 rows
 
 -- From the first k numbers of row S their sums are subtracted. All other numbers stay.
 pub record RowSubtracted (width S : ℕ) (sums : ℕ → Float) (k : ℕ) (before after : List Float) : Type 0 where
@@ -27,7 +27,7 @@ pub record RowSubtracted (width S : ℕ) (sums : ℕ → Float) (k : ℕ) (befor
 
 -- Each number of each present row is its unclamped exclusive. Absent rows and what is beyond row 2^n - 1 stay.
 pub record Subtracted (n : ℕ) (present : ℕ → Bool) (width : ℕ) (before after : List Float) : Type 0 where
-  pub rows : (k : ℕ) → k < width → Every (λ S. entry width after k S ≡ unclamped n present (entry width before k) S) (rowOrder present n)
+  pub rows : (k : ℕ) → k < width → Every (λ S. entry width after k S ≡ unclamped n present (entry width before k) S) (row_order present n)
   pub absent : (S k : ℕ) → present S ≡ false → k < width → entry width after k S ≡ entry width before k S
   pub rest : drop (2 ^ n * width) after ≡ drop (2 ^ n * width) before
   pub many : length after ≡ length before
@@ -35,13 +35,13 @@ pub record Subtracted (n : ℕ) (present : ℕ → Bool) (width : ℕ) (before a
 -- ---- levels: the rows from place lo to place hi of the order, all of as many heads
 
 -- f of each row that passes, and +0 of the others, added one after another
-unfoldable pub sumAll : (ℕ → Float) → (ℕ → Bool) → Float → List ℕ → Float
-sumAll f p sum [] = sum
-sumAll f p sum (T ∷ rest) = sumAll f p (sum +ᶠ cond (p T) (f T) zero64) rest
+unfoldable pub sum_all : (ℕ → Float) → (ℕ → Bool) → Float → List ℕ → Float
+sum_all f p sum [] = sum
+sum_all f p sum (T ∷ rest) = sum_all f p (sum +ᶠ cond (p T) (f T) zero64) rest
 
 -- To the sum of each row of the level f of the rows that are its supersets is added, one after another, and +0 of the others. The sums of the
 -- rows before the level stay.
 pub record LevelAdded (order : List ℕ) (lo hi : ℕ) (f : ℕ → Float) (rows : List ℕ) (before after : List Float) : Type 0 where
-  pub level : (i : ℕ) → lo ≤ i → i < hi → get_or after i nan ≡ sumAll f (subset 64 (get_or order i 0)) (get_or before i nan) rows
+  pub level : (i : ℕ) → lo ≤ i → i < hi → get_or after i nan ≡ sum_all f (subset 64 (get_or order i 0)) (get_or before i nan) rows
   pub lower : (i : ℕ) → i < lo → get_or after i nan ≡ get_or before i nan
   pub many : length after ≡ length before

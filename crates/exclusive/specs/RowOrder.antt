@@ -1,5 +1,5 @@
 -- "Rows are ordered by number of heads, then by mask": the present rows of a table as a list, and the claim that the list is so ordered,
--- which proofs/RowOrder.antt proves: `rows-ordered`.
+-- which proofs/RowOrder.antt proves: `rows_ordered`.
 use Rattle.std.specs.Prelude.{ℕ, suc, ◌<◌, ◌^◌, Bool, cond, ◌&&◌, List, [], ◌∷◌, ◌⊎◌, ◌≡◌, eqb, take}
 use Rattle.std.specs.Int.Count.{ones}
 use Rattle.lists.specs.Lists.{up_to}
@@ -12,9 +12,9 @@ unfolding up_to
 rows_of present c m = up_to (λ S. cond (present S && eqb (ones S) c) (S ∷ []) []) m
 
 -- the present rows of a table of n heads, in row order
-unfoldable pub rowOrder : (ℕ → Bool) → ℕ → List ℕ
+unfoldable pub row_order : (ℕ → Bool) → ℕ → List ℕ
 unfolding up_to rows_of
-rowOrder present n = up_to (λ c. rows_of present c (2 ^ n)) (suc n)
+row_order present n = up_to (λ c. rows_of present c (2 ^ n)) (suc n)
 
 -- row S comes before row T
 abbrev pub Earlier : ℕ → ℕ → Type 0
@@ -26,8 +26,8 @@ Ordered [] = Unit
 Ordered (S ∷ l) = Every (Earlier S) l × Ordered l
 
 abbrev pub RowsOrdered : Type 0
-RowsOrdered = (present : ℕ → Bool) (n : ℕ) → Ordered (rowOrder present n)
+RowsOrdered = (present : ℕ → Bool) (n : ℕ) → Ordered (row_order present n)
 
 -- what a struct of a count and an array stands for: the first so many of the array
-abbrev pub rowList : Rows → List ℕ
-rowList r = take r.n r.all
+abbrev pub row_list : Rows → List ℕ
+row_list r = take r.n r.all

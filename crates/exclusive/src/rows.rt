@@ -4,7 +4,7 @@ ghost use Rattle.std.specs.Int.Count.{ones};
 ghost use Rattle.lists.specs.Lists.{keep};
 ghost use Rattle.lists.specs.Written.{tab, written};
 ghost use Rattle.masks.specs.Presence.{stands};
-ghost use Rattle.exclusive.specs.RowOrder.{rowOrder, rowList};
+ghost use Rattle.exclusive.specs.RowOrder.{row_order, row_list};
 
 use crate::areas::shorter;
 
@@ -28,7 +28,7 @@ pub(crate) fn row_count(n: usize, places: usize) -> usize
 // test.
 fn present_rows(present: &[u8], n: usize) -> Rows
     requires { (n ≤ 10) × (2 ^ n ≤ length present.now) }
-    ensures result_value { rowList result ≡ keep (stands present.now) (tab (λ S. S) (2 ^ n)) }
+    ensures result_value { row_list result ≡ keep (stands present.now) (tab (λ S. S) (2 ^ n)) }
     ensures n_bound { (result.n ≤ 1024) × (length result.all ≡ 1024) }
 {
     let masks = row_count(n, present.len());
@@ -61,7 +61,7 @@ fn row_heads(masks: &[usize; 1024], count: usize) -> [u32; 1024]
 // The present rows of n heads: by number of heads, then by mask.
 pub(crate) fn row_order(present: &[u8], n: usize) -> Rows
     requires { (n ≤ 10) × (2 ^ n ≤ length present.now) }
-    ensures result_value { rowList result ≡ rowOrder (stands present.now) n }
+    ensures result_value { row_list result ≡ row_order (stands present.now) n }
     ensures n_bound { (result.n ≤ 1024) × (length result.all ≡ 1024) }
 {
     let found = present_rows(present, n);

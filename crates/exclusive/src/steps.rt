@@ -2,8 +2,8 @@
 // specs/Entries.antt.
 ghost use Rattle.std.specs.Prelude.{◌≡◌, cond, [], min, ◌≤◌, eqb, length};
 ghost use Rattle.masks.specs.Presence.{stands};
-ghost use Rattle.exclusive.specs.RowOrder.{rowOrder, rowList};
-ghost use Rattle.exclusive.specs.Exclusive.{rowsAnswer};
+ghost use Rattle.exclusive.specs.RowOrder.{row_order, row_list};
+ghost use Rattle.exclusive.specs.Exclusive.{rows_answer};
 ghost use Rattle.exclusive.specs.Entries.{Subtracted};
 
 use crate::areas::{rows_answer, shorter};
@@ -12,7 +12,7 @@ use crate::rows::{Rows, row_order};
 
 // The present rows of n heads in row order; none where there are more than ten heads or fewer than 2^n presence bytes.
 pub fn rows_in_order(present: &[u8], n: usize) -> Rows
-    ensures result_value { rowList result ≡ cond (eqb (rowsAnswer n (length present.now)) 0) (rowOrder (stands present.now) n) [] }
+    ensures result_value { row_list result ≡ cond (eqb (rows_answer n (length present.now)) 0) (row_order (stands present.now) n) [] }
     ensures n_bound { (result.n ≤ 1024) × (length result.all ≡ 1024) }
 {
     let answer = rows_answer(n, present.len());
@@ -28,7 +28,7 @@ pub fn rows_in_order(present: &[u8], n: usize) -> Rows
 // Each area less the sum of what stands for its row's strict supersets, in place, and not yet clamped: the answer is 0, or 2 for more than
 // ten heads, or 7 where a table has fewer than 2^n rows; then nothing is written. Absent rows and what is beyond stay.
 pub fn to_unclamped_areas(present: &[u8], areas: &mut [f64], n: usize) -> u8
-    ensures value { result ≡ rowsAnswer n (min (length present.now) (length areas.old)) }
+    ensures value { result ≡ rows_answer n (min (length present.now) (length areas.old)) }
     ensures subtracted { result ≡ 0 → Subtracted n (stands present.now) 1 areas.old areas.new }
     ensures areas_unchanged { (result ≡ 0 → ⊥) → areas.new ≡ areas.old }
 {

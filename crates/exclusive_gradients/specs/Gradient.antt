@@ -7,7 +7,7 @@ use Rattle.std.specs.Float.Ieee.{lt}
 use Rattle.lists.specs.Written.{written}
 use Rattle.masks.specs.Presence.{stands}
 use Rattle.binary64.specs.Constants.{zero64}
-use Rattle.exclusive.specs.Exclusive.{unclamped, rowsAnswer}
+use Rattle.exclusive.specs.Exclusive.{unclamped, rows_answer}
 use Rattle.exclusive.specs.Entries.{entry}
 
 module _ (n : ℕ) (present : ℕ → Bool) (area : ℕ → Float) where
@@ -16,45 +16,45 @@ module _ (n : ℕ) (present : ℕ → Bool) (area : ℕ → Float) where
   replaced S = lt (unclamped n present area S) zero64
 
   -- +0 where the row is absent or replaced, and otherwise the row's unclamped exclusive of some numbers, one a row
-  abbrev pub unlessReplaced : (ℕ → Float) → ℕ → Float
-  unlessReplaced number S = cond (present S) (cond (replaced S) zero64 (unclamped n present number S)) zero64
+  abbrev pub unless_replaced : (ℕ → Float) → ℕ → Float
+  unless_replaced number S = cond (present S) (cond (replaced S) zero64 (unclamped n present number S)) zero64
 
   -- the area that goes with the gradient
-  abbrev pub exclusiveWithGradient : ℕ → Float
-  exclusiveWithGradient = unlessReplaced area
+  abbrev pub exclusive_with_gradient : ℕ → Float
+  exclusive_with_gradient = unless_replaced area
 
 -- ---- the call over lent tables: areas and gradients on entry, exclusives and their gradients on exit
 
 -- Document 01's number for tables of so many rows and a gradient table of so many numbers: 7 also where those are fewer than 2^n times the width.
-abbrev pub widthAnswer : ℕ → ℕ → ℕ → ℕ → ℕ
-widthAnswer n width rows count =
-    let answer = rowsAnswer n rows in
+abbrev pub width_answer : ℕ → ℕ → ℕ → ℕ → ℕ
+width_answer n width rows count =
+    let answer = rows_answer n rows in
     cond (eqb answer 0) (cond (ltb count (2 ^ n * width)) 7 0) answer
 
-abbrev pub gradientAnswer : ℕ → ℕ → List ℕ → List Float → List Float → ℕ
-gradientAnswer n width bytes areas gradients = widthAnswer n width (min (length bytes) (length areas)) (length gradients)
+abbrev pub gradient_answer : ℕ → ℕ → List ℕ → List Float → List Float → ℕ
+gradient_answer n width bytes areas gradients = width_answer n width (min (length bytes) (length areas)) (length gradients)
 
 -- the areas in place
-abbrev pub exclusiveAreas : ℕ → ℕ → List ℕ → List Float → List Float → List Float
-exclusiveAreas n width bytes areas gradients =
-    cond (eqb (gradientAnswer n width bytes areas gradients) 0)
-    (written (exclusiveWithGradient n (stands bytes) (λ S. get_or areas S nan)) (2 ^ n) areas)
+abbrev pub exclusive_areas : ℕ → ℕ → List ℕ → List Float → List Float → List Float
+exclusive_areas n width bytes areas gradients =
+    cond (eqb (gradient_answer n width bytes areas gradients) 0)
+    (written (exclusive_with_gradient n (stands bytes) (λ S. get_or areas S nan)) (2 ^ n) areas)
     areas
 
 -- number x of the gradients: entry x % width of row x / width
-abbrev pub gradientEntry : ℕ → ℕ → List ℕ → List Float → List Float → ℕ → Float
-gradientEntry n width bytes areas gradients x =
-    unlessReplaced n (stands bytes) (λ S. get_or areas S nan) (entry width gradients (x % width)) (x / width)
+abbrev pub gradient_entry : ℕ → ℕ → List ℕ → List Float → List Float → ℕ → Float
+gradient_entry n width bytes areas gradients x =
+    unless_replaced n (stands bytes) (λ S. get_or areas S nan) (entry width gradients (x % width)) (x / width)
 
 -- the gradients in place
-abbrev pub exclusiveGradients : ℕ → ℕ → List ℕ → List Float → List Float → List Float
-exclusiveGradients n width bytes areas gradients =
-    cond (eqb (gradientAnswer n width bytes areas gradients) 0)
-    (written (gradientEntry n width bytes areas gradients) (2 ^ n * width) gradients)
+abbrev pub exclusive_gradients : ℕ → ℕ → List ℕ → List Float → List Float → List Float
+exclusive_gradients n width bytes areas gradients =
+    cond (eqb (gradient_answer n width bytes areas gradients) 0)
+    (written (gradient_entry n width bytes areas gradients) (2 ^ n * width) gradients)
     gradients
 
 -- ---- what the private functions promise one another
 
 -- A row keeps its numbers where it is present and its area, its supersets' subtracted, is not below zero.
-abbrev pub keptRow : List ℕ → List Float → ℕ → Bool
-keptRow bytes areas S = stands bytes S && not (lt (get_or areas S nan) zero64)
+abbrev pub kept_row : List ℕ → List Float → ℕ → Bool
+kept_row bytes areas S = stands bytes S && not (lt (get_or areas S nan) zero64)

@@ -5,7 +5,7 @@ ghost use Rattle.std.specs.Float.Ieee.{lt};
 ghost use Rattle.lists.specs.Written.{written};
 ghost use Rattle.masks.specs.Presence.{stands};
 ghost use Rattle.binary64.specs.Constants.{zero64};
-ghost use Rattle.exclusive_gradients.specs.Gradient.{exclusiveWithGradient, widthAnswer, gradientEntry, gradientAnswer, exclusiveAreas, exclusiveGradients, keptRow};
+ghost use Rattle.exclusive_gradients.specs.Gradient.{exclusive_with_gradient, width_answer, gradient_entry, gradient_answer, exclusive_areas, exclusive_gradients, kept_row};
 
 use crate::subtract::subtract_supersets;
 use exclusive::areas::{rows_answer, shorter};
@@ -14,7 +14,7 @@ use exclusive::steps::to_unclamped_areas;
 // The answer for tables of so many rows and a gradient table of `count` numbers, `width` a row: 0, or document 01's number. The room for
 // the gradients is asked by division, since 2^n times the width may not fit a usize.
 pub fn width_answer(n: usize, rows: usize, count: usize, width: usize) -> u8
-    ensures { result ≡ widthAnswer n width rows count }
+    ensures { result ≡ width_answer n width rows count }
 {
     let answer = rows_answer(n, rows);
     if answer == 0 {
@@ -53,8 +53,8 @@ fn zero_row(numbers: &mut [f64], s: usize, width: usize)
 // "The gradient form only replaces values below 0.0 and then zeroes that gradient row." Absent rows are +0.
 fn replace_rows(present: &[u8], areas: &mut [f64], gradients: &mut [f64], n: usize, width: usize)
     requires { (n ≤ 10) × (2 ^ n ≤ length present.now) × (2 ^ n ≤ length areas.old) × (2 ^ n * width ≤ length gradients.old) }
-    ensures areas_after { areas.new ≡ written (λ S. cond (keptRow present.now areas.old S) (get_or areas.old S nan) zero64) (2 ^ n) areas.old }
-    ensures gradients_after { gradients.new ≡ written (λ x. cond (keptRow present.now areas.old (x / width)) (get_or gradients.old x nan) zero64) (2 ^ n * width) gradients.old }
+    ensures areas_after { areas.new ≡ written (λ S. cond (kept_row present.now areas.old S) (get_or areas.old S nan) zero64) (2 ^ n) areas.old }
+    ensures gradients_after { gradients.new ≡ written (λ x. cond (kept_row present.now areas.old (x / width)) (get_or gradients.old x nan) zero64) (2 ^ n * width) gradients.old }
 {
     let masks = 1usize << n;
     let mut s: usize = 0;
@@ -76,8 +76,8 @@ fn write_exclusives_and_gradients(
     width: usize,
 )
     requires { (n ≤ 10) × (2 ^ n ≤ length present.now) × (2 ^ n ≤ length areas.old) × (2 ^ n * width ≤ length gradients.old) }
-    ensures areas_after { areas.new ≡ written (exclusiveWithGradient n (stands present.now) (λ S. get_or areas.old S nan)) (2 ^ n) areas.old }
-    ensures gradients_after { gradients.new ≡ written (gradientEntry n width present.now areas.old gradients.old) (2 ^ n * width) gradients.old }
+    ensures areas_after { areas.new ≡ written (exclusive_with_gradient n (stands present.now) (λ S. get_or areas.old S nan)) (2 ^ n) areas.old }
+    ensures gradients_after { gradients.new ≡ written (gradient_entry n width present.now areas.old gradients.old) (2 ^ n * width) gradients.old }
 {
     to_unclamped_areas(present, areas, n);
     subtract_supersets(present, gradients, n, width);
@@ -94,9 +94,9 @@ pub fn to_exclusive_areas_and_gradients(
     n: usize,
     width: usize,
 ) -> u8
-    ensures value { result ≡ gradientAnswer n width present.now areas.old gradients.old }
-    ensures areas_after { areas.new ≡ exclusiveAreas n width present.now areas.old gradients.old }
-    ensures gradients_after { gradients.new ≡ exclusiveGradients n width present.now areas.old gradients.old }
+    ensures value { result ≡ gradient_answer n width present.now areas.old gradients.old }
+    ensures areas_after { areas.new ≡ exclusive_areas n width present.now areas.old gradients.old }
+    ensures gradients_after { gradients.new ≡ exclusive_gradients n width present.now areas.old gradients.old }
 {
     let rows = shorter(present.len(), areas.len());
     let answer = width_answer(n, rows, gradients.len(), width);

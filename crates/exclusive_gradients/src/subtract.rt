@@ -8,7 +8,7 @@ ghost use Rattle.lists.specs.Written.{tab};
 ghost use Rattle.masks.specs.Mask.{subset};
 ghost use Rattle.masks.specs.Presence.{stands};
 ghost use Rattle.binary64.specs.Floats.{◌+ᶠ◌};
-ghost use Rattle.exclusive.specs.Entries.{rowSums, RowSubtracted, Subtracted};
+ghost use Rattle.exclusive.specs.Entries.{row_sums, RowSubtracted, Subtracted};
 
 use exclusive::steps::rows_in_order;
 use masks::is_subset;
@@ -41,7 +41,7 @@ fn collect_supersets(
 // The sum of number k of each of the first `count` rows of a list.
 fn sum_rows(rows: &[usize; 1024], count: usize, numbers: &[f64], width: usize, k: usize) -> f64
     requires { (count ≤ 1024) × (length rows.now ≡ 1024) × (k < width) × Every (λ T. suc T * width ≤ length numbers.now) (take count rows.now) }
-    ensures { result ≡ rowSums width numbers.now (take count rows.now) k }
+    ensures { result ≡ row_sums width numbers.now (take count rows.now) k }
 {
     let mut sum = 0.0;
     let mut j: usize = 0;
@@ -56,7 +56,7 @@ fn sum_rows(rows: &[usize; 1024], count: usize, numbers: &[f64], width: usize, k
 // From each number of row s the sum of that number of the first `count` rows of a list, one number at a time.
 fn subtract_numbers(s: usize, rows: &[usize; 1024], count: usize, numbers: &mut [f64], width: usize)
     requires { (count ≤ 1024) × (length rows.now ≡ 1024) × (suc s * width ≤ length numbers.old) × Every (λ T. suc T * width ≤ length numbers.old) (take count rows.now) × Every (λ T. T ≡ s → ⊥) (take count rows.now) }
-    ensures { RowSubtracted width s (rowSums width numbers.old (take count rows.now)) width numbers.old numbers.new }
+    ensures { RowSubtracted width s (row_sums width numbers.old (take count rows.now)) width numbers.old numbers.new }
 {
     let mut k: usize = 0;
     while k < width {
@@ -88,7 +88,7 @@ fn sum_eight(
     k: usize,
 ) -> [f64; 8]
     requires { (count ≤ 1024) × (length rows.now ≡ 1024) × (k + 8 ≤ width) × Every (λ T. suc T * width ≤ length numbers.now) (take count rows.now) }
-    ensures { result ≡ tab (λ q. rowSums width numbers.now (take count rows.now) (k + q)) 8 }
+    ensures { result ≡ tab (λ q. row_sums width numbers.now (take count rows.now) (k + q)) 8 }
 {
     let mut sums = [0.0; 8];
     let mut j: usize = 0;
@@ -114,7 +114,7 @@ fn eight_start(k: usize, width: usize) -> usize
 // The same, eight numbers at a time: their sums do not wait for one another.
 fn subtract_eights(s: usize, rows: &[usize; 1024], count: usize, numbers: &mut [f64], width: usize)
     requires { (8 ≤ width) × (count ≤ 1024) × (length rows.now ≡ 1024) × (suc s * width ≤ length numbers.old) × Every (λ T. suc T * width ≤ length numbers.old) (take count rows.now) × Every (λ T. T ≡ s → ⊥) (take count rows.now) }
-    ensures { RowSubtracted width s (rowSums width numbers.old (take count rows.now)) width numbers.old numbers.new }
+    ensures { RowSubtracted width s (row_sums width numbers.old (take count rows.now)) width numbers.old numbers.new }
 {
     let mut k: usize = 0;
     while k < width {
@@ -131,7 +131,7 @@ fn subtract_eights(s: usize, rows: &[usize; 1024], count: usize, numbers: &mut [
 // From each number of row s the sum of that number of the first `count` rows of a list.
 fn subtract_row(s: usize, rows: &[usize; 1024], count: usize, numbers: &mut [f64], width: usize)
     requires { (count ≤ 1024) × (length rows.now ≡ 1024) × (suc s * width ≤ length numbers.old) × Every (λ T. suc T * width ≤ length numbers.old) (take count rows.now) × Every (λ T. T ≡ s → ⊥) (take count rows.now) }
-    ensures { RowSubtracted width s (rowSums width numbers.old (take count rows.now)) width numbers.old numbers.new }
+    ensures { RowSubtracted width s (row_sums width numbers.old (take count rows.now)) width numbers.old numbers.new }
 {
     if width < 8 {
         subtract_numbers(s, rows, count, numbers, width);

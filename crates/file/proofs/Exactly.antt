@@ -19,22 +19,22 @@ use Rattle.plan.specs.declared.Refusal.TheVariants.{Ended, TablesTooShort}
 use Rattle.plan.specs.Book.{with_head}
 use Rattle.plan.specs.Checks.{first_of}
 use Rattle.plan.specs.Exactly.{Satisfied}
-use Rattle.plan.specs.Table.{holds, refusalOf, number_of, answerNumber, answerOffset, examined}
-use Rattle.plan.proofs.Answers.{firstOf-assoc}
-use Rattle.plan.proofs.Exactly.{holds-exactly}
+use Rattle.plan.specs.Table.{holds, refusal_of, number_of, answer_number, answer_offset, examined}
+use Rattle.plan.proofs.Answers.{first_of_assoc}
+use Rattle.plan.proofs.Exactly.{holds_exactly}
 use Rattle.file.specs.declared.reader.Handed.TheVariants.{Nothing, ThePlan}
 use Rattle.file.specs.declared.reader.Reader.{Reader}
 use Rattle.file.specs.declared.reader.Stage.{Stage}
 use Rattle.file.specs.declared.reader.Stage.TheVariants.{AtCount, AtMap, AtByte0, AtByte1, AtByte2, AtByte3, AtEdit, Stopped}
 use Rattle.file.specs.declared.reader.Target.{Target}
 use Rattle.file.specs.declared.reader.Target.TheVariants.{TheBox, HeadAt, EditOf}
-use Rattle.file.specs.File.{nextOffset, number32, readFile}
-use Rattle.file.specs.Reader.{count_of, item_of, nextField, start, move_on, goesOn, checkOr, begin, mapRead, valueRead, toField, turn, toHead, completeAt, complete, seek, choose, stepAt, step, finishedAt, finish, feed}
+use Rattle.file.specs.File.{next_offset, number32, read_file}
+use Rattle.file.specs.Reader.{count_of, item_of, next_field, start, move_on, goes_on, check_or, begin, map_read, value_read, to_field, turn, to_head, complete_at, complete, seek, choose, step_at, step, finished_at, finish, feed}
 use Rattle.file.specs.Same.{end_of}
-use Rattle.file.specs.Exactly.{Check, checkOf, checksAt, checksOf, checks, PlacedAt, ChecksPlaced, AllPassed, FirstFails, Wanted, FileTaken, FileEnded, FileRefused, FirstNumbered, FileNumber, FileSevenNever}
-use Rattle.file.proofs.Offsets.{At, Clean, fed-at, ended_at}
-use Rattle.file.proofs.Reading.{by-test, checked}
-use Rattle.file.proofs.Same.{reader-answers}
+use Rattle.file.specs.Exactly.{Check, check_of, checks_at, checks_of, checks, PlacedAt, ChecksPlaced, AllPassed, FirstFails, Wanted, FileTaken, FileEnded, FileRefused, FirstNumbered, FileNumber, FileSevenNever}
+use Rattle.file.proofs.Offsets.{At, Clean, fed_at, ended_at}
+use Rattle.file.proofs.Reading.{by_test, checked}
+use Rattle.file.proofs.Same.{reader_answers}
 
 -- ---- where a field began
 
@@ -43,51 +43,51 @@ abbrev Began : Stage → ℕ → ℕ → Type 0
 Began AtCount from at = Unit {0}
 Began AtMap from at = Unit {0}
 Began AtByte0 from at = at ≡ from
-Began (AtByte1 a) from at = at ≡ nextOffset from
-Began (AtByte2 a b) from at = at ≡ nextOffset (nextOffset from)
-Began (AtByte3 a b c) from at = at ≡ nextOffset (nextOffset (nextOffset from))
+Began (AtByte1 a) from at = at ≡ next_offset from
+Began (AtByte2 a b) from at = at ≡ next_offset (next_offset from)
+Began (AtByte3 a b c) from at = at ≡ next_offset (next_offset (next_offset from))
 Began AtEdit from at = Unit {0}
 Began (Stopped refusal o) from at = Unit {0}
 
 abbrev BeganAt : Reader → Type 0
 BeganAt r = Began r.stage r.from r.at
 
-to-head-began : (r : Reader) (p : Plan) (i : ℕ) → BeganAt (toHead r p i)
-unfolding toHead
-to-head-began r p i = by-test BeganAt (ltb i p.n) (turn r p (HeadAt i) AtMap Nothing) (turn r p TheBox AtEdit ThePlan) (λ e. tt) (λ e. tt)
+to_head_began : (r : Reader) (p : Plan) (i : ℕ) → BeganAt (to_head r p i)
+unfolding to_head
+to_head_began r p i = by_test BeganAt (ltb i p.n) (turn r p (HeadAt i) AtMap Nothing) (turn r p TheBox AtEdit ThePlan) (λ e. tt) (λ e. tt)
 
-completed-began : (t : Target) (r : Reader) → BeganAt (completeAt t r)
-unfolding completeAt
-completed-began TheBox r = to-head-began r r.plan 0
-completed-began (HeadAt i) r = to-head-began r (with_head r.plan i r.head) (suc i)
-completed-began (EditOf k) r = tt
+completed_began : (t : Target) (r : Reader) → BeganAt (complete_at t r)
+unfolding complete_at
+completed_began TheBox r = to_head_began r r.plan 0
+completed_began (HeadAt i) r = to_head_began r (with_head r.plan i r.head) (suc i)
+completed_began (EditOf k) r = tt
 
-sought-began : (r : Reader) (i : ℕ) → BeganAt (seek r i)
+sought_began : (r : Reader) (i : ℕ) → BeganAt (seek r i)
 unfolding seek
-sought-began r i =
-    let next = nextField (count_of r.target - i) r.map i in
-    by-test BeganAt (ltb next (count_of r.target)) (toField r next) (complete r) (λ e. refl) (λ e. completed-began r.target r)
+sought_began r i =
+    let next = next_field (count_of r.target - i) r.map i in
+    by_test BeganAt (ltb next (count_of r.target)) (to_field r next) (complete r) (λ e. refl) (λ e. completed_began r.target r)
 
-step-began : (stage : Stage) (r : Reader) (b : ℕ) → Began stage r.from r.at → BeganAt (stepAt stage r b)
-unfolding stepAt
-step-began AtCount r b k = checked BeganAt (Count b) r.at r (begin r b) tt tt
-step-began AtMap r b k = checked BeganAt (Map (count_of r.target) b) r.at r (seek (mapRead r b) 0) (sought-began (mapRead r b) 0) tt
-step-began AtByte0 r b k = ap nextOffset k
-step-began (AtByte1 a) r b k = ap nextOffset k
-step-began (AtByte2 a a') r b k = ap nextOffset k
-step-began (AtByte3 a a' a'') r b k =
+step_began : (stage : Stage) (r : Reader) (b : ℕ) → Began stage r.from r.at → BeganAt (step_at stage r b)
+unfolding step_at
+step_began AtCount r b k = checked BeganAt (Count b) r.at r (begin r b) tt tt
+step_began AtMap r b k = checked BeganAt (Map (count_of r.target) b) r.at r (seek (map_read r b) 0) (sought_began (map_read r b) 0) tt
+step_began AtByte0 r b k = ap next_offset k
+step_began (AtByte1 a) r b k = ap next_offset k
+step_began (AtByte2 a a') r b k = ap next_offset k
+step_began (AtByte3 a a' a'') r b k =
     let z = number32 a a' a'' b in
-    checked BeganAt (item_of r.target r.field z) r.from r (seek (valueRead r z) (suc r.field)) (sought-began (valueRead r z) (suc r.field)) tt
-step-began AtEdit r b k = checked BeganAt (HeadNumber b r.plan.n) r.at r (choose r b) tt tt
-step-began (Stopped refusal at) r b k = tt
+    checked BeganAt (item_of r.target r.field z) r.from r (seek (value_read r z) (suc r.field)) (sought_began (value_read r z) (suc r.field)) tt
+step_began AtEdit r b k = checked BeganAt (HeadNumber b r.plan.n) r.at r (choose r b) tt tt
+step_began (Stopped refusal at) r b k = tt
 
-fed-began : (r : Reader) (s : List ℕ) → BeganAt r → BeganAt (feed r s)
+fed_began : (r : Reader) (s : List ℕ) → BeganAt r → BeganAt (feed r s)
 unfolding feed
-fed-began r [] k = k
-fed-began r (b ∷ s) k = fed-began (step r b) s (step-began r.stage r b k)
+fed_began r [] k = k
+fed_began r (b ∷ s) k = fed_began (step r b) s (step_began r.stage r b k)
 
-field-placed : (t : Target) (i : ℕ) (z : ℤ) (k offset : ℕ) → offset + 3 ≡ k → PlacedAt k (item_of t i z) offset
-field-placed t i z k offset e = at t
+field_placed : (t : Target) (i : ℕ) (z : ℤ) (k offset : ℕ) → offset + 3 ≡ k → PlacedAt k (item_of t i z) offset
+field_placed t i z k offset e = at t
   where
     by : (b : Bool) (u v : Item) → PlacedAt k u offset → PlacedAt k v offset → PlacedAt k (cond b u v) offset
     by true u v p q = p
@@ -99,74 +99,74 @@ field-placed t i z k offset e = at t
     at (EditOf j) = by (ltb i 2) (Coordinate z) (Radius z) e e
 
 placed_at : (stage : Stage) (r : Reader) (b k : ℕ) → r.at ≡ k → k < 2 ^ 64 - 1 → Began stage r.from r.at
-    → Every (λ c. PlacedAt k c.item c.offset) (checksAt stage r b)
+    → Every (λ c. PlacedAt k c.item c.offset) (checks_at stage r b)
 placed_at AtCount r b k e h g = (e, tt)
 placed_at AtMap r b k e h g = (e, tt)
 placed_at AtByte0 r b k e h g = tt
 placed_at (AtByte1 a) r b k e h g = tt
 placed_at (AtByte2 a a') r b k e h g = tt
-placed_at (AtByte3 a a' a'') r b k e h g = (field-placed r.target r.field (number32 a a' a'' b) k r.from (omega arith), tt)
+placed_at (AtByte3 a a' a'') r b k e h g = (field_placed r.target r.field (number32 a a' a'' b) k r.from (omega arith), tt)
 placed_at AtEdit r b k e h g = (e, tt)
 placed_at (Stopped refusal o) r b k e h g = tt
 
-pub checks-placed : ChecksPlaced
-checks-placed s b h =
+pub checks_placed : ChecksPlaced
+checks_placed s b h =
     let r = feed start s in
-    let last = fed-at start s (omega arith) tt in
+    let last = fed_at start s (omega arith) tt in
     let here : r.at ≡ length s = omega (arith, last.0) in
-    placed_at r.stage r b (length s) here h (fed-began start s tt)
+    placed_at r.stage r b (length s) here h (fed_began start s tt)
 
 -- ---- the reader stops exactly at the first check that fails
 
 -- a check that is passed, and one that is not
-passed : (P : Reader → Type 0) (item : Item) (from : ℕ) (r next : Reader) → Satisfied item → P next → P (checkOr item from r next)
-passed P item from r next s k = subst (λ t. P (goesOn (cond t Taken (Refused (refusalOf item) from)) r next)) (sym ((holds-exactly item).1 s)) k
+passed : (P : Reader → Type 0) (item : Item) (from : ℕ) (r next : Reader) → Satisfied item → P next → P (check_or item from r next)
+passed P item from r next s k = subst (λ t. P (goes_on (cond t Taken (Refused (refusal_of item) from)) r next)) (sym ((holds_exactly item).1 s)) k
 
-failed : (item : Item) (from : ℕ) (r next : Reader) → ¬ Satisfied item → (checkOr item from r next).stage ≡ Stopped (refusalOf item) from
+failed : (item : Item) (from : ℕ) (r next : Reader) → ¬ Satisfied item → (check_or item from r next).stage ≡ Stopped (refusal_of item) from
 failed item from r next s = go (holds item) refl
   where
-    go : (t : Bool) → holds item ≡ t → (goesOn (cond t Taken (Refused (refusalOf item) from)) r next).stage ≡ Stopped (refusalOf item) from
-    go true e = absurd (s ((holds-exactly item).0 e))
+    go : (t : Bool) → holds item ≡ t → (goes_on (cond t Taken (Refused (refusal_of item) from)) r next).stage ≡ Stopped (refusal_of item) from
+    go true e = absurd (s ((holds_exactly item).0 e))
     go false e = refl
 
-stopped-step : (r : Reader) (b : ℕ) (refusal : Refusal) (o : ℕ) (stage : Stage) → stage ≡ Stopped refusal o → (stepAt stage r b).stage ≡ Stopped refusal o
-unfolding stepAt
-stopped-step r b refusal o stage e = subst (λ t. (stepAt t r b).stage ≡ Stopped refusal o) (sym e) refl
+stopped_step : (r : Reader) (b : ℕ) (refusal : Refusal) (o : ℕ) (stage : Stage) → stage ≡ Stopped refusal o → (step_at stage r b).stage ≡ Stopped refusal o
+unfolding step_at
+stopped_step r b refusal o stage e = subst (λ t. (step_at t r b).stage ≡ Stopped refusal o) (sym e) refl
 
-stays-stopped : (s : List ℕ) (r : Reader) (refusal : Refusal) (o : ℕ) → r.stage ≡ Stopped refusal o → (feed r s).stage ≡ Stopped refusal o
+stays_stopped : (s : List ℕ) (r : Reader) (refusal : Refusal) (o : ℕ) → r.stage ≡ Stopped refusal o → (feed r s).stage ≡ Stopped refusal o
 unfolding feed
-stays-stopped [] r refusal o e = e
-stays-stopped (b ∷ s) r refusal o e = stays-stopped s (step r b) refusal o (stopped-step r b refusal o r.stage e)
+stays_stopped [] r refusal o e = e
+stays_stopped (b ∷ s) r refusal o e = stays_stopped s (step r b) refusal o (stopped_step r b refusal o r.stage e)
 
 module _ (refusal : Refusal) (o : ℕ) where
   -- one check, and then the rest
-  one-fails : (item : Item) (from : ℕ) (r next : Reader) (s : List ℕ)
-      → (FirstFails refusal o (checks (checkOr item from r next) s) → (feed (checkOr item from r next) s).stage ≡ Stopped refusal o)
-      → FirstFails refusal o (checkOf item from ∷ checks (checkOr item from r next) s) → (feed (checkOr item from r next) s).stage ≡ Stopped refusal o
-  one-fails item from r next s rest =
+  one_fails : (item : Item) (from : ℕ) (r next : Reader) (s : List ℕ)
+      → (FirstFails refusal o (checks (check_or item from r next) s) → (feed (check_or item from r next) s).stage ≡ Stopped refusal o)
+      → FirstFails refusal o (check_of item from ∷ checks (check_or item from r next) s) → (feed (check_or item from r next) s).stage ≡ Stopped refusal o
+  one_fails item from r next s rest =
       ⊎_elim
-      (λ u. stays-stopped s (checkOr item from r next) refusal o (failed item from r next u.0 ∙ ap (λ x. Stopped x from) u.1 ∙ ap (Stopped refusal) u.2))
+      (λ u. stays_stopped s (check_or item from r next) refusal o (failed item from r next u.0 ∙ ap (λ x. Stopped x from) u.1 ∙ ap (Stopped refusal) u.2))
       (λ u. rest u.1)
 
-  fails-at : (stage : Stage) (r : Reader) (b : ℕ) (s : List ℕ)
-      → (FirstFails refusal o (checks (stepAt stage r b) s) → (feed (stepAt stage r b) s).stage ≡ Stopped refusal o)
-      → FirstFails refusal o (checksAt stage r b ++ checks (stepAt stage r b) s) → (feed (stepAt stage r b) s).stage ≡ Stopped refusal o
-  unfolding stepAt
-  fails-at AtCount r b s rest u = one-fails (Count b) r.at r (begin r b) s rest u
-  fails-at AtMap r b s rest u = one-fails (Map (count_of r.target) b) r.at r (seek (mapRead r b) 0) s rest u
-  fails-at AtByte0 r b s rest u = rest u
-  fails-at (AtByte1 a) r b s rest u = rest u
-  fails-at (AtByte2 a a') r b s rest u = rest u
-  fails-at (AtByte3 a a' a'') r b s rest u =
+  fails_at : (stage : Stage) (r : Reader) (b : ℕ) (s : List ℕ)
+      → (FirstFails refusal o (checks (step_at stage r b) s) → (feed (step_at stage r b) s).stage ≡ Stopped refusal o)
+      → FirstFails refusal o (checks_at stage r b ++ checks (step_at stage r b) s) → (feed (step_at stage r b) s).stage ≡ Stopped refusal o
+  unfolding step_at
+  fails_at AtCount r b s rest u = one_fails (Count b) r.at r (begin r b) s rest u
+  fails_at AtMap r b s rest u = one_fails (Map (count_of r.target) b) r.at r (seek (map_read r b) 0) s rest u
+  fails_at AtByte0 r b s rest u = rest u
+  fails_at (AtByte1 a) r b s rest u = rest u
+  fails_at (AtByte2 a a') r b s rest u = rest u
+  fails_at (AtByte3 a a' a'') r b s rest u =
       let z = number32 a a' a'' b in
-      one-fails (item_of r.target r.field z) r.from r (seek (valueRead r z) (suc r.field)) s rest u
-  fails-at AtEdit r b s rest u = one-fails (HeadNumber b r.plan.n) r.at r (choose r b) s rest u
-  fails-at (Stopped x from) r b s rest u = rest u
+      one_fails (item_of r.target r.field z) r.from r (seek (value_read r z) (suc r.field)) s rest u
+  fails_at AtEdit r b s rest u = one_fails (HeadNumber b r.plan.n) r.at r (choose r b) s rest u
+  fails_at (Stopped x from) r b s rest u = rest u
 
-  fails-stop : (s : List ℕ) (r : Reader) → FirstFails refusal o (checks r s) → (feed r s).stage ≡ Stopped refusal o
+  fails_stop : (s : List ℕ) (r : Reader) → FirstFails refusal o (checks r s) → (feed r s).stage ≡ Stopped refusal o
   unfolding feed checks
-  fails-stop [] r u = absurd u
-  fails-stop (b ∷ s) r u = fails-at r.stage r b s (fails-stop s (step r b)) u
+  fails_stop [] r u = absurd u
+  fails_stop (b ∷ s) r u = fails_at r.stage r b s (fails_stop s (step r b)) u
 
 -- not stopped
 abbrev Running : Stage → Type 0
@@ -182,47 +182,47 @@ Running (Stopped refusal at) = ⊥
 abbrev Runs : Reader → Type 0
 Runs r = Running r.stage
 
-to-head-runs : (r : Reader) (p : Plan) (i : ℕ) → Runs (toHead r p i)
-unfolding toHead
-to-head-runs r p i = by-test Runs (ltb i p.n) (turn r p (HeadAt i) AtMap Nothing) (turn r p TheBox AtEdit ThePlan) (λ e. tt) (λ e. tt)
+to_head_runs : (r : Reader) (p : Plan) (i : ℕ) → Runs (to_head r p i)
+unfolding to_head
+to_head_runs r p i = by_test Runs (ltb i p.n) (turn r p (HeadAt i) AtMap Nothing) (turn r p TheBox AtEdit ThePlan) (λ e. tt) (λ e. tt)
 
-completed-runs : (t : Target) (r : Reader) → Runs (completeAt t r)
-unfolding completeAt
-completed-runs TheBox r = to-head-runs r r.plan 0
-completed-runs (HeadAt i) r = to-head-runs r (with_head r.plan i r.head) (suc i)
-completed-runs (EditOf k) r = tt
+completed_runs : (t : Target) (r : Reader) → Runs (complete_at t r)
+unfolding complete_at
+completed_runs TheBox r = to_head_runs r r.plan 0
+completed_runs (HeadAt i) r = to_head_runs r (with_head r.plan i r.head) (suc i)
+completed_runs (EditOf k) r = tt
 
-sought-runs : (r : Reader) (i : ℕ) → Runs (seek r i)
+sought_runs : (r : Reader) (i : ℕ) → Runs (seek r i)
 unfolding seek
-sought-runs r i =
-    let next = nextField (count_of r.target - i) r.map i in
-    by-test Runs (ltb next (count_of r.target)) (toField r next) (complete r) (λ e. tt) (λ e. completed-runs r.target r)
+sought_runs r i =
+    let next = next_field (count_of r.target - i) r.map i in
+    by_test Runs (ltb next (count_of r.target)) (to_field r next) (complete r) (λ e. tt) (λ e. completed_runs r.target r)
 
 passes_at : (stage : Stage) (r : Reader) (b : ℕ) (s : List ℕ) → Running stage
-    → (Runs (stepAt stage r b) → AllPassed (checks (stepAt stage r b) s) → Runs (feed (stepAt stage r b) s))
-    → AllPassed (checksAt stage r b ++ checks (stepAt stage r b) s) → Runs (feed (stepAt stage r b) s)
-unfolding stepAt
+    → (Runs (step_at stage r b) → AllPassed (checks (step_at stage r b) s) → Runs (feed (step_at stage r b) s))
+    → AllPassed (checks_at stage r b ++ checks (step_at stage r b) s) → Runs (feed (step_at stage r b) s)
+unfolding step_at
 passes_at AtCount r b s k rest u = rest (passed Runs (Count b) r.at r (begin r b) u.0 tt) u.1
 passes_at AtMap r b s k rest u =
-    rest (passed Runs (Map (count_of r.target) b) r.at r (seek (mapRead r b) 0) u.0 (sought-runs (mapRead r b) 0)) u.1
+    rest (passed Runs (Map (count_of r.target) b) r.at r (seek (map_read r b) 0) u.0 (sought_runs (map_read r b) 0)) u.1
 passes_at AtByte0 r b s k rest u = rest tt u
 passes_at (AtByte1 a) r b s k rest u = rest tt u
 passes_at (AtByte2 a a') r b s k rest u = rest tt u
 passes_at (AtByte3 a a' a'') r b s k rest u =
     let z = number32 a a' a'' b in
-    rest (passed Runs (item_of r.target r.field z) r.from r (seek (valueRead r z) (suc r.field)) u.0 (sought-runs (valueRead r z) (suc r.field))) u.1
+    rest (passed Runs (item_of r.target r.field z) r.from r (seek (value_read r z) (suc r.field)) u.0 (sought_runs (value_read r z) (suc r.field))) u.1
 passes_at AtEdit r b s k rest u = rest (passed Runs (HeadNumber b r.plan.n) r.at r (choose r b) u.0 tt) u.1
 passes_at (Stopped refusal at) r b s k rest u = absurd k
 
-passes-run : (s : List ℕ) (r : Reader) → Runs r → AllPassed (checks r s) → Runs (feed r s)
+passes_run : (s : List ℕ) (r : Reader) → Runs r → AllPassed (checks r s) → Runs (feed r s)
 unfolding feed checks
-passes-run [] r k u = k
-passes-run (b ∷ s) r k u = passes_at r.stage r b s k (passes-run s (step r b)) u
+passes_run [] r k u = k
+passes_run (b ∷ s) r k u = passes_at r.stage r b s k (passes_run s (step r b)) u
 
 -- ---- the answer
 
-refused-taken : (r : Refusal) (o : ℕ) → Refused r o ≡ Taken → ⊥
-refused-taken r o e = let z : ◌≡◌ {A = ℕ} 0 1 = cc e in omega arith
+refused_taken : (r : Refusal) (o : ℕ) → Refused r o ≡ Taken → ⊥
+refused_taken r o e = let z : ◌≡◌ {A = ℕ} 0 1 = cc e in omega arith
 
 -- some check fails, or none does
 abbrev SomeFails : List Check → Type 0
@@ -233,16 +233,16 @@ decided [] = inl tt
 decided (c ∷ cs) = go (holds c.item) refl (decided cs)
   where
     go : (t : Bool) → holds c.item ≡ t → AllPassed cs ⊎ SomeFails cs → AllPassed (c ∷ cs) ⊎ SomeFails (c ∷ cs)
-    go true e (inl rest) = inl ((holds-exactly c.item).0 e, rest)
-    go true e (inr rest) = inr (rest.0, rest.1, inr ((holds-exactly c.item).0 e, rest.2))
-    go false e rest = inr (refusalOf c.item, c.offset, inl ((λ s. false≢true (sym e ∙ (holds-exactly c.item).1 s)), refl, refl))
+    go true e (inl rest) = inl ((holds_exactly c.item).0 e, rest)
+    go true e (inr rest) = inr (rest.0, rest.1, inr ((holds_exactly c.item).0 e, rest.2))
+    go false e rest = inr (refusal_of c.item, c.offset, inl ((λ s. false≢true (sym e ∙ (holds_exactly c.item).1 s)), refl, refl))
 
 -- no check is refused under 1 or 7
 abbrev Kinds : Item → Type 0
-Kinds item = (number_of (refusalOf item) ≡ 1 → ⊥) × (number_of (refusalOf item) ≡ 7 → ⊥)
+Kinds item = (number_of (refusal_of item) ≡ 1 → ⊥) × (number_of (refusal_of item) ≡ 7 → ⊥)
 
-field-kinds : (t : Target) (i : ℕ) (z : ℤ) → Kinds (item_of t i z)
-field-kinds t i z = at t
+field_kinds : (t : Target) (i : ℕ) (z : ℤ) → Kinds (item_of t i z)
+field_kinds t i z = at t
   where
     by : (b : Bool) (u v : Item) → Kinds u → Kinds v → Kinds (cond b u v)
     by true u v p q = p
@@ -253,107 +253,107 @@ field-kinds t i z = at t
     at (HeadAt j) = by (ltb i 2) (Coordinate z) (Radius z) (omega arith, omega arith) (omega arith, omega arith)
     at (EditOf j) = by (ltb i 2) (Coordinate z) (Radius z) (omega arith, omega arith) (omega arith, omega arith)
 
-kinds-at : (stage : Stage) (r : Reader) (b : ℕ) → Every (λ c. Kinds c.item) (checksAt stage r b)
-kinds-at AtCount r b = ((omega arith, omega arith), tt)
-kinds-at AtMap r b = ((omega arith, omega arith), tt)
-kinds-at AtByte0 r b = tt
-kinds-at (AtByte1 a) r b = tt
-kinds-at (AtByte2 a a') r b = tt
-kinds-at (AtByte3 a a' a'') r b = (field-kinds r.target r.field (number32 a a' a'' b), tt)
-kinds-at AtEdit r b = ((omega arith, omega arith), tt)
-kinds-at (Stopped refusal at) r b = tt
+kinds_at : (stage : Stage) (r : Reader) (b : ℕ) → Every (λ c. Kinds c.item) (checks_at stage r b)
+kinds_at AtCount r b = ((omega arith, omega arith), tt)
+kinds_at AtMap r b = ((omega arith, omega arith), tt)
+kinds_at AtByte0 r b = tt
+kinds_at (AtByte1 a) r b = tt
+kinds_at (AtByte2 a a') r b = tt
+kinds_at (AtByte3 a a' a'') r b = (field_kinds r.target r.field (number32 a a' a'' b), tt)
+kinds_at AtEdit r b = ((omega arith, omega arith), tt)
+kinds_at (Stopped refusal at) r b = tt
 
-checks-kinds : (s : List ℕ) (r : Reader) → Every (λ c. Kinds c.item) (checks r s)
+checks_kinds : (s : List ℕ) (r : Reader) → Every (λ c. Kinds c.item) (checks r s)
 unfolding checks
-checks-kinds [] r = tt
-checks-kinds (b ∷ s) r = every_append (λ c. Kinds c.item) (checksOf r b) (checks (step r b) s) (kinds-at r.stage r b) (checks-kinds s (step r b))
+checks_kinds [] r = tt
+checks_kinds (b ∷ s) r = every_append (λ c. Kinds c.item) (checks_of r b) (checks (step r b) s) (kinds_at r.stage r b) (checks_kinds s (step r b))
 
-refusal-kinds : (cs : List Check) (r : Refusal) (o : ℕ) → Every (λ c. Kinds c.item) cs → FirstFails r o cs → (number_of r ≡ 1 → ⊥) × (number_of r ≡ 7 → ⊥)
-refusal-kinds [] r o k u = absurd u
-refusal-kinds (c ∷ cs) r o k u =
-    ⊎_elim (λ v. subst (λ x. (number_of x ≡ 1 → ⊥) × (number_of x ≡ 7 → ⊥)) v.1 k.0) (λ v. refusal-kinds cs r o k.1 v.1) u
+refusal_kinds : (cs : List Check) (r : Refusal) (o : ℕ) → Every (λ c. Kinds c.item) cs → FirstFails r o cs → (number_of r ≡ 1 → ⊥) × (number_of r ≡ 7 → ⊥)
+refusal_kinds [] r o k u = absurd u
+refusal_kinds (c ∷ cs) r o k u =
+    ⊎_elim (λ v. subst (λ x. (number_of x ≡ 1 → ⊥) × (number_of x ≡ 7 → ⊥)) v.1 k.0) (λ v. refusal_kinds cs r o k.1 v.1) u
 
 module _ (s : List ℕ) where
-  answer : end_of (readFile s) ≡ finishedAt (feed start s).stage (feed start s).at
-  answer = sym (reader-answers s)
+  answer : end_of (read_file s) ≡ finished_at (feed start s).stage (feed start s).at
+  answer = sym (reader_answers s)
 
   -- a check fails: its refusal and its offset
-  failing : (r : Refusal) (o : ℕ) → FirstFails r o (checks start s) → end_of (readFile s) ≡ Refused r o
-  failing r o u = answer ∙ ap (λ stage. finishedAt stage (feed start s).at) (fails-stop r o s start u)
+  failing : (r : Refusal) (o : ℕ) → FirstFails r o (checks start s) → end_of (read_file s) ≡ Refused r o
+  failing r o u = answer ∙ ap (λ stage. finished_at stage (feed start s).at) (fails_stop r o s start u)
 
-  never-ended : (r : Refusal) (o : ℕ) → FirstFails r o (checks start s) → (number_of r ≡ 1 → ⊥) × (number_of r ≡ 7 → ⊥)
-  never-ended r o u = refusal-kinds (checks start s) r o (checks-kinds s start) u
+  never_ended : (r : Refusal) (o : ℕ) → FirstFails r o (checks start s) → (number_of r ≡ 1 → ⊥) × (number_of r ≡ 7 → ⊥)
+  never_ended r o u = refusal_kinds (checks start s) r o (checks_kinds s start) u
 
   -- every check is passed: taken, or 1
-  running-taken : (stage : Stage) (at : ℕ) → finishedAt stage at ≡ Taken → stage ≡ AtEdit
-  running-taken AtCount at e = absurd (refused-taken Ended at e)
-  running-taken AtMap at e = absurd (refused-taken Ended at e)
-  running-taken AtByte0 at e = absurd (refused-taken Ended at e)
-  running-taken (AtByte1 a) at e = absurd (refused-taken Ended at e)
-  running-taken (AtByte2 a b) at e = absurd (refused-taken Ended at e)
-  running-taken (AtByte3 a b c) at e = absurd (refused-taken Ended at e)
-  running-taken AtEdit at e = refl
-  running-taken (Stopped r o) at e = absurd (refused-taken r o e)
+  running_taken : (stage : Stage) (at : ℕ) → finished_at stage at ≡ Taken → stage ≡ AtEdit
+  running_taken AtCount at e = absurd (refused_taken Ended at e)
+  running_taken AtMap at e = absurd (refused_taken Ended at e)
+  running_taken AtByte0 at e = absurd (refused_taken Ended at e)
+  running_taken (AtByte1 a) at e = absurd (refused_taken Ended at e)
+  running_taken (AtByte2 a b) at e = absurd (refused_taken Ended at e)
+  running_taken (AtByte3 a b c) at e = absurd (refused_taken Ended at e)
+  running_taken AtEdit at e = refl
+  running_taken (Stopped r o) at e = absurd (refused_taken r o e)
 
-  running-wanted : (stage : Stage) (at : ℕ) (r : Refusal) (o : ℕ) → Running stage → finishedAt stage at ≡ Refused r o → Wanted stage × (r ≡ Ended)
-  running-wanted AtCount at r o k e = (tt, cc e)
-  running-wanted AtMap at r o k e = (tt, cc e)
-  running-wanted AtByte0 at r o k e = (tt, cc e)
-  running-wanted (AtByte1 a) at r o k e = (tt, cc e)
-  running-wanted (AtByte2 a b) at r o k e = (tt, cc e)
-  running-wanted (AtByte3 a b c) at r o k e = (tt, cc e)
-  running-wanted AtEdit at r o k e = absurd (refused-taken r o (sym e))
-  running-wanted (Stopped x from) at r o k e = absurd k
+  running_wanted : (stage : Stage) (at : ℕ) (r : Refusal) (o : ℕ) → Running stage → finished_at stage at ≡ Refused r o → Wanted stage × (r ≡ Ended)
+  running_wanted AtCount at r o k e = (tt, cc e)
+  running_wanted AtMap at r o k e = (tt, cc e)
+  running_wanted AtByte0 at r o k e = (tt, cc e)
+  running_wanted (AtByte1 a) at r o k e = (tt, cc e)
+  running_wanted (AtByte2 a b) at r o k e = (tt, cc e)
+  running_wanted (AtByte3 a b c) at r o k e = (tt, cc e)
+  running_wanted AtEdit at r o k e = absurd (refused_taken r o (sym e))
+  running_wanted (Stopped x from) at r o k e = absurd k
 
-  wanted-ended : (stage : Stage) (at : ℕ) → Wanted stage → finishedAt stage at ≡ Refused Ended at
-  wanted-ended AtCount at k = refl
-  wanted-ended AtMap at k = refl
-  wanted-ended AtByte0 at k = refl
-  wanted-ended (AtByte1 a) at k = refl
-  wanted-ended (AtByte2 a b) at k = refl
-  wanted-ended (AtByte3 a b c) at k = refl
-  wanted-ended AtEdit at k = absurd k
-  wanted-ended (Stopped r o) at k = absurd k
+  wanted_ended : (stage : Stage) (at : ℕ) → Wanted stage → finished_at stage at ≡ Refused Ended at
+  wanted_ended AtCount at k = refl
+  wanted_ended AtMap at k = refl
+  wanted_ended AtByte0 at k = refl
+  wanted_ended (AtByte1 a) at k = refl
+  wanted_ended (AtByte2 a b) at k = refl
+  wanted_ended (AtByte3 a b c) at k = refl
+  wanted_ended AtEdit at k = absurd k
+  wanted_ended (Stopped r o) at k = absurd k
 
   -- an answer where some check fails is that check's
-  the-failing : (r : Refusal) (o : ℕ) → end_of (readFile s) ≡ Refused r o → SomeFails (checks start s) → FirstFails r o (checks start s)
-  the-failing r o e u =
+  the_failing : (r : Refusal) (o : ℕ) → end_of (read_file s) ≡ Refused r o → SomeFails (checks start s) → FirstFails r o (checks start s)
+  the_failing r o e u =
       let same : Refused u.0 u.1 ≡ Refused r o = sym (failing u.0 u.1 u.2) ∙ e in
       let refusal : u.0 ≡ r = cc same in
       let offset : u.1 ≡ o = cc same in
       subst (λ x. FirstFails x o (checks start s)) refusal (subst (λ x. FirstFails u.0 x (checks start s)) offset u.2)
 
   runs : AllPassed (checks start s) → Running (feed start s).stage
-  runs u = passes-run s start tt u
+  runs u = passes_run s start tt u
 
-pub file-taken : FileTaken
-file-taken s = (
+pub file_taken : FileTaken
+file_taken s = (
   (λ e.
       ⊎_elim
-      (λ u. (u, running-taken s (feed start s).stage (feed start s).at (sym (answer s) ∙ e)))
-      (λ u. absurd (refused-taken u.0 u.1 (sym (failing s u.0 u.1 u.2) ∙ e)))
+      (λ u. (u, running_taken s (feed start s).stage (feed start s).at (sym (answer s) ∙ e)))
+      (λ u. absurd (refused_taken u.0 u.1 (sym (failing s u.0 u.1 u.2) ∙ e)))
       (decided (checks start s))),
-  (λ u. answer s ∙ ap (λ stage. finishedAt stage (feed start s).at) u.1),
+  (λ u. answer s ∙ ap (λ stage. finished_at stage (feed start s).at) u.1),
 )
 
-pub file-ended : FileEnded
-file-ended s o = (
+pub file_ended : FileEnded
+file_ended s o = (
   (λ e.
       ⊎_elim
-      (λ u. (u, (running-wanted s (feed start s).stage (feed start s).at Ended o (runs s u) (sym (answer s) ∙ e)).0, ended_at s o e))
-      (λ u. absurd ((never-ended s Ended o (the-failing s Ended o e u)).0 refl))
+      (λ u. (u, (running_wanted s (feed start s).stage (feed start s).at Ended o (runs s u) (sym (answer s) ∙ e)).0, ended_at s o e))
+      (λ u. absurd ((never_ended s Ended o (the_failing s Ended o e u)).0 refl))
       (decided (checks start s))),
   (λ u.
-      let last : (feed start s).at ≡ o = omega (arith, (fed-at start s (omega arith) tt).0) in
-      answer s ∙ wanted-ended s (feed start s).stage (feed start s).at u.1 ∙ ap (Refused Ended) last),
+      let last : (feed start s).at ≡ o = omega (arith, (fed_at start s (omega arith) tt).0) in
+      answer s ∙ wanted_ended s (feed start s).stage (feed start s).at u.1 ∙ ap (Refused Ended) last),
 )
 
-pub file-refused : FileRefused
-file-refused s r o n = (
+pub file_refused : FileRefused
+file_refused s r o n = (
   (λ e.
       ⊎_elim
-      (λ u. absurd (n (running-wanted s (feed start s).stage (feed start s).at r o (runs s u) (sym (answer s) ∙ e)).1))
-      (the-failing s r o e)
+      (λ u. absurd (n (running_wanted s (feed start s).stage (feed start s).at r o (runs s u) (sym (answer s) ∙ e)).1))
+      (the_failing s r o e)
       (decided (checks start s))),
   failing s r o,
 )
@@ -363,34 +363,34 @@ to_number : (r : Refusal) (o : ℕ) (cs : List Check) → FirstFails r o cs → 
 to_number r o [] u = absurd u
 to_number r o (c ∷ cs) u = ⊎_elim (λ v. inl (v.0, ap number_of v.1, v.2)) (λ v. inr (v.0, to_number r o cs v.1)) u
 
-from-number : (k o : ℕ) (cs : List Check) → FirstNumbered k o cs → (r : Refusal) × (number_of r ≡ k) × FirstFails r o cs
-from-number k o [] u = absurd u
-from-number k o (c ∷ cs) u =
-    ⊎_elim (λ v. (refusalOf c.item, v.1, inl (v.0, refl, v.2)))
-    (λ v. let rest = from-number k o cs v.1 in (rest.0, rest.1, inr (v.0, rest.2))) u
+from_number : (k o : ℕ) (cs : List Check) → FirstNumbered k o cs → (r : Refusal) × (number_of r ≡ k) × FirstFails r o cs
+from_number k o [] u = absurd u
+from_number k o (c ∷ cs) u =
+    ⊎_elim (λ v. (refusal_of c.item, v.1, inl (v.0, refl, v.2)))
+    (λ v. let rest = from_number k o cs v.1 in (rest.0, rest.1, inr (v.0, rest.2))) u
 
-pub file-number : FileNumber
-file-number s k o h = ((λ q. given (end_of (readFile s)) refl q.0 q.1), found)
+pub file_number : FileNumber
+file_number s k o h = ((λ q. given (end_of (read_file s)) refl q.0 q.1), found)
   where
-    given : (a : Answer) → end_of (readFile s) ≡ a → answerNumber a ≡ k → answerOffset a ≡ o → FirstNumbered k o (checks start s)
+    given : (a : Answer) → end_of (read_file s) ≡ a → answer_number a ≡ k → answer_offset a ≡ o → FirstNumbered k o (checks start s)
     given Taken e n at = absurd (omega (arith, n))
     given (Refused r p) e n at =
-        let first = (file-refused s r p (λ q. let is = ap number_of q in omega (arith, is, n))).0 e in
+        let first = (file_refused s r p (λ q. let is = ap number_of q in omega (arith, is, n))).0 e in
         subst (λ i. FirstNumbered i o (checks start s)) n (subst (λ i. FirstNumbered (number_of r) i (checks start s)) at (to_number r p (checks start s) first))
 
-    found : FirstNumbered k o (checks start s) → (answerNumber (end_of (readFile s)) ≡ k) × (answerOffset (end_of (readFile s)) ≡ o)
+    found : FirstNumbered k o (checks start s) → (answer_number (end_of (read_file s)) ≡ k) × (answer_offset (end_of (read_file s)) ≡ o)
     found u =
-        let r = from-number k o (checks start s) u in
-        let is = (file-refused s r.0 o (λ q. let one = ap number_of q in omega (arith, one, r.1))).1 r.2 in
-        (ap answerNumber is ∙ r.1, ap answerOffset is)
+        let r = from_number k o (checks start s) u in
+        let is = (file_refused s r.0 o (λ q. let one = ap number_of q in omega (arith, one, r.1))).1 r.2 in
+        (ap answer_number is ∙ r.1, ap answer_offset is)
 
-pub file-seven-never : FileSevenNever
-file-seven-never s e = go (end_of (readFile s)) refl e
+pub file_seven_never : FileSevenNever
+file_seven_never s e = go (end_of (read_file s)) refl e
   where
-    go : (a : Answer) → end_of (readFile s) ≡ a → answerNumber a ≡ 7 → ⊥
+    go : (a : Answer) → end_of (read_file s) ≡ a → answer_number a ≡ 7 → ⊥
     go Taken q e = omega arith
     go (Refused r o) q e =
         ⊎_elim
-        (λ u. let is : number_of r ≡ 1 = ap number_of (running-wanted s (feed start s).stage (feed start s).at r o (runs s u) (sym (answer s) ∙ q)).1 in omega arith)
-        (λ u. (never-ended s r o (the-failing s r o q u)).1 e)
+        (λ u. let is : number_of r ≡ 1 = ap number_of (running_wanted s (feed start s).stage (feed start s).at r o (runs s u) (sym (answer s) ∙ q)).1 in omega arith)
+        (λ u. (never_ended s r o (the_failing s r o q u)).1 e)
         (decided (checks start s))

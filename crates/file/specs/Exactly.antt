@@ -9,11 +9,11 @@ use Rattle.plan.specs.declared.Item.TheVariants.{Count, Map, Coordinate, Side, R
 use Rattle.plan.specs.declared.Refusal.{Refusal}
 use Rattle.plan.specs.declared.Refusal.TheVariants.{Ended}
 use Rattle.plan.specs.Exactly.{Satisfied}
-use Rattle.plan.specs.Table.{answerNumber, answerOffset, number_of, refusalOf}
+use Rattle.plan.specs.Table.{answer_number, answer_offset, number_of, refusal_of}
 use Rattle.file.specs.declared.reader.Reader.{Reader}
 use Rattle.file.specs.declared.reader.Stage.{Stage}
 use Rattle.file.specs.declared.reader.Stage.TheVariants.{AtCount, AtMap, AtByte0, AtByte1, AtByte2, AtByte3, AtEdit, Stopped}
-use Rattle.file.specs.File.{number32, readFile}
+use Rattle.file.specs.File.{number32, read_file}
 use Rattle.file.specs.Reader.{count_of, item_of, start, step, feed}
 use Rattle.file.specs.Same.{end_of}
 
@@ -24,27 +24,27 @@ pub record Check : Type 0 where
   pub item : Item
   pub offset : ℕ
 
-abbrev pub checkOf : Item → ℕ → Check
-checkOf item offset = record { item = item; offset = offset }
+abbrev pub check_of : Item → ℕ → Check
+check_of item offset = record { item = item; offset = offset }
 
 -- What a byte completes: the number of heads, a map, an edit's head number, or a field, of which it is then the last byte.
-abbrev pub checksAt : Stage → Reader → ℕ → List Check
-checksAt AtCount r b = checkOf (Count b) r.at ∷ []
-checksAt AtMap r b = checkOf (Map (count_of r.target) b) r.at ∷ []
-checksAt AtByte0 r b = []
-checksAt (AtByte1 a) r b = []
-checksAt (AtByte2 a a') r b = []
-checksAt (AtByte3 a a' a'') r b = checkOf (item_of r.target r.field (number32 a a' a'' b)) r.from ∷ []
-checksAt AtEdit r b = checkOf (HeadNumber b r.plan.n) r.at ∷ []
-checksAt (Stopped refusal at) r b = []
+abbrev pub checks_at : Stage → Reader → ℕ → List Check
+checks_at AtCount r b = check_of (Count b) r.at ∷ []
+checks_at AtMap r b = check_of (Map (count_of r.target) b) r.at ∷ []
+checks_at AtByte0 r b = []
+checks_at (AtByte1 a) r b = []
+checks_at (AtByte2 a a') r b = []
+checks_at (AtByte3 a a' a'') r b = check_of (item_of r.target r.field (number32 a a' a'' b)) r.from ∷ []
+checks_at AtEdit r b = check_of (HeadNumber b r.plan.n) r.at ∷ []
+checks_at (Stopped refusal at) r b = []
 
-abbrev pub checksOf : Reader → ℕ → List Check
-checksOf r b = checksAt r.stage r b
+abbrev pub checks_of : Reader → ℕ → List Check
+checks_of r b = checks_at r.stage r b
 
 -- the checks that the bytes s complete, in reading order
 unfoldable pub checks : Reader → List ℕ → List Check
 checks r [] = []
-checks r (b ∷ s) = checksOf r b ++ checks (step r b) s
+checks r (b ∷ s) = checks_of r b ++ checks (step r b) s
 
 -- "for a field its first byte": the check that the byte number k completes has this offset
 abbrev pub PlacedAt : ℕ → Item → ℕ → Type 0
@@ -59,7 +59,7 @@ PlacedAt k (Tables needed lent) offset = ⊥
 -- Every check of a file has its place's offset; lent tables are none of them. An offset is a u64 that stays at its largest value, so the file is shorter
 -- than that.
 abbrev pub ChecksPlaced : Type 0
-ChecksPlaced = (s : List ℕ) (b : ℕ) → length s < 2 ^ 64 - 1 → Every (λ c. PlacedAt (length s) c.item c.offset) (checksOf (feed start s) b)
+ChecksPlaced = (s : List ℕ) (b : ℕ) → length s < 2 ^ 64 - 1 → Every (λ c. PlacedAt (length s) c.item c.offset) (checks_of (feed start s) b)
 
 -- ---- the answer to a file
 
@@ -70,7 +70,7 @@ AllPassed cs = Every (λ c. Satisfied c.item) cs
 -- the first check that is not passed has this refusal and this offset
 abbrev pub FirstFails : Refusal → ℕ → List Check → Type 0
 FirstFails r o [] = ⊥
-FirstFails r o (c ∷ cs) = (¬ Satisfied c.item × (refusalOf c.item ≡ r) × (c.offset ≡ o)) ⊎ (Satisfied c.item × FirstFails r o cs)
+FirstFails r o (c ∷ cs) = (¬ Satisfied c.item × (refusal_of c.item ≡ r) × (c.offset ≡ o)) ⊎ (Satisfied c.item × FirstFails r o cs)
 
 -- a byte is wanted: the file must not end here
 abbrev pub Wanted : Stage → Type 0
@@ -85,28 +85,28 @@ Wanted (Stopped refusal at) = ⊥
 
 -- taken: every check is passed, and the file ends where an edit could begin
 abbrev pub FileTaken : Type 0
-FileTaken = (s : List ℕ) → (end_of (readFile s) ≡ Taken) ↔ (AllPassed (checks start s) × ((feed start s).stage ≡ AtEdit))
+FileTaken = (s : List ℕ) → (end_of (read_file s) ≡ Taken) ↔ (AllPassed (checks start s) × ((feed start s).stage ≡ AtEdit))
 
 -- 1: every check is passed, and the file ends where a byte is wanted; the offset is the file's length
 abbrev pub FileEnded : Type 0
 FileEnded = (s : List ℕ) (o : ℕ)
-    → (end_of (readFile s) ≡ Refused Ended o) ↔ (AllPassed (checks start s) × Wanted (feed start s).stage × (o ≡ min (length s) (2 ^ 64 - 1)))
+    → (end_of (read_file s) ≡ Refused Ended o) ↔ (AllPassed (checks start s) × Wanted (feed start s).stage × (o ≡ min (length s) (2 ^ 64 - 1)))
 
 -- any other refusal: it is that of the first check that fails, and so is its offset
 abbrev pub FileRefused : Type 0
-FileRefused = (s : List ℕ) (r : Refusal) (o : ℕ) → (r ≡ Ended → ⊥) → (end_of (readFile s) ≡ Refused r o) ↔ FirstFails r o (checks start s)
+FileRefused = (s : List ℕ) (r : Refusal) (o : ℕ) → (r ≡ Ended → ⊥) → (end_of (read_file s) ≡ Refused r o) ↔ FirstFails r o (checks start s)
 
 -- the first check that is not passed has this number and this offset
 abbrev pub FirstNumbered : ℕ → ℕ → List Check → Type 0
 FirstNumbered k o [] = ⊥
 FirstNumbered k o (c ∷ cs) =
-    (¬ Satisfied c.item × (number_of (refusalOf c.item) ≡ k) × (c.offset ≡ o)) ⊎ (Satisfied c.item × FirstNumbered k o cs)
+    (¬ Satisfied c.item × (number_of (refusal_of c.item) ≡ k) × (c.offset ≡ o)) ⊎ (Satisfied c.item × FirstNumbered k o cs)
 
 -- The same by document 01's numbers: k, beyond 1, with the offset o is given exactly if the first check that is not passed has both.
 abbrev pub FileNumber : Type 0
 FileNumber = (s : List ℕ) (k o : ℕ) → 1 < k
-    → ((answerNumber (end_of (readFile s)) ≡ k) × (answerOffset (end_of (readFile s)) ≡ o)) ↔ FirstNumbered k o (checks start s)
+    → ((answer_number (end_of (read_file s)) ≡ k) × (answer_offset (end_of (read_file s)) ≡ o)) ↔ FirstNumbered k o (checks start s)
 
 -- 7: never from the file alone
 abbrev pub FileSevenNever : Type 0
-FileSevenNever = (s : List ℕ) → answerNumber (end_of (readFile s)) ≡ 7 → ⊥
+FileSevenNever = (s : List ℕ) → answer_number (end_of (read_file s)) ≡ 7 → ⊥

@@ -4,7 +4,7 @@
 use Rattle.std.specs.Prelude.{◌≡◌, true, List, ℕ, suc, ◌+◌, ◌%◌, ◌≤◌, ◌<◌, T, Float, length, get_or}
 use Rattle.std.specs.Float.{nan, binary64}
 use Rattle.std.specs.Float.Ieee.{fits}
-use Rattle.binary64.specs.Constants.{half64, one64, twoPi}
+use Rattle.binary64.specs.Constants.{half64, one64, two_pi}
 use Rattle.binary64.specs.Functions.{absolute}
 use Rattle.binary64.specs.Magnitude.{Most}
 use Rattle.binary64.specs.Units.{Finite, mag}
@@ -19,39 +19,39 @@ use Rattle.lists.specs.Every.{Every}
 use Rattle.intersections.specs.declared.points.IntersectionPoint.{IntersectionPoint}
 use Rattle.intersections.specs.Members.{Member}
 use Rattle.boundary.specs.declared.arcs.BoundaryArc.{BoundaryArc}
-use Rattle.boundary.specs.Outline.{gap, anglesOf, outline}
-use Rattle.boundary.specs.Set.{regionArcs}
-use Rattle.inside.specs.Breaks.{breaks as breaksOf}
+use Rattle.boundary.specs.Outline.{gap, angles_of, outline}
+use Rattle.boundary.specs.Set.{region_arcs}
+use Rattle.inside.specs.Breaks.{breaks as breaks_of}
 use Rattle.plan.specs.declared.Answer.TheVariants.{Taken}
 use Rattle.plan.specs.declared.Plan.{Plan}
-use Rattle.plan.specs.Checks.{planAnswer}
-use Rattle.regions.specs.Table.{planMembers}
+use Rattle.plan.specs.Checks.{plan_answer}
+use Rattle.regions.specs.Table.{plan_members}
 
 -- ---- sine and cosine
 
 -- t is finite, and at most 2 × PI in magnitude.
 pub record UpToTurn (t : Float) : Type 0 where
   pub finite : Finite t
-  pub most : mag t ≤ mag twoPi
+  pub most : mag t ≤ mag two_pi
 
 -- The angles at which sine and cosine are taken along an arc, in any box and for any circle: both ends of the arc, wrapped and not (outline's
--- `arcTerms` and `arcSlopes`), its breaks (inside's `addPart`, clip's `addPartWithGradient`) and the middle between two of them (inside's `summed`).
+-- `arc_terms` and `arc_slopes`), its breaks (inside's `add_part`, clip's `add_part_with_gradient`) and the middle between two of them (inside's `summed`).
 pub record ArcInDomain (arc : BoundaryArc) : Type 0 where
   pub start : UpToPi arc.phi_start
   pub turn : UpToTurn arc.delta_phi
   pub end : UpToPi arc.phi_end
   pub finish : Domain (arc.phi_start +ᶠ arc.delta_phi)
-  pub breaks : (box : Bounds) (c : Circle) → Every Domain (breaksOf box c arc)
-  pub middles : (box : Bounds) (c : Circle) (i : ℕ) → suc i < length (breaksOf box c arc)
-      → Domain (half64 *ᶠ (get_or (breaksOf box c arc) i nan +ᶠ get_or (breaksOf box c arc) (suc i) nan))
+  pub breaks : (box : Bounds) (c : Circle) → Every Domain (breaks_of box c arc)
+  pub middles : (box : Bounds) (c : Circle) (i : ℕ) → suc i < length (breaks_of box c arc)
+      → Domain (half64 *ᶠ (get_or (breaks_of box c arc) i nan +ᶠ get_or (breaks_of box c arc) (suc i) nan))
 
--- the middle of the gap from the i-th angle to the next, where its owner is looked for (boundary's `arcFrom`)
-abbrev pub middleOfGap : List Float → ℕ → Float
-middleOfGap phis i = let a = get_or phis i nan in a +ᶠ gap a (get_or phis ((i + 1) % length phis) nan) *ᶠ half64
+-- the middle of the gap from the i-th angle to the next, where its owner is looked for (boundary's `arc_from`)
+abbrev pub middle_of_gap : List Float → ℕ → Float
+middle_of_gap phis i = let a = get_or phis i nan in a +ᶠ gap a (get_or phis ((i + 1) % length phis) nan) *ᶠ half64
 
 -- Every angle at which sine and cosine are taken for a set, with and without a box, with and without gradient.
 pub record SetInDomain (ms : List Member) : Type 0 where
-  pub gaps : Every (λ m. (i : ℕ) → i < length (anglesOf m) → Domain (middleOfGap (anglesOf m) i)) ms
+  pub gaps : Every (λ m. (i : ℕ) → i < length (angles_of m) → Domain (middle_of_gap (angles_of m) i)) ms
   pub arcs : Every ArcInDomain (outline ms)
 
 -- It is so whatever the members are, their points included;
@@ -60,11 +60,11 @@ AnglesInDomain = (ms : List Member) → SetInDomain ms
 
 -- and of arcs under head numbers.
 abbrev pub RegionInDomain : Type 0
-RegionInDomain = (cs : List Circle) (points : List IntersectionPoint) (S : ℕ) → Every ArcInDomain (regionArcs cs points S)
+RegionInDomain = (cs : List Circle) (points : List IntersectionPoint) (S : ℕ) → Every ArcInDomain (region_arcs cs points S)
 
 -- ---- atan2, acos and asin
 
--- Both arguments of the atan2 that gives the angle of a point about a circle (boundary's `angleAbout`) are at most 2^20, and "not both zero": the point
+-- Both arguments of the atan2 that gives the angle of a point about a circle (boundary's `angle_about`) are at most 2^20, and "not both zero": the point
 -- is not the circle's centre.
 pub record PointInDomain (c : Circle) (p : Point) : Type 0 where
   pub y : Most 1048576 1074 (p.y -ᶠ c.center.y)
@@ -74,8 +74,8 @@ pub record PointInDomain (c : Circle) (p : Point) : Type 0 where
 -- For a taken plan: at every point counted at every head of any set.
 abbrev pub ArgumentsInDomain : Type 0
 ArgumentsInDomain =
-    (p : Plan) → length p.heads ≡ 10 → planAnswer p ≡ Taken → (S : ℕ) → Every (λ m. Every (PointInDomain m.circle) m.points) (planMembers p S)
+    (p : Plan) → length p.heads ≡ 10 → plan_answer p ≡ Taken → (S : ℕ) → Every (λ m. Every (PointInDomain m.circle) m.points) (plan_members p S)
 
--- acos and asin are taken of a quotient that has passed the test |q| ≤ 1 (inside's `verticalCrossings` and `horizontalCrossings`): it is of their domain.
+-- acos and asin are taken of a quotient that has passed the test |q| ≤ 1 (inside's `vertical_crossings` and `horizontal_crossings`): it is of their domain.
 abbrev pub QuotientInDomain : Type 0
 QuotientInDomain = (q : Float) → T (fits binary64 q) → (absolute q ≤ᶠ one64) ≡ true → Most 1 1074 q

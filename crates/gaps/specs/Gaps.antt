@@ -9,36 +9,36 @@ use Rattle.binary64.specs.Constants.{half64}
 use Rattle.binary64.specs.Floats.{◌+ᶠ◌, ◌*ᶠ◌}
 use Rattle.geometry.specs.declared.point.Point.{Point}
 use Rattle.geometry.specs.declared.circle.Circle.{Circle}
-use Rattle.intersections.specs.Members.{circleAt}
-use Rattle.boundary.specs.Outline.{lets, gap, collapsed, pointAt}
+use Rattle.intersections.specs.Members.{circle_at}
+use Rattle.boundary.specs.Outline.{lets, gap, collapsed, point_at}
 
 -- ---- circles, as an array holds them
 
 -- the circle whose centre and radius are three numbers of a list
-abbrev pub circleIn : List Float → ℕ → Circle
-circleIn c l = record { center = record { x = get_or c (l * 3) nan; y = get_or c (l * 3 + 1) nan }; radius = get_or c (l * 3 + 2) nan }
+abbrev pub circle_in : List Float → ℕ → Circle
+circle_in c l = record { center = record { x = get_or c (l * 3) nan; y = get_or c (l * 3 + 1) nan }; radius = get_or c (l * 3 + 2) nan }
 
 -- the circles of which three numbers each are given
-unfoldable pub circlesIn : List Float → ℕ → List Circle
+unfoldable pub circles_in : List Float → ℕ → List Circle
 unfolding tab
-circlesIn c n = tab (circleIn c) n
+circles_in c n = tab (circle_in c) n
 
 -- ---- the gaps of a head that are arcs of a set
 
 -- every head of S lets head j have the point p
-unfoldable pub ownedIn : List Circle → ℕ → ℕ → Point → Bool
+unfoldable pub owned_in : List Circle → ℕ → ℕ → Point → Bool
 unfolding every lets
-ownedIn circles S j p = every (length circles) (λ l. not (in_set S l) || lets j p l (circleAt circles l))
+owned_in circles S j p = every (length circles) (λ l. not (in_set S l) || lets j p l (circle_at circles l))
 
 -- the midpoint of the gap from a to b of a circle
 unfoldable pub midpoint : Circle → Float → Float → Point
-unfolding gap pointAt
-midpoint c a b = pointAt c (a +ᶠ gap a b *ᶠ half64)
+unfolding gap point_at
+midpoint c a b = point_at c (a +ᶠ gap a b *ᶠ half64)
 
 -- the gap from a to b of head j is an arc of S: it is not collapsed, and its midpoint is j's own
-unfoldable pub isArc : List Circle → ℕ → ℕ → Float → Float → Bool
-unfolding gap collapsed midpoint ownedIn
-isArc circles S j a b = not (collapsed (gap a b)) && ownedIn circles S j (midpoint (circleAt circles j) a b)
+unfoldable pub is_arc : List Circle → ℕ → ℕ → Float → Float → Bool
+unfolding gap collapsed midpoint owned_in
+is_arc circles S j a b = not (collapsed (gap a b)) && owned_in circles S j (midpoint (circle_at circles j) a b)
 
 -- ---- their numbers
 
@@ -47,22 +47,22 @@ unfoldable pub next_of : ℕ → ℕ → ℕ
 next_of a n = cond (ltb (a + 1) n) (a + 1) 0
 
 -- what stands for no arc: past the number of every arc
-abbrev pub noArc : ℕ
-noArc = 330 + 320 * 320
+abbrev pub no_arc : ℕ
+no_arc = 330 + 320 * 320
 
 module _ (circles : List Circle) (phi : List Float) (lets : List ℕ) (S j n a b : ℕ) where
   -- between neighbours: the place of the angle that it begins at, if all heads of S are among those held to let head j have the gap
-  unfoldable pub neighbourNumber : ℕ
-  neighbourNumber = cond (subset 64 S (get_or lets (j * 32 + a) 0)) (j * 32 + a) noArc
+  unfoldable pub neighbour_number : ℕ
+  neighbour_number = cond (subset 64 S (get_or lets (j * 32 + a) 0)) (j * 32 + a) no_arc
 
   -- between any other two: by the places of both, if the gap is an arc
-  unfoldable pub otherNumber : ℕ
-  unfolding isArc
-  otherNumber =
-      cond (isArc circles S j (get_or phi (j * 32 + a) nan) (get_or phi (j * 32 + b) nan)) (330 + (j * 32 + a) * 320 + (j * 32 + b)) noArc
+  unfoldable pub other_number : ℕ
+  unfolding is_arc
+  other_number =
+      cond (is_arc circles S j (get_or phi (j * 32 + a) nan) (get_or phi (j * 32 + b) nan)) (330 + (j * 32 + a) * 320 + (j * 32 + b)) no_arc
 
   -- the number of the arc from the a-th to the b-th of the n angles of head j, 32 places a head
-  unfoldable pub gapNumber : ℕ
-  unfolding next_of neighbourNumber otherNumber
-  gapNumber =
-      cond (ltb j (length circles) && ltb a 32 && ltb b 32) (cond (eqb b (next_of a n)) neighbourNumber otherNumber) noArc
+  unfoldable pub gap_number : ℕ
+  unfolding next_of neighbour_number other_number
+  gap_number =
+      cond (ltb j (length circles) && ltb a 32 && ltb b 32) (cond (eqb b (next_of a n)) neighbour_number other_number) no_arc

@@ -1,6 +1,6 @@
 // The number of the arc that a gap between two angles of a head is in a set. Rests on specs/Gaps.antt.
 ghost use Rattle.std.specs.Prelude.{◌≡◌, ◌<◌, ◌≤◌, min};
-ghost use Rattle.gaps.specs.Gaps.{circlesIn, ownedIn, isArc, gapNumber};
+ghost use Rattle.gaps.specs.Gaps.{circles_in, owned_in, is_arc, gap_number};
 
 use crate::places::{circle_at, next};
 use boundary::angles::{collapsed, gap, point_at};
@@ -14,7 +14,7 @@ pub const NO_ARC: usize = 330 + 320 * 320;
 // Every head of the set lets head j have the point p.
 fn owned_in(c: &[f64; 30], n_sets: usize, mask: usize, j: usize, p: Point) -> bool
     requires { n_sets ≤ 10 }
-    ensures { result ≡ ownedIn (circlesIn c.now n_sets) mask j p }
+    ensures { result ≡ owned_in (circles_in c.now n_sets) mask j p }
 {
     let mut l: usize = 0;
     while l < n_sets {
@@ -31,7 +31,7 @@ fn owned_in(c: &[f64; 30], n_sets: usize, mask: usize, j: usize, p: Point) -> bo
 // The gap from one angle to another of head j is an arc of the set: worked out.
 fn is_arc(c: &[f64; 30], n_sets: usize, mask: usize, j: usize, phi_a: f64, phi_b: f64) -> bool
     requires { (n_sets ≤ 10) × (j < n_sets) }
-    ensures { result ≡ isArc (circlesIn c.now n_sets) mask j phi_a phi_b }
+    ensures { result ≡ is_arc (circles_in c.now n_sets) mask j phi_a phi_b }
 {
     let delta = gap(phi_a, phi_b);
     if collapsed(delta) {
@@ -55,7 +55,7 @@ pub fn gap_number(
     phi: &[f64; 320],
     lets: &[usize; 320],
 ) -> usize
-    ensures { result ≡ gapNumber (circlesIn c.now (min n_sets 10)) phi.now lets.now mask j n a b }
+    ensures { result ≡ gap_number (circles_in c.now (min n_sets 10)) phi.now lets.now mask j n a b }
 {
     let heads = at_most_ten(n_sets);
     if j >= heads {

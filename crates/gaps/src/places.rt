@@ -1,6 +1,6 @@
 // The circle of a head, and the next place round it. Rests on specs/Gaps.antt.
 ghost use Rattle.std.specs.Prelude.{◌≡◌, min};
-ghost use Rattle.gaps.specs.Gaps.{circleIn, next_of};
+ghost use Rattle.gaps.specs.Gaps.{circle_in, next_of};
 
 use geometry::circle::Circle;
 use geometry::point::Point;
@@ -14,7 +14,7 @@ fn at_most_nine(l: usize) -> usize
 
 // The circle of head l, from its three numbers; of a head past the last of ten, that of the last.
 pub fn circle_at(c: &[f64; 30], l: usize) -> Circle
-    ensures { result ≡ circleIn c.now (min l 9) }
+    ensures { result ≡ circle_in c.now (min l 9) }
 {
     let at = at_most_nine(l) * 3;
     let center = Point {

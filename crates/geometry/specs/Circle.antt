@@ -3,7 +3,7 @@ use Rattle.std.specs.Prelude.{Bool, ◌&&◌, ◌||◌, cond, List, [], Float}
 use Rattle.std.specs.Float.Ieee.{neg}
 use Rattle.elementary.specs.Arctangent.{acos}
 use Rattle.binary64.specs.Constants.{pi, zero64, half64, two64}
-use Rattle.binary64.specs.Functions.{absolute, smallerOf}
+use Rattle.binary64.specs.Functions.{absolute, smaller_of}
 use Rattle.elementary.specs.Root.{root}
 use Rattle.binary64.specs.Floats.{◌+ᶠ◌, ◌-ᶠ◌, ◌*ᶠ◌, ◌/ᶠ◌, ◌<ᶠ◌, ◌≤ᶠ◌, ◌=ᶠ◌}
 use Rattle.geometry.specs.Point.{at, distance}
@@ -24,8 +24,8 @@ abbrev pub contains : Circle → Circle → Bool
 contains a b = distance a.center b.center +ᶠ b.radius ≤ᶠ a.radius
 
 -- The point lies within the radius, or on it.
-abbrev pub containsPoint : Circle → Point → Bool
-containsPoint c p = distance c.center p ≤ᶠ c.radius
+abbrev pub contains_point : Circle → Point → Bool
+contains_point c p = distance c.center p ≤ᶠ c.radius
 
 -- The outlines cross: the distance lies strictly between the difference and the sum of the radii.
 abbrev pub intersects : Circle → Circle → Bool
@@ -44,10 +44,10 @@ lens r s d =
 
 -- The area that two circles share: +0 where they are apart or touch from outside, the smaller circle where it lies within the other, and
 -- the lens otherwise.
-abbrev pub intersectionArea : Circle → Circle → Float
-intersectionArea a b =
+abbrev pub intersection_area : Circle → Circle → Float
+intersection_area a b =
     let d = distance a.center b.center in
-    let least = smallerOf a.radius b.radius in
+    let least = smaller_of a.radius b.radius in
     cond
     (a.radius +ᶠ b.radius ≤ᶠ d)
     zero64
@@ -76,7 +76,7 @@ crossing a b d =
     distinct (at (x +ᶠ rx) (y +ᶠ ry)) (at (x -ᶠ rx) (y -ᶠ ry))
 
 -- Document 01's meeting of two heads: identical ones have none.
-abbrev pub intersectionPoints : Circle → Circle → List Point
-intersectionPoints a b =
+abbrev pub intersection_points : Circle → Circle → List Point
+intersection_points a b =
     let d = distance a.center b.center in
     cond (identical a b) [] (cond (apart a b d) [] (crossing a b d))

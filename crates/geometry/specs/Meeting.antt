@@ -32,10 +32,10 @@ meeting (p ∷ []) = One p.x p.y
 meeting (p ∷ q ∷ rest) = Two p.x p.y q.x q.y
 
 -- The points say which case it is, and with which coordinates: where a contract gives the points, nothing is left open.
-pub meeting-of-points : (m : Meeting) → meeting (points m) ≡ m
-meeting-of-points None = refl
-meeting-of-points (One x y) = refl
-meeting-of-points (Two x y u v) = refl
+pub meeting_of_points : (m : Meeting) → meeting (points m) ≡ m
+meeting_of_points None = refl
+meeting_of_points (One x y) = refl
+meeting_of_points (Two x y u v) = refl
 
 -- Two points, or the first alone where both are equal.
 abbrev pub distinct : Point → Point → List Point

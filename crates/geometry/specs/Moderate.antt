@@ -7,12 +7,12 @@ use Rattle.binary64.specs.Magnitude.{Most}
 use Rattle.binary64.specs.Units.{Finite}
 
 -- 2^64
-abbrev pub twoToThe64 : Float
-twoToThe64 = of_bits binary64 0x43F0_0000_0000_0000
+abbrev pub two_to_the64 : Float
+two_to_the64 = of_bits binary64 0x43F0_0000_0000_0000
 
-pub twoToThe64-is : twoToThe64 ≡ round binary64 false (2 ^ 64) 1
+pub two_to_the64_is : two_to_the64 ≡ round binary64 false (2 ^ 64) 1
 unfolding of_bits round
-twoToThe64-is = refl
+two_to_the64_is = refl
 
 -- w, at most 2^64, is above t
 pub record Above (t w : Float) : Type 0 where

@@ -18,6 +18,6 @@ area b = b.width *ᶠ b.height
 -- Half a side each way from the centre.
 abbrev pub bounds : Rectangle → Bounds
 bounds b =
-    let half-width = b.width /ᶠ two64 in
-    let half-height = b.height /ᶠ two64 in
-    extents (b.center.x -ᶠ half-width) (b.center.x +ᶠ half-width) (b.center.y -ᶠ half-height) (b.center.y +ᶠ half-height)
+    let half_width = b.width /ᶠ two64 in
+    let half_height = b.height /ᶠ two64 in
+    extents (b.center.x -ᶠ half_width) (b.center.x +ᶠ half_width) (b.center.y -ᶠ half_height) (b.center.y +ᶠ half_height)

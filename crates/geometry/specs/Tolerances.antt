@@ -1,25 +1,25 @@
 -- The tolerances of circles, by what they are for. Their bits, and the decimals of which these are the nearest f64, stand in binary64.
 use Rattle.std.specs.Prelude.{Float}
-use Rattle.binary64.specs.Constants.{tenToMinus7, tenToMinus9, tenToMinus10, tenToMinus12}
+use Rattle.binary64.specs.Constants.{ten_to_minus7, ten_to_minus9, ten_to_minus10, ten_to_minus12}
 
 -- An arc of a smaller turn, or of a full turn but for less, is none.
-abbrev pub arcEps : Float
-arcEps = tenToMinus9
+abbrev pub arc_eps : Float
+arc_eps = ten_to_minus9
 
 -- Outlines so near to each other coincide: a distance, and the least share of the squared radius.
 abbrev pub coincidence : Float
-coincidence = tenToMinus7
+coincidence = ten_to_minus7
 
-abbrev pub coincidenceShare : Float
-coincidenceShare = tenToMinus12
+abbrev pub coincidence_share : Float
+coincidence_share = ten_to_minus12
 
 -- At the box: an angle so near to the end of an arc is the end, and a point so near to the box is in it.
-abbrev pub clipAngle : Float
-clipAngle = tenToMinus12
+abbrev pub clip_angle : Float
+clip_angle = ten_to_minus12
 
-abbrev pub clipBox : Float
-clipBox = tenToMinus9
+abbrev pub clip_box : Float
+clip_box = ten_to_minus9
 
 -- Areas up to this count as none.
 abbrev pub epsilon : Float
-epsilon = tenToMinus10
+epsilon = ten_to_minus10

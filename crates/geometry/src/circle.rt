@@ -4,7 +4,7 @@ ghost use Rattle.std.specs.Prelude.{◌≡◌, true, ◌&&◌};
 ghost use Rattle.binary64.specs.Constants.{zero64};
 ghost use Rattle.binary64.specs.Floats.{◌<ᶠ◌, ◌≤ᶠ◌};
 ghost use Rattle.elementary.specs.Root.{root};
-ghost use Rattle.geometry.specs.Moderate.{twoToThe64, Above};
+ghost use Rattle.geometry.specs.Moderate.{two_to_the64, Above};
 ghost use Rattle.geometry.specs.Circle as spec;
 ghost use Rattle.geometry.specs.Meeting.{points};
 ghost use Rattle.geometry.specs.Point.{distance};
@@ -72,7 +72,7 @@ impl Circle {
 
     // Whether the point lies within this circle or on its outline.
     pub fn contains_point(self, point: Point) -> bool
-        ensures { result ≡ spec.containsPoint self point }
+        ensures { result ≡ spec.contains_point self point }
     {
         root_at_most(squared_distance(self.center, point), self.radius)
     }
@@ -89,7 +89,7 @@ impl Circle {
     // Circles that touch from outside have none in common; of two within each other it is the
     // smaller one's area.
     pub fn intersection_area(self, other: Circle) -> f64
-        ensures { result ≡ spec.intersectionArea self other }
+        ensures { result ≡ spec.intersection_area self other }
     {
         let r1 = self.radius;
         let r2 = other.radius;
@@ -145,7 +145,7 @@ impl Circle {
 
     // Where the outlines meet. Identical circles meet nowhere (docs/DIFFERENCES.md).
     pub fn intersection_points(self, other: Circle) -> Meeting
-        ensures { points result ≡ spec.intersectionPoints self other }
+        ensures { points result ≡ spec.intersection_points self other }
     {
         if self.identical(other) {
             return Meeting::None;
@@ -173,7 +173,7 @@ fn squared_distance(p: Point, q: Point) -> f64
 
 // Whether a number is not below zero and below 2^64, so that its square is finite.
 fn moderate(x: f64) -> bool
-    ensures { result ≡ ((zero64 ≤ᶠ x) && (x <ᶠ twoToThe64)) }
+    ensures { result ≡ ((zero64 ≤ᶠ x) && (x <ᶠ two_to_the64)) }
 {
     0.0 <= x && x < 18446744073709551616.0
 }

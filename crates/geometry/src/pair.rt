@@ -1,6 +1,6 @@
 // A pair of heads and where their outlines meet.
 ghost use Rattle.std.specs.Prelude.{◌≡◌};
-ghost use Rattle.geometry.specs.Circle.{intersectionPoints};
+ghost use Rattle.geometry.specs.Circle.{intersection_points};
 ghost use Rattle.geometry.specs.Meeting.{points};
 
 use crate::circle::Circle;
@@ -19,7 +19,7 @@ impl Pair {
     pub fn new(first: usize, second: usize, a: Circle, b: Circle) -> Self
         ensures { (result.first ≡ first) ×
             (result.second ≡ second) ×
-            (points result.meeting ≡ intersectionPoints a b) }
+            (points result.meeting ≡ intersection_points a b) }
     {
         let meeting = a.intersection_points(b);
         Pair {

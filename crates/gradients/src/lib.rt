@@ -2,8 +2,8 @@
 ghost use Rattle.std.specs.Prelude.{◌≡◌, [], ◌∷◌};
 ghost use Rattle.masks.specs.Presence.{stands};
 ghost use Rattle.plan.specs.Table.{lent_by};
-ghost use Rattle.areas.specs.Sets.{planSets};
-ghost use Rattle.gradients.specs.Step.{gradientSlices, stepTo, gradientsWritten, gradientsStep, clippedStep, openStep, whichOf, planSlopes, Room, Of};
+ghost use Rattle.areas.specs.Sets.{plan_sets};
+ghost use Rattle.gradients.specs.Step.{gradient_slices, step_to, gradients_written, gradients_step, clipped_step, open_step, which_of, plan_slopes, Room, Of};
 
 use diagram::drawing::Drawing;
 use diagram::gradients::exclusive_areas_and_gradients_of;
@@ -50,17 +50,17 @@ fn write_gradients(
     exclusives: &mut [f64],
     gradients: &mut [f64],
 )
-    requires { Room plan drawing.boxed (gradientSlices presence.old exclusives.old gradients.old) × Of plan drawing.boxed drawing }
-    ensures { gradientSlices presence.new exclusives.new gradients.new
-        ≡ gradientsWritten plan.n (planSlopes drawing.boxed (λ q. stands sets.now) plan)
-        (gradientSlices presence.old exclusives.old gradients.old) }
+    requires { Room plan drawing.boxed (gradient_slices presence.old exclusives.old gradients.old) × Of plan drawing.boxed drawing }
+    ensures { gradient_slices presence.new exclusives.new gradients.new
+        ≡ gradients_written plan.n (plan_slopes drawing.boxed (λ q. stands sets.now) plan)
+        (gradient_slices presence.old exclusives.old gradients.old) }
 {
     exclusive_areas_and_gradients_of(sets, drawing, presence, exclusives, gradients);
 }
 
 // Which gradient rows a call writes.
 fn which(clipped: bool) -> Gradients
-    ensures { result ≡ whichOf clipped }
+    ensures { result ≡ which_of clipped }
 {
     if clipped {
         return Gradients::Clipped;
@@ -76,8 +76,8 @@ fn work_out(
     exclusives: &mut [f64],
     gradients: &mut [f64],
 ) -> Answer
-    ensures { stepTo (gradientSlices presence.new exclusives.new gradients.new) result
-        ≡ gradientsStep (whichOf clipped) (planSlopes clipped planSets) plan (gradientSlices presence.old exclusives.old gradients.old) }
+    ensures { step_to (gradient_slices presence.new exclusives.new gradients.new) result
+        ≡ gradients_step (which_of clipped) (plan_slopes clipped plan_sets) plan (gradient_slices presence.old exclusives.old gradients.old) }
 {
     let lent = lent_by(presence.len(), exclusives.len(), gradients.len());
     let answer = check_call(plan, which(clipped), lent);
@@ -103,8 +103,8 @@ pub fn gradients(
     exclusives: &mut [f64],
     gradients: &mut [f64],
 ) -> Answer
-    ensures { stepTo (gradientSlices presence.new exclusives.new gradients.new) result
-        ≡ clippedStep planSets plan (gradientSlices presence.old exclusives.old gradients.old) }
+    ensures { step_to (gradient_slices presence.new exclusives.new gradients.new) result
+        ≡ clipped_step plan_sets plan (gradient_slices presence.old exclusives.old gradients.old) }
 {
     work_out(plan, true, presence, exclusives, gradients)
 }
@@ -116,8 +116,8 @@ pub fn open_gradients(
     exclusives: &mut [f64],
     gradients: &mut [f64],
 ) -> Answer
-    ensures { stepTo (gradientSlices presence.new exclusives.new gradients.new) result
-        ≡ openStep planSets plan (gradientSlices presence.old exclusives.old gradients.old) }
+    ensures { step_to (gradient_slices presence.new exclusives.new gradients.new) result
+        ≡ open_step plan_sets plan (gradient_slices presence.old exclusives.old gradients.old) }
 {
     work_out(plan, false, presence, exclusives, gradients)
 }

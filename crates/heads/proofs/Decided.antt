@@ -7,20 +7,20 @@ use lib.Dec.{ltb}
 use borrow.Author.Tests.{ltb-true, ltb-false}
 use Rattle.heads.specs.declared.Relation.TheVariants.{Apart, TouchingOutside, Crossing, TouchingInside, Holding, Identical}
 use Rattle.heads.specs.Relation.{gap, relation}
-use Rattle.heads.specs.Cases.{relation-is, gap-zero}
+use Rattle.heads.specs.Cases.{relation_is, gap_zero}
 
 module _ (D a b t : ℕ) (e : t ≡ gap a b) where
   -- below t²
   pub holding : ltb D (t * t) ≡ true → Holding ≡ relation D a b
-  holding h = sym (relation-is Holding D a b (subst (λ (n : ℕ). D < n * n) e (ltb-true D (t * t) h)))
+  holding h = sym (relation_is Holding D a b (subst (λ (n : ℕ). D < n * n) e (ltb-true D (t * t) h)))
 
   -- at t², and t is zero
   pub same : D ≡ t * t → t ≡ 0 → Identical ≡ relation D a b
-  same h z = sym (relation-is Identical D a b (h ∙ ap (λ (n : ℕ). n * n) z, gap-zero a b (sym e ∙ z)))
+  same h z = sym (relation_is Identical D a b (h ∙ ap (λ (n : ℕ). n * n) z, gap_zero a b (sym e ∙ z)))
 
   -- at t², and t is not zero
   pub inside : D ≡ t * t → (t ≡ 0 → ⊥) → TouchingInside ≡ relation D a b
-  inside h z = sym (relation-is TouchingInside D a b (omega arith, h ∙ ap (λ (n : ℕ). n * n) e))
+  inside h z = sym (relation_is TouchingInside D a b (omega arith, h ∙ ap (λ (n : ℕ). n * n) e))
 
   -- neither below t² nor at it
   module _ (h : ltb D (t * t) ≡ false) (k : D ≡ t * t → ⊥) where
@@ -29,12 +29,12 @@ module _ (D a b t : ℕ) (e : t ≡ gap a b) where
 
     -- below s²
     pub crossing : ltb D ((a + b) * (a + b)) ≡ true → Crossing ≡ relation D a b
-    crossing l = sym (relation-is Crossing D a b (beyond, ltb-true D ((a + b) * (a + b)) l))
+    crossing l = sym (relation_is Crossing D a b (beyond, ltb-true D ((a + b) * (a + b)) l))
 
     -- at s²
     pub outside : D ≡ (a + b) * (a + b) → TouchingOutside ≡ relation D a b
-    outside l = sym (relation-is TouchingOutside D a b (beyond, l))
+    outside l = sym (relation_is TouchingOutside D a b (beyond, l))
 
     -- neither below s² nor at it
     pub apart : ltb D ((a + b) * (a + b)) ≡ false → (D ≡ (a + b) * (a + b) → ⊥) → Apart ≡ relation D a b
-    apart l n = sym (relation-is Apart D a b (omega (arith, ltb-false D ((a + b) * (a + b)) l)))
+    apart l n = sym (relation_is Apart D a b (omega (arith, ltb-false D ((a + b) * (a + b)) l)))

@@ -7,7 +7,7 @@ use Rattle.std.proofs.Math.Facts.{and_yes}
 use Rattle.std.proofs.lemmas.Bool.{lt-leb}
 use Rattle.heads.specs.declared.Relation.{Relation}
 use Rattle.heads.specs.declared.Relation.TheVariants.{Apart, TouchingOutside, Crossing, TouchingInside, Holding, Identical}
-use Rattle.heads.specs.Relation.{gap, identical, meets, meetsOnce, contains, relation, points, meeting, touching, covering}
+use Rattle.heads.specs.Relation.{gap, identical, meets, meets_once, contains, relation, points, meeting, touching, covering}
 
 -- what each case says of D and the radii
 abbrev pub Case : Relation → ℕ → ℕ → ℕ → Type 0
@@ -21,17 +21,17 @@ Case Identical D a b = (D ≡ 0) × (a ≡ b)
 -- ---- the difference of the radii
 
 -- symmetric; at most the sum; zero exactly for equal radii
-pub gap-comm : (a b : ℕ) → gap a b ≡ gap b a
+pub gap_comm : (a b : ℕ) → gap a b ≡ gap b a
 unfolding gap
-gap-comm a b = omega arith
+gap_comm a b = omega arith
 
-pub gap-le : (a b : ℕ) → gap a b ≤ a + b
+pub gap_le : (a b : ℕ) → gap a b ≤ a + b
 unfolding gap
-gap-le a b = omega arith
+gap_le a b = omega arith
 
-pub gap-zero : (a b : ℕ) → gap a b ≡ 0 → a ≡ b
+pub gap_zero : (a b : ℕ) → gap a b ≡ 0 → a ≡ b
 unfolding gap
-gap-zero a b e = omega arith
+gap_zero a b e = omega arith
 
 -- of the larger and the smaller
 pub gap_of : {a b : ℕ} → b ≤ a → gap a b ≡ a - b
@@ -43,8 +43,8 @@ unfolding gap
 gap_same e = omega arith
 
 -- t² ≤ s²
-pub gap-square-le : (a b : ℕ) → gap a b * gap a b ≤ (a + b) * (a + b)
-gap-square-le a b = mul-le-mul (gap-le a b) (gap-le a b)
+pub gap_square_le : (a b : ℕ) → gap a b * gap a b ≤ (a + b) * (a + b)
+gap_square_le a b = mul-le-mul (gap_le a b) (gap_le a b)
 
 -- ---- tests and numbers
 
@@ -56,50 +56,50 @@ order a b = go (ltb a b) (ltb b a) refl refl
     go false true e f = inr (inr (ltb-true b a f))
     go false false e f = inr (inl (le_antisymm (ltb-false b a f) (ltb-false a b e)))
 
-pos-root : {D : ℕ} (n : ℕ) → D < n * n → 0 < n
-pos-root zero h = omega arith
-pos-root (suc n) h = omega arith
+pos_root : {D : ℕ} (n : ℕ) → D < n * n → 0 < n
+pos_root zero h = omega arith
+pos_root (suc n) h = omega arith
 
-identical-no : (D a b : ℕ) → (D ≡ 0 → a ≡ b → ⊥) → identical D a b ≡ false
-identical-no D a b h = go (eqb D 0) (eqb a b) refl refl
+identical_no : (D a b : ℕ) → (D ≡ 0 → a ≡ b → ⊥) → identical D a b ≡ false
+identical_no D a b h = go (eqb D 0) (eqb a b) refl refl
   where
     go : (p q : Bool) → eqb D 0 ≡ p → eqb a b ≡ q → (p && q) ≡ false
     go true true e f = absurd (h (eqb-true D 0 e) (eqb-true a b f))
     go true false e f = refl
     go false q e f = refl
 
-identical-yes : (D a b : ℕ) → D ≡ 0 → a ≡ b → identical D a b ≡ true
-identical-yes D a b e f = simp (eq-eqb D 0 e, eq-eqb a b f)
+identical_yes : (D a b : ℕ) → D ≡ 0 → a ≡ b → identical D a b ≡ true
+identical_yes D a b e f = simp (eq-eqb D 0 e, eq-eqb a b f)
 
 -- no two heads are identical at a distance, or with radii that differ
-apart-no : (D a b : ℕ) → 0 < D → identical D a b ≡ false
-apart-no D a b h = identical-no D a b (λ e f. omega arith)
+apart_no : (D a b : ℕ) → 0 < D → identical D a b ≡ false
+apart_no D a b h = identical_no D a b (λ e f. omega arith)
 
-gap-no : (D a b : ℕ) → 0 < gap a b → identical D a b ≡ false
-gap-no D a b h = identical-no D a b (λ e f. omega (arith, gap_same f))
+gap_no : (D a b : ℕ) → 0 < gap a b → identical D a b ≡ false
+gap_no D a b h = identical_no D a b (λ e f. omega (arith, gap_same f))
 
 -- ---- exactly one case
 
 -- where a case's fact holds, the relation is that case
-pub relation-is : (r : Relation) (D a b : ℕ) → Case r D a b → relation D a b ≡ r
+pub relation_is : (r : Relation) (D a b : ℕ) → Case r D a b → relation D a b ≡ r
 unfolding relation
-relation-is Apart D a b h =
-    let l = gap-square-le a b in
+relation_is Apart D a b h =
+    let l = gap_square_le a b in
     simp
-    (apart-no D a b (omega arith), le-ltb D (gap a b * gap a b) (omega arith), ne_eqb D (gap a b * gap a b) (λ e. omega arith), le-ltb D ((a + b) * (a + b)) (omega arith), ne_eqb D ((a + b) * (a + b)) (λ e. omega arith))
-relation-is TouchingOutside D a b h =
+    (apart_no D a b (omega arith), le-ltb D (gap a b * gap a b) (omega arith), ne_eqb D (gap a b * gap a b) (λ e. omega arith), le-ltb D ((a + b) * (a + b)) (omega arith), ne_eqb D ((a + b) * (a + b)) (λ e. omega arith))
+relation_is TouchingOutside D a b h =
     simp
-    (apart-no D a b (omega arith), le-ltb D (gap a b * gap a b) (omega arith), ne_eqb D (gap a b * gap a b) (λ e. omega arith), le-ltb D ((a + b) * (a + b)) (omega arith), eq-eqb D ((a + b) * (a + b)) h.1)
-relation-is Crossing D a b h =
+    (apart_no D a b (omega arith), le-ltb D (gap a b * gap a b) (omega arith), ne_eqb D (gap a b * gap a b) (λ e. omega arith), le-ltb D ((a + b) * (a + b)) (omega arith), eq-eqb D ((a + b) * (a + b)) h.1)
+relation_is Crossing D a b h =
     simp
-    (apart-no D a b (omega arith), le-ltb D (gap a b * gap a b) (omega arith), ne_eqb D (gap a b * gap a b) (λ e. omega arith), lt-ltb D ((a + b) * (a + b)) h.1)
-relation-is TouchingInside D a b h =
-    simp (gap-no D a b h.0, le-ltb D (gap a b * gap a b) (omega arith), eq-eqb D (gap a b * gap a b) h.1)
-relation-is Holding D a b h = simp (gap-no D a b (pos-root (gap a b) h), lt-ltb D (gap a b * gap a b) h)
-relation-is Identical D a b h = simp (identical-yes D a b h.0 h.1)
+    (apart_no D a b (omega arith), le-ltb D (gap a b * gap a b) (omega arith), ne_eqb D (gap a b * gap a b) (λ e. omega arith), lt-ltb D ((a + b) * (a + b)) h.1)
+relation_is TouchingInside D a b h =
+    simp (gap_no D a b h.0, le-ltb D (gap a b * gap a b) (omega arith), eq-eqb D (gap a b * gap a b) h.1)
+relation_is Holding D a b h = simp (gap_no D a b (pos_root (gap a b) h), lt-ltb D (gap a b * gap a b) h)
+relation_is Identical D a b h = simp (identical_yes D a b h.0 h.1)
 
-some-case : (D a b : ℕ) → (r : Relation) × Case r D a b
-some-case D a b = inside (order D (gap a b * gap a b)) (order 0 (gap a b)) (order D ((a + b) * (a + b)))
+some_case : (D a b : ℕ) → (r : Relation) × Case r D a b
+some_case D a b = inside (order D (gap a b * gap a b)) (order 0 (gap a b)) (order D ((a + b) * (a + b)))
   where
     outside : gap a b * gap a b < D → (D < (a + b) * (a + b)) ⊎ ((D ≡ (a + b) * (a + b)) ⊎ ((a + b) * (a + b) < D)) → (r : Relation) × Case r D a b
     outside h (inl k) = (Crossing, (h, k))
@@ -110,112 +110,112 @@ some-case D a b = inside (order D (gap a b * gap a b)) (order 0 (gap a b)) (orde
         → (D < (a + b) * (a + b)) ⊎ ((D ≡ (a + b) * (a + b)) ⊎ ((a + b) * (a + b) < D)) → (r : Relation) × Case r D a b
     inside (inl h) z k = (Holding, h)
     inside (inr (inl e)) (inl z) k = (TouchingInside, (z, e))
-    inside (inr (inl e)) (inr (inl z)) k = (Identical, (e ∙ ap (λ (n : ℕ). n * n) (sym z), gap-zero a b (sym z)))
+    inside (inr (inl e)) (inr (inl z)) k = (Identical, (e ∙ ap (λ (n : ℕ). n * n) (sym z), gap_zero a b (sym z)))
     inside (inr (inl e)) (inr (inr z)) k = absurd (omega arith)
     inside (inr (inr h)) z k = outside h k
 
 -- the fact of the case that `relation` gives holds
-pub case-of : (D a b : ℕ) → Case (relation D a b) D a b
-case-of D a b =
-    let found = some-case D a b in
-    subst (λ (r : Relation). Case r D a b) (sym (relation-is found.0 D a b found.1)) found.1
+pub case_of : (D a b : ℕ) → Case (relation D a b) D a b
+case_of D a b =
+    let found = some_case D a b in
+    subst (λ (r : Relation). Case r D a b) (sym (relation_is found.0 D a b found.1)) found.1
 
 -- exactly one case holds
-pub exactly-one : (D a b : ℕ) → (r : Relation) × Case r D a b × ((q : Relation) → Case q D a b → q ≡ r)
-exactly-one D a b = (relation D a b, case-of D a b, λ q h. sym (relation-is q D a b h))
+pub exactly_one : (D a b : ℕ) → (r : Relation) × Case r D a b × ((q : Relation) → Case q D a b → q ≡ r)
+exactly_one D a b = (relation D a b, case_of D a b, λ q h. sym (relation_is q D a b h))
 
 -- ---- symmetric in the radii
 
-case-comm : (r : Relation) (D a b : ℕ) → Case r D a b → Case r D b a
-case-comm Apart D a b h = omega arith
-case-comm TouchingOutside D a b h = rw (← gap-comm a b) (omega arith)
-case-comm Crossing D a b h = rw (← gap-comm a b) (omega arith)
-case-comm TouchingInside D a b h = rw (← gap-comm a b) h
-case-comm Holding D a b h = rw (← gap-comm a b) h
-case-comm Identical D a b h = (h.0, sym h.1)
+case_comm : (r : Relation) (D a b : ℕ) → Case r D a b → Case r D b a
+case_comm Apart D a b h = omega arith
+case_comm TouchingOutside D a b h = rw (← gap_comm a b) (omega arith)
+case_comm Crossing D a b h = rw (← gap_comm a b) (omega arith)
+case_comm TouchingInside D a b h = rw (← gap_comm a b) h
+case_comm Holding D a b h = rw (← gap_comm a b) h
+case_comm Identical D a b h = (h.0, sym h.1)
 
 -- the relation does not depend on which radius comes first
-pub relation-comm : (D a b : ℕ) → relation D a b ≡ relation D b a
-relation-comm D a b = sym (relation-is (relation D a b) D b a (case-comm (relation D a b) D a b (case-of D a b)))
+pub relation_comm : (D a b : ℕ) → relation D a b ≡ relation D b a
+relation_comm D a b = sym (relation_is (relation D a b) D b a (case_comm (relation D a b) D a b (case_of D a b)))
 
 -- ---- meets, meets in one point, contains
 
-meets-in : (r : Relation) (D a b : ℕ) → Case r D a b → meets D a b ≡ meeting r
+meets_in : (r : Relation) (D a b : ℕ) → Case r D a b → meets D a b ≡ meeting r
 unfolding meets
-meets-in Apart D a b h = simp (lt-leb D ((a + b) * (a + b)) h, and-false)
-meets-in TouchingOutside D a b h =
-    simp (le-leb (gap a b * gap a b) D (omega arith), le-leb D ((a + b) * (a + b)) (omega arith), apart-no D a b (omega arith))
-meets-in Crossing D a b h =
-    simp (le-leb (gap a b * gap a b) D (omega arith), le-leb D ((a + b) * (a + b)) (omega arith), apart-no D a b (omega arith))
-meets-in TouchingInside D a b h =
-    let l = gap-square-le a b in
-    simp (le-leb (gap a b * gap a b) D (omega arith), le-leb D ((a + b) * (a + b)) (omega arith), gap-no D a b h.0)
-meets-in Holding D a b h = simp (lt-leb (gap a b * gap a b) D h)
-meets-in Identical D a b h = simp (identical-yes D a b h.0 h.1, and-false)
+meets_in Apart D a b h = simp (lt-leb D ((a + b) * (a + b)) h, and-false)
+meets_in TouchingOutside D a b h =
+    simp (le-leb (gap a b * gap a b) D (omega arith), le-leb D ((a + b) * (a + b)) (omega arith), apart_no D a b (omega arith))
+meets_in Crossing D a b h =
+    simp (le-leb (gap a b * gap a b) D (omega arith), le-leb D ((a + b) * (a + b)) (omega arith), apart_no D a b (omega arith))
+meets_in TouchingInside D a b h =
+    let l = gap_square_le a b in
+    simp (le-leb (gap a b * gap a b) D (omega arith), le-leb D ((a + b) * (a + b)) (omega arith), gap_no D a b h.0)
+meets_in Holding D a b h = simp (lt-leb (gap a b * gap a b) D h)
+meets_in Identical D a b h = simp (identical_yes D a b h.0 h.1, and-false)
 
 -- two heads meet exactly if the relation is touching outside, crossing or touching inside
-pub meets-relation : (D a b : ℕ) → meets D a b ≡ meeting (relation D a b)
-meets-relation D a b = meets-in (relation D a b) D a b (case-of D a b)
+pub meets_relation : (D a b : ℕ) → meets D a b ≡ meeting (relation D a b)
+meets_relation D a b = meets_in (relation D a b) D a b (case_of D a b)
 
-once-in : (r : Relation) (D a b : ℕ) → Case r D a b → meetsOnce D a b ≡ touching r
-unfolding meetsOnce
-once-in Apart D a b h = simp (meets-in Apart D a b h)
-once-in TouchingOutside D a b h = simp (meets-in TouchingOutside D a b h, eq-eqb D ((a + b) * (a + b)) h.1, or-true)
-once-in Crossing D a b h =
+once_in : (r : Relation) (D a b : ℕ) → Case r D a b → meets_once D a b ≡ touching r
+unfolding meets_once
+once_in Apart D a b h = simp (meets_in Apart D a b h)
+once_in TouchingOutside D a b h = simp (meets_in TouchingOutside D a b h, eq-eqb D ((a + b) * (a + b)) h.1, or-true)
+once_in Crossing D a b h =
     simp
-    (meets-in Crossing D a b h, ne_eqb D (gap a b * gap a b) (λ e. omega arith), ne_eqb D ((a + b) * (a + b)) (λ e. omega arith))
-once-in TouchingInside D a b h = simp (meets-in TouchingInside D a b h, eq-eqb D (gap a b * gap a b) h.1)
-once-in Holding D a b h = simp (meets-in Holding D a b h)
-once-in Identical D a b h = simp (meets-in Identical D a b h)
+    (meets_in Crossing D a b h, ne_eqb D (gap a b * gap a b) (λ e. omega arith), ne_eqb D ((a + b) * (a + b)) (λ e. omega arith))
+once_in TouchingInside D a b h = simp (meets_in TouchingInside D a b h, eq-eqb D (gap a b * gap a b) h.1)
+once_in Holding D a b h = simp (meets_in Holding D a b h)
+once_in Identical D a b h = simp (meets_in Identical D a b h)
 
 -- they meet in one point exactly if the relation is one of the two touches
-pub meetsOnce-relation : (D a b : ℕ) → meetsOnce D a b ≡ touching (relation D a b)
-meetsOnce-relation D a b = once-in (relation D a b) D a b (case-of D a b)
+pub meets_once_relation : (D a b : ℕ) → meets_once D a b ≡ touching (relation D a b)
+meets_once_relation D a b = once_in (relation D a b) D a b (case_of D a b)
 
-reaches-in : (r : Relation) (D a b : ℕ) → Case r D a b → leb D (gap a b * gap a b) ≡ covering r
-reaches-in Apart D a b h = lt-leb D (gap a b * gap a b) (omega (arith, gap-square-le a b))
-reaches-in TouchingOutside D a b h = lt-leb D (gap a b * gap a b) h.0
-reaches-in Crossing D a b h = lt-leb D (gap a b * gap a b) h.0
-reaches-in TouchingInside D a b h = le-leb D (gap a b * gap a b) (omega arith)
-reaches-in Holding D a b h = le-leb D (gap a b * gap a b) (omega arith)
-reaches-in Identical D a b h = le-leb D (gap a b * gap a b) (omega arith)
+reaches_in : (r : Relation) (D a b : ℕ) → Case r D a b → leb D (gap a b * gap a b) ≡ covering r
+reaches_in Apart D a b h = lt-leb D (gap a b * gap a b) (omega (arith, gap_square_le a b))
+reaches_in TouchingOutside D a b h = lt-leb D (gap a b * gap a b) h.0
+reaches_in Crossing D a b h = lt-leb D (gap a b * gap a b) h.0
+reaches_in TouchingInside D a b h = le-leb D (gap a b * gap a b) (omega arith)
+reaches_in Holding D a b h = le-leb D (gap a b * gap a b) (omega arith)
+reaches_in Identical D a b h = le-leb D (gap a b * gap a b) (omega arith)
 
 -- a contains b exactly if its radius is not the smaller and the relation is touching inside, holding or identical
-pub contains-relation : (D a b : ℕ) → contains D a b ≡ (leb b a && covering (relation D a b))
+pub contains_relation : (D a b : ℕ) → contains D a b ≡ (leb b a && covering (relation D a b))
 unfolding contains
-contains-relation D a b = go (leb b a) refl
+contains_relation D a b = go (leb b a) refl
   where
     go : (p : Bool) → leb b a ≡ p → (p && leb D ((a - b) * (a - b))) ≡ (p && covering (relation D a b))
     go true e =
         ap (λ (n : ℕ). leb D (n * n)) (sym (gap_of (leb-true b a e)))
-        ∙ reaches-in (relation D a b) D a b (case-of D a b)
+        ∙ reaches_in (relation D a b) D a b (case_of D a b)
     go false e = refl
 
 -- nor does it matter to meeting
-pub meets-comm : (D a b : ℕ) → meets D a b ≡ meets D b a
-meets-comm D a b = meets-relation D a b ∙ ap meeting (relation-comm D a b) ∙ sym (meets-relation D b a)
+pub meets_comm : (D a b : ℕ) → meets D a b ≡ meets D b a
+meets_comm D a b = meets_relation D a b ∙ ap meeting (relation_comm D a b) ∙ sym (meets_relation D b a)
 
-pub meetsOnce-comm : (D a b : ℕ) → meetsOnce D a b ≡ meetsOnce D b a
-meetsOnce-comm D a b = meetsOnce-relation D a b ∙ ap touching (relation-comm D a b) ∙ sym (meetsOnce-relation D b a)
+pub meets_once_comm : (D a b : ℕ) → meets_once D a b ≡ meets_once D b a
+meets_once_comm D a b = meets_once_relation D a b ∙ ap touching (relation_comm D a b) ∙ sym (meets_once_relation D b a)
 
 -- the number of meeting points: none where two heads do not meet, one where they touch, otherwise two
-pub points-relation : (D a b : ℕ) → points (relation D a b) ≡ cond (meets D a b) (cond (meetsOnce D a b) 1 2) 0
-points-relation D a b = rw (meets-relation D a b, meetsOnce-relation D a b) (by-case (relation D a b))
+pub points_relation : (D a b : ℕ) → points (relation D a b) ≡ cond (meets D a b) (cond (meets_once D a b) 1 2) 0
+points_relation D a b = rw (meets_relation D a b, meets_once_relation D a b) (by_case (relation D a b))
   where
-    by-case : (r : Relation) → points r ≡ cond (meeting r) (cond (touching r) 1 2) 0
-    by-case Apart = refl
-    by-case TouchingOutside = refl
-    by-case Crossing = refl
-    by-case TouchingInside = refl
-    by-case Holding = refl
-    by-case Identical = refl
+    by_case : (r : Relation) → points r ≡ cond (meeting r) (cond (touching r) 1 2) 0
+    by_case Apart = refl
+    by_case TouchingOutside = refl
+    by_case Crossing = refl
+    by_case TouchingInside = refl
+    by_case Holding = refl
+    by_case Identical = refl
 
 -- ---- the same as facts on numbers
 
 -- two heads meet exactly if t² ≤ D ≤ s² and they are not identical
-pub meets-facts : (D a b : ℕ) → (meets D a b ≡ true) ↔ ((gap a b * gap a b ≤ D) × (D ≤ (a + b) * (a + b)) × (D ≡ 0 → a ≡ b → ⊥))
+pub meets_facts : (D a b : ℕ) → (meets D a b ≡ true) ↔ ((gap a b * gap a b ≤ D) × (D ≤ (a + b) * (a + b)) × (D ≡ 0 → a ≡ b → ⊥))
 unfolding meets
-meets-facts D a b = (there, λ h. simp (le-leb (gap a b * gap a b) D h.0, le-leb D ((a + b) * (a + b)) h.1, identical-no D a b h.2))
+meets_facts D a b = (there, λ h. simp (le-leb (gap a b * gap a b) D h.0, le-leb D ((a + b) * (a + b)) h.1, identical_no D a b h.2))
   where
     there : meets D a b ≡ true → (gap a b * gap a b ≤ D) × (D ≤ (a + b) * (a + b)) × (D ≡ 0 → a ≡ b → ⊥)
     there e =
@@ -223,13 +223,13 @@ meets-facts D a b = (there, λ h. simp (le-leb (gap a b * gap a b) D h.0, le-leb
         let two = and_yes (leb D ((a + b) * (a + b))) (not (identical D a b)) one.1 in (
           leb→le (gap a b * gap a b) D one.0,
           leb→le D ((a + b) * (a + b)) two.0,
-          λ z same. subst T (ap not (identical-yes D a b z same)) two.1,
+          λ z same. subst T (ap not (identical_yes D a b z same)) two.1,
         )
 
 -- a contains b exactly if its radius is not the smaller and D ≤ (a - b)²
-pub contains-facts : (D a b : ℕ) → (contains D a b ≡ true) ↔ ((b ≤ a) × (D ≤ (a - b) * (a - b)))
+pub contains_facts : (D a b : ℕ) → (contains D a b ≡ true) ↔ ((b ≤ a) × (D ≤ (a - b) * (a - b)))
 unfolding contains
-contains-facts D a b = (there, λ h. simp (le-leb b a h.0, le-leb D ((a - b) * (a - b)) h.1))
+contains_facts D a b = (there, λ h. simp (le-leb b a h.0, le-leb D ((a - b) * (a - b)) h.1))
   where
     there : contains D a b ≡ true → (b ≤ a) × (D ≤ (a - b) * (a - b))
     there e =

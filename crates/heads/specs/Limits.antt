@@ -4,40 +4,40 @@ use Rattle.std.specs.Int.Signed.{le_z}
 use Rattle.heads.specs.declared.Head.{Head}
 
 -- the greatest distance of an x or y from zero, the greatest radius, the greatest side
-abbrev pub positionLimit : ℕ
-positionLimit = 20000
+abbrev pub position_limit : ℕ
+position_limit = 20000
 
-abbrev pub radiusLimit : ℕ
-radiusLimit = 20000
+abbrev pub radius_limit : ℕ
+radius_limit = 20000
 
-abbrev pub sideLimit : ℕ
-sideLimit = 40000
+abbrev pub side_limit : ℕ
+side_limit = 40000
 
 -- from low to high, both ends taken
 abbrev pub within : ℤ → ℤ → ℤ → Bool
 within low high v = le_z low v && le_z v high
 
 -- "x or y of box or head: outside -20000 to 20000" is refused
-abbrev pub positionInLimits : ℤ → Bool
-positionInLimits v = within (neg_ℤ (pos positionLimit)) (pos positionLimit) v
+abbrev pub position_in_limits : ℤ → Bool
+position_in_limits v = within (neg_ℤ (pos position_limit)) (pos position_limit) v
 
 -- "radius: outside 1 to 20000" is refused
-abbrev pub radiusInLimits : ℤ → Bool
-radiusInLimits v = within (pos 1) (pos radiusLimit) v
+abbrev pub radius_in_limits : ℤ → Bool
+radius_in_limits v = within (pos 1) (pos radius_limit) v
 
 -- "side: outside 1 to 40000" is refused
-abbrev pub sideInLimits : ℤ → Bool
-sideInLimits v = within (pos 1) (pos sideLimit) v
+abbrev pub side_in_limits : ℤ → Bool
+side_in_limits v = within (pos 1) (pos side_limit) v
 
 -- A head that the checks accept: x, y and radius are within the limits.
-abbrev pub inLimits : Head → Bool
-inLimits h = positionInLimits h.x && (positionInLimits h.y && radiusInLimits h.radius)
+abbrev pub in_limits : Head → Bool
+in_limits h = position_in_limits h.x && (position_in_limits h.y && radius_in_limits h.radius)
 
 -- A head that is drawn: a circle of whole centimetres, its radius at least 1, and so of the domain on which the f64 work is exact or bounded. What asks for
 -- such a radius asks for this. Today every accepted head is drawn.
-abbrev pub isDrawn : Head → Bool
-isDrawn h = positionInLimits h.x && (positionInLimits h.y && radiusInLimits h.radius)
+abbrev pub is_drawn : Head → Bool
+is_drawn h = position_in_limits h.x && (position_in_limits h.y && radius_in_limits h.radius)
 
 -- "accepted" and "drawn" are two names, equal today: this is the one place where the one leads to the other
-pub accepted-drawn : (h : Head) → T (inLimits h) → T (isDrawn h)
-accepted-drawn h accepted = accepted
+pub accepted_drawn : (h : Head) → T (in_limits h) → T (is_drawn h)
+accepted_drawn h accepted = accepted

@@ -17,8 +17,8 @@ unfoldable pub meets : ℕ → ℕ → ℕ → Bool
 meets D a b = leb (gap a b * gap a b) D && (leb D ((a + b) * (a + b)) && not (identical D a b))
 
 -- "One point exactly if also D = t² or D = s², otherwise two."
-unfoldable pub meetsOnce : ℕ → ℕ → ℕ → Bool
-meetsOnce D a b = meets D a b && (eqb D (gap a b * gap a b) || eqb D ((a + b) * (a + b)))
+unfoldable pub meets_once : ℕ → ℕ → ℕ → Bool
+meets_once D a b = meets D a b && (eqb D (gap a b * gap a b) || eqb D ((a + b) * (a + b)))
 
 -- "A contains B exactly if rA ≥ rB and D ≤ (rA-rB)²."
 unfoldable pub contains : ℕ → ℕ → ℕ → Bool

@@ -1,9 +1,9 @@
 // A sprinkler head, document 01's limits, and how two heads lie to each other, in whole centimetres. No floats.
 // The contracts rest on specs/Limits.antt, specs/Relation.antt and specs/Pair.antt.
 ghost use Rattle.std.specs.Prelude.{◌≡◌, ◌+◌, ◌*◌, min, ltb, nat_abs, ◌-ℤ◌};
-ghost use Rattle.heads.specs.Limits.{within, positionInLimits, radiusInLimits, sideInLimits};
+ghost use Rattle.heads.specs.Limits.{within, position_in_limits, radius_in_limits, side_in_limits};
 ghost use Rattle.heads.specs.Relation.{gap, relation, number, meeting};
-ghost use Rattle.heads.specs.Pair.{aboveZero, squaredDistance, greatest, relationOf, meetsOf};
+ghost use Rattle.heads.specs.Pair.{above_zero, squared_distance, greatest, relation_of, meets_of};
 
 // A head: a circle about (x, y), in centimetres.
 #[derive(Drop)]
@@ -52,21 +52,21 @@ fn lies_within(low: i32, high: i32, v: i32) -> bool
 
 // Whether an x or y of a head or of the box is within the limits.
 pub fn position_in_limits(v: i32) -> bool
-    ensures { result ≡ positionInLimits v }
+    ensures { result ≡ position_in_limits v }
 {
     lies_within(-POSITION_LIMIT, POSITION_LIMIT, v)
 }
 
 // Whether a radius is within the limits.
 pub fn radius_in_limits(v: i32) -> bool
-    ensures { result ≡ radiusInLimits v }
+    ensures { result ≡ radius_in_limits v }
 {
     lies_within(RADIUS_LEAST, RADIUS_LIMIT, v)
 }
 
 // Whether a side of the box is within the limits.
 pub fn side_in_limits(v: i32) -> bool
-    ensures { result ≡ sideInLimits v }
+    ensures { result ≡ side_in_limits v }
 {
     lies_within(SIDE_LEAST, SIDE_LIMIT, v)
 }
@@ -169,14 +169,14 @@ fn capped_sum(a: u64, b: u64) -> u64
 
 // The squared distance of the centres, or the greatest u64 where it is above that, which no two heads within the limits reach.
 fn squared_distance(a: Head, b: Head) -> u64
-    ensures { result ≡ min (squaredDistance a b) greatest }
+    ensures { result ≡ min (squared_distance a b) greatest }
 {
     capped_sum(squared_difference(a.x, b.x), squared_difference(a.y, b.y))
 }
 
 // A radius as a whole number; one below zero counts as zero.
 fn above_zero(v: i32) -> u32
-    ensures { result ≡ aboveZero v }
+    ensures { result ≡ above_zero v }
 {
     if v < 0 {
         return 0;
@@ -186,7 +186,7 @@ fn above_zero(v: i32) -> u32
 
 // How two heads lie to each other.
 pub fn relation_of(a: Head, b: Head) -> Relation
-    ensures { result ≡ relationOf a b }
+    ensures { result ≡ relation_of a b }
 {
     relation_at(
         squared_distance(a, b),
@@ -197,7 +197,7 @@ pub fn relation_of(a: Head, b: Head) -> Relation
 
 // Whether two heads meet, in one point or in two.
 pub fn meets(a: Head, b: Head) -> bool
-    ensures { result ≡ meetsOf a b }
+    ensures { result ≡ meets_of a b }
 {
     is_meeting(relation_of(a, b))
 }

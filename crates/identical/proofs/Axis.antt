@@ -9,10 +9,10 @@ use lib.IntN.{ℤ, pos, nat_abs}
 use lib.Ieee.{Float, binary64, of_int, add, sub, mul}
 use Rattle.binary64.specs.Units.{one, pow2, Finite, mag, plus, minus}
 use Rattle.binary64.specs.Magnitude.{Most}
-use Rattle.binary64.proofs.Error.{add-near, sub-near, mul-near}
-use Rattle.binary64.proofs.Magnitude.{add_most, sub-most, mul_most, most-weaken}
-use Rattle.binary64.proofs.Units.{one-pos, one-sided, plus-minus, pow2-split}
-use Rattle.binary64.proofs.Whole.{ofInt-most, ofInt-pos}
+use Rattle.binary64.proofs.Error.{add_near, sub_near, mul_near}
+use Rattle.binary64.proofs.Magnitude.{add_most, sub_most, mul_most, most_weaken}
+use Rattle.binary64.proofs.Units.{one_pos, one_sided, plus_minus, pow2_split}
+use Rattle.binary64.proofs.Whole.{of_int_most, of_int_pos}
 
 abbrev pub fine : ℕ
 fine = pow2 1034
@@ -26,7 +26,7 @@ sizes p n P N r h (inr a) (inl b) up down = let c = ap (λ (z : ℕ). r * z) b i
 sizes p n P N r h (inr a) (inr b) up down = let c = ap (λ (z : ℕ). r * z) b in omega arith
 
 sides : (x : Float) → (minus x ≡ 0) ⊎ (plus x ≡ 0)
-sides x = go (one-sided x)
+sides x = go (one_sided x)
   where
     go : ((plus x ≡ mag x) × (minus x ≡ 0)) ⊎ ((plus x ≡ 0) × (minus x ≡ mag x)) → (minus x ≡ 0) ⊎ (plus x ≡ 0)
     go (inl e) = inl e.1
@@ -36,41 +36,41 @@ module _ (z : ℤ) (r : ℕ) (hz : nat_abs z ≤ 20000) (most : r ≤ 20000) (t 
   radius : Float
   radius = of_int binary64 (pos r)
 
-  radius-most : Most 20000 1074 radius
+  radius_most : Most 20000 1074 radius
   unfolding radius
-  radius-most = ofInt-most (pos r) (omega arith) most
+  radius_most = of_int_most (pos r) (omega arith) most
 
-  centre-most : Most 20000 1074 (of_int binary64 z)
-  centre-most = ofInt-most z (omega arith) hz
+  centre_most : Most 20000 1074 (of_int binary64 z)
+  centre_most = of_int_most z (omega arith) hz
 
   way : Float
   way = mul binary64 radius t
 
-  way-most : Most 20000 1074 way
+  way_most : Most 20000 1074 way
   unfolding way
-  way-most = mul_most radius-most ht 1074 refl (omega arith) (omega arith)
+  way_most = mul_most radius_most ht 1074 refl (omega arith) (omega arith)
 
   place : Float
   place = add binary64 (of_int binary64 z) way
 
-  place-most : Most 40000 1074 place
+  place_most : Most 40000 1074 place
   unfolding place
-  place-most = add_most centre-most way-most (omega arith) (omega arith)
+  place_most = add_most centre_most way_most (omega arith) (omega arith)
 
   back : Float
   back = sub binary64 place (of_int binary64 z)
 
-  back-most : Most 60000 1074 back
+  back_most : Most 60000 1074 back
   unfolding back
-  back-most = sub-most place-most centre-most (omega arith) (omega arith)
+  back_most = sub_most place_most centre_most (omega arith) (omega arith)
 
   -- each step in units of 2^-39
-  way-near : (plus way + r * minus t ≤ minus way + r * plus t + pow2 1035) × (minus way + r * plus t ≤ plus way + r * minus t + pow2 1035)
+  way_near : (plus way + r * minus t ≤ minus way + r * plus t + pow2 1035) × (minus way + r * plus t ≤ plus way + r * minus t + pow2 1035)
   unfolding way radius
-  way-near =
-      let near = mul-near radius-most ht way-most.finite 1074 15 1035 refl (omega arith) refl in
-      let parts = ofInt-pos r (omega arith) in
-      cancelled (plus way) (minus way) (plus t) (minus t) (plus radius) (minus radius) one (pow2 1035) parts.0 parts.1 near.over near.under one-pos
+  way_near =
+      let near = mul_near radius_most ht way_most.finite 1074 15 1035 refl (omega arith) refl in
+      let parts = of_int_pos r (omega arith) in
+      cancelled (plus way) (minus way) (plus t) (minus t) (plus radius) (minus radius) one (pow2 1035) parts.0 parts.1 near.over near.under one_pos
     where
       cancelled : (p n P N R M u h : ℕ) → R ≡ r * u → M ≡ 0 → p * u + (R * N + M * P) ≤ n * u + (R * P + M * N) + h * u
           → n * u + (R * P + M * N) ≤ p * u + (R * N + M * P) + h * u → 0 < u → (p + r * N ≤ n + r * P + h) × (n + r * P ≤ p + r * N + h)
@@ -81,25 +81,25 @@ module _ (z : ℤ) (r : ℕ) (hz : nat_abs z ≤ 20000) (most : r ≤ 20000) (t 
           let d = ap (λ (k : ℕ). k * P) f in
           (le_of_mul-le-mul_right (omega (arith, up, a, b, c, d)) U, le_of_mul-le-mul_right (omega (arith, down, a, b, c, d)) U)
 
-  back-near : (plus back + r * minus t ≤ minus back + r * plus t + 10 * fine) × (minus back + r * plus t ≤ plus back + r * minus t + 10 * fine)
+  back_near : (plus back + r * minus t ≤ minus back + r * plus t + 10 * fine) × (minus back + r * plus t ≤ plus back + r * minus t + 10 * fine)
   unfolding back place
-  back-near =
-      let there = add-near centre-most way-most place-most.finite 16 1036 (omega arith) refl in
-      let again = sub-near place-most centre-most back-most.finite 16 1036 (omega arith) refl in
-      let halves : pow2 1036 ≡ 4 * fine = pow2-split 2 1034 in
-      let quarters : pow2 1035 ≡ 2 * fine = pow2-split 1 1034 in
-      (omega (arith, there.over, again.over, way-near.0, halves, quarters), omega (arith, there.under, again.under, way-near.1, halves, quarters))
+  back_near =
+      let there = add_near centre_most way_most place_most.finite 16 1036 (omega arith) refl in
+      let again = sub_near place_most centre_most back_most.finite 16 1036 (omega arith) refl in
+      let halves : pow2 1036 ≡ 4 * fine = pow2_split 2 1034 in
+      let quarters : pow2 1035 ≡ 2 * fine = pow2_split 1 1034 in
+      (omega (arith, there.over, again.over, way_near.0, halves, quarters), omega (arith, there.under, again.under, way_near.1, halves, quarters))
 
   -- the way back is r times t, within 10 × 2^-40
-  pub back-size : (mag (sub binary64 (add binary64 (of_int binary64 z) (mul binary64 (of_int binary64 (pos r)) t)) (of_int binary64 z)) ≤ r * mag t + 10 * fine)
+  pub back_size : (mag (sub binary64 (add binary64 (of_int binary64 z) (mul binary64 (of_int binary64 (pos r)) t)) (of_int binary64 z)) ≤ r * mag t + 10 * fine)
       × (r * mag t ≤ mag (sub binary64 (add binary64 (of_int binary64 z) (mul binary64 (of_int binary64 (pos r)) t)) (of_int binary64 z)) + 10 * fine)
   unfolding back place way radius
-  back-size =
-      let both = sizes (plus back) (minus back) (plus t) (minus t) r (10 * fine) (sides back) (sides t) back-near.0 back-near.1 in
-      let own = plus-minus back in
-      let times = ap (λ (k : ℕ). r * k) (plus-minus t) in
+  back_size =
+      let both = sizes (plus back) (minus back) (plus t) (minus t) r (10 * fine) (sides back) (sides t) back_near.0 back_near.1 in
+      let own = plus_minus back in
+      let times = ap (λ (k : ℕ). r * k) (plus_minus t) in
       (omega (arith, both.0, own, times), omega (arith, both.1, own, times))
 
-  pub back-finite : Most 60000 1074 (sub binary64 (add binary64 (of_int binary64 z) (mul binary64 (of_int binary64 (pos r)) t)) (of_int binary64 z))
+  pub back_finite : Most 60000 1074 (sub binary64 (add binary64 (of_int binary64 z) (mul binary64 (of_int binary64 (pos r)) t)) (of_int binary64 z))
   unfolding back place way radius
-  back-finite = back-most
+  back_finite = back_most

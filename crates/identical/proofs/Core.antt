@@ -6,9 +6,9 @@ use native.Mathlib.Omega.{arith}
 
 module _ (u w : ℕ) (unit : u ≡ 2 ^ 40 * w) where
   -- A is at most r u, and P within 10 w of it: so are their squares, within (20 r + 1) u w
-  square-near : (P A r : ℕ) → P ≤ A + 10 * w → A ≤ P + 10 * w → A ≤ r * u
+  square_near : (P A r : ℕ) → P ≤ A + 10 * w → A ≤ P + 10 * w → A ≤ r * u
       → (P * P ≤ A * A + (20 * r + 1) * (u * w)) × (A * A ≤ P * P + (20 * r + 1) * (u * w))
-  square-near P A r up down l =
+  square_near P A r up down l =
       let small : 300 * (w * w) ≤ u * w = omega (arith, ap (λ (z : ℕ). z * w) unit) in
       let size = mul-le-mul_right w l in
       (omega (arith, mul-le-mul up up, small, size), omega (arith, mul-le-mul down down, mul-le-mul_right w up, small, size))
@@ -26,21 +26,21 @@ module _ (u w : ℕ) (unit : u ≡ 2 ^ 40 * w) where
       (hb : (b * u ≤ Q * Q + 2 ^ 15 * w * u) × (Q * Q ≤ b * u + 2 ^ 15 * w * u))
       (hz : (z ≤ a + b + 2 ^ 16 * w) × (a + b ≤ z + 2 ^ 16 * w)) (U : 0 < u) where
     PP : (P * P ≤ r * m * (r * m) + (20 * r + 1) * (u * w)) × (r * m * (r * m) ≤ P * P + (20 * r + 1) * (u * w))
-    PP = square-near P (r * m) r p.0 p.1 (mul-le-mul_left r hm)
+    PP = square_near P (r * m) r p.0 p.1 (mul-le-mul_left r hm)
 
     QQ : (Q * Q ≤ r * n * (r * n) + (20 * r + 1) * (u * w)) × (r * n * (r * n) ≤ Q * Q + (20 * r + 1) * (u * w))
-    QQ = square-near Q (r * n) r q.0 q.1 (mul-le-mul_left r hn)
+    QQ = square_near Q (r * n) r q.0 q.1 (mul-le-mul_left r hn)
 
-    one-near : (r * r * (m * m + n * n) ≤ r * r * (u * u) + 7 * (r * r) * (u * w)) × (r * r * (u * u) ≤ r * r * (m * m + n * n) + 7 * (r * r) * (u * w))
-    one-near =
+    one_near : (r * r * (m * m + n * n) ≤ r * r * (u * u) + 7 * (r * r) * (u * w)) × (r * r * (u * u) ≤ r * r * (m * m + n * n) + 7 * (r * r) * (u * w))
+    one_near =
         let near = sum_near (m * m + n * n) s.0 s.1 in
         (omega (arith, mul-le-mul_left (r * r) near.0), omega (arith, mul-le-mul_left (r * r) near.1))
 
     -- z is r² within (7 r² + 40 r + 131074) w
     pub within : (z ≤ r * r * u + (7 * (r * r) + 40 * r + 131074) * w) × (r * r * u ≤ z + (7 * (r * r) + 40 * r + 131074) * w)
     within = (
-      le_of_mul-le-mul_right (omega (arith, mul-le-mul_right u hz.0, ha.0, hb.0, PP.0, QQ.0, one-near.0)) U,
-      le_of_mul-le-mul_right (omega (arith, mul-le-mul_right u hz.1, ha.1, hb.1, PP.1, QQ.1, one-near.1)) U,
+      le_of_mul-le-mul_right (omega (arith, mul-le-mul_right u hz.0, ha.0, hb.0, PP.0, QQ.0, one_near.0)) U,
+      le_of_mul-le-mul_right (omega (arith, mul-le-mul_right u hz.1, ha.1, hb.1, PP.1, QQ.1, one_near.1)) U,
     )
 
 -- (r - 1) (20000 - r) is not below zero

@@ -7,7 +7,7 @@ use native.Mathlib.Omega.{arith}
 use lib.ListN.{length, replicate, length-append, length-map, length-replicate}
 use lib.IntN.{ℤ, pos, ◌+ℤ◌, ◌*ℤ◌}
 use lib.Pow.{pow-add}
-use Rattle.series.proofs.Exact.{zeros-value}
+use Rattle.series.proofs.Exact.{zeros_value}
 use Rattle.series.proofs.Integers.{parts, ⊖-eq, differences}
 use Rattle.series.proofs.Polynomial.{hval}
 
@@ -17,20 +17,20 @@ plus [] q = []
 plus (c ∷ p) [] = []
 plus (c ∷ p) (d ∷ q) = (c +ℤ d) ∷ plus p q
 
-pub length-plus : (p q : List ℤ) → length p ≡ length q → length (plus p q) ≡ length p
+pub length_plus : (p q : List ℤ) → length p ≡ length q → length (plus p q) ≡ length p
 unfolding plus
-length-plus [] q e = refl
-length-plus (c ∷ p) [] e = absurd (omega (arith, e))
-length-plus (c ∷ p) (d ∷ q) e = ap suc (length-plus p q (suc_inj e))
+length_plus [] q e = refl
+length_plus (c ∷ p) [] e = absurd (omega (arith, e))
+length_plus (c ∷ p) (d ∷ q) e = ap suc (length_plus p q (suc_inj e))
 
-pub plus-value : (p q : List ℤ) → length p ≡ length q → (x : ℤ) (y : ℕ) → hval (plus p q) x y ≡ hval p x y +ℤ hval q x y
+pub plus_value : (p q : List ℤ) → length p ≡ length q → (x : ℤ) (y : ℕ) → hval (plus p q) x y ≡ hval p x y +ℤ hval q x y
 unfolding plus hval
-plus-value [] [] e x y = refl
-plus-value [] (d ∷ q) e x y = absurd (omega (arith, e))
-plus-value (c ∷ p) [] e x y = absurd (omega (arith, e))
-plus-value (c ∷ p) (d ∷ q) e x y =
+plus_value [] [] e x y = refl
+plus_value [] (d ∷ q) e x y = absurd (omega (arith, e))
+plus_value (c ∷ p) [] e x y = absurd (omega (arith, e))
+plus_value (c ∷ p) (d ∷ q) e x y =
     let same = suc_inj e in
-    rw (length-plus p q same, plus-value p q same x y, ← same) (gather c d x (hval p x y) (hval q x y) (y ^ suc (length p)))
+    rw (length_plus p q same, plus_value p q same x y, ← same) (gather c d x (hval p x y) (hval q x y) (y ^ suc (length p)))
   where
     gather : (c d x P Q : ℤ) (Y : ℕ) → (c +ℤ d) *ℤ pos Y +ℤ x *ℤ (P +ℤ Q) ≡ (c *ℤ pos Y +ℤ x *ℤ P) +ℤ (d *ℤ pos Y +ℤ x *ℤ Q)
     gather c d x P Q Y =
@@ -59,14 +59,14 @@ scaled_value c (d ∷ p) x y = rw (length-map p (λ d. c *ℤ d), scaled_value c
         rw (c'.2, d'.2, x'.2, P'.2) (simp differences (⊖-eq _ _ _ _ (omega arith)))
 
 -- k zeros beyond p
-pub padded-value : (p : List ℤ) (k : ℕ) (x : ℤ) (y : ℕ) → hval (p ++ replicate k (pos 0)) x y ≡ hval p x y *ℤ pos (y ^ k)
+pub padded_value : (p : List ℤ) (k : ℕ) (x : ℤ) (y : ℕ) → hval (p ++ replicate k (pos 0)) x y ≡ hval p x y *ℤ pos (y ^ k)
 unfolding hval
-padded-value [] k x y = zeros-value k x y ∙ zero_left (y ^ k)
+padded_value [] k x y = zeros_value k x y ∙ zero_left (y ^ k)
   where
     zero_left : (Y : ℕ) → pos 0 ≡ pos 0 *ℤ pos Y
     zero_left Y = simp differences (⊖-eq _ _ _ _ (omega arith))
-padded-value (c ∷ p) k x y =
-    ap₂ (λ (e : ℕ) (z : ℤ). c *ℤ pos e +ℤ x *ℤ z) (power (length p) (length (p ++ replicate k (pos 0))) many) (padded-value p k x y)
+padded_value (c ∷ p) k x y =
+    ap₂ (λ (e : ℕ) (z : ℤ). c *ℤ pos e +ℤ x *ℤ z) (power (length p) (length (p ++ replicate k (pos 0))) many) (padded_value p k x y)
     ∙ gather c x (hval p x y) (y ^ suc (length p)) (y ^ k)
   where
     many : length (p ++ replicate k (pos 0)) ≡ length p + k
@@ -88,31 +88,31 @@ unfolding plus
 times [] q = replicate (length q) (pos 0)
 times (c ∷ p) q = plus (map (λ d. c *ℤ d) q ++ replicate (suc (length p)) (pos 0)) (pos 0 ∷ times p q)
 
-length-first : (c : ℤ) (p q : List ℤ) → length (map (λ d. c *ℤ d) q ++ replicate (suc (length p)) (pos 0)) ≡ suc (length p + length q)
-length-first c p q =
+length_first : (c : ℤ) (p q : List ℤ) → length (map (λ d. c *ℤ d) q ++ replicate (suc (length p)) (pos 0)) ≡ suc (length p + length q)
+length_first c p q =
     length-append (map (λ d. c *ℤ d) q) (replicate (suc (length p)) (pos 0))
     ∙ ap₂ (λ (a b : ℕ). a + b) (length-map q (λ d. c *ℤ d)) (length-replicate (suc (length p)) (pos 0)) ∙ omega arith
 
-pub length-times : (p q : List ℤ) → length (times p q) ≡ length p + length q
+pub length_times : (p q : List ℤ) → length (times p q) ≡ length p + length q
 unfolding times
-length-times [] q = length-replicate (length q) (pos 0) ∙ omega arith
-length-times (c ∷ p) q =
-    length-plus (map (λ d. c *ℤ d) q ++ replicate (suc (length p)) (pos 0)) (pos 0 ∷ times p q) (length-first c p q ∙ ap suc (sym (length-times p q)))
-    ∙ length-first c p q ∙ together (length p) (length q)
+length_times [] q = length-replicate (length q) (pos 0) ∙ omega arith
+length_times (c ∷ p) q =
+    length_plus (map (λ d. c *ℤ d) q ++ replicate (suc (length p)) (pos 0)) (pos 0 ∷ times p q) (length_first c p q ∙ ap suc (sym (length_times p q)))
+    ∙ length_first c p q ∙ together (length p) (length q)
   where
     together : (a b : ℕ) → suc (a + b) ≡ suc a + b
     together a b = omega arith
 
-pub times-value : (p q : List ℤ) (x : ℤ) (y : ℕ) → hval (times p q) x y ≡ hval p x y *ℤ hval q x y
+pub times_value : (p q : List ℤ) (x : ℤ) (y : ℕ) → hval (times p q) x y ≡ hval p x y *ℤ hval q x y
 unfolding times hval
-times-value [] q x y = zeros-value (length q) x y ∙ zero_left (hval q x y)
+times_value [] q x y = zeros_value (length q) x y ∙ zero_left (hval q x y)
   where
     zero_left : (Q : ℤ) → pos 0 ≡ pos 0 *ℤ Q
     zero_left Q = let Q' = parts Q in rw Q'.2 (simp differences (⊖-eq _ _ _ _ (omega arith)))
-times-value (c ∷ p) q x y =
-    plus-value (map (λ d. c *ℤ d) q ++ replicate (suc (length p)) (pos 0)) (pos 0 ∷ times p q) (length-first c p q ∙ ap suc (sym (length-times p q))) x y
+times_value (c ∷ p) q x y =
+    plus_value (map (λ d. c *ℤ d) q ++ replicate (suc (length p)) (pos 0)) (pos 0 ∷ times p q) (length_first c p q ∙ ap suc (sym (length_times p q))) x y
     ∙ ap₂ (λ (a b : ℤ). a +ℤ (pos 0 *ℤ pos (y ^ suc (length (times p q))) +ℤ x *ℤ b))
-    (padded-value (map (λ d. c *ℤ d) q) (suc (length p)) x y ∙ ap (λ (z : ℤ). z *ℤ pos (y ^ suc (length p))) (scaled_value c q x y)) (times-value p q x y)
+    (padded_value (map (λ d. c *ℤ d) q) (suc (length p)) x y ∙ ap (λ (z : ℤ). z *ℤ pos (y ^ suc (length p))) (scaled_value c q x y)) (times_value p q x y)
     ∙ gather c x (hval p x y) (hval q x y) (y ^ suc (length p)) (y ^ suc (length (times p q)))
   where
     gather : (c x P Q : ℤ) (Y Z : ℕ) → (c *ℤ Q) *ℤ pos Y +ℤ (pos 0 *ℤ pos Z +ℤ x *ℤ (P *ℤ Q)) ≡ (c *ℤ pos Y +ℤ x *ℤ P) *ℤ Q

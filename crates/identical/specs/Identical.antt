@@ -2,8 +2,8 @@
 -- proofs/Theorem.antt.
 use Rattle.std.specs.Prelude.{◌≡◌, List, ◌∷◌, ◌++◌, suc, ◌+◌, T, length}
 use Rattle.heads.specs.declared.Head.{Head}
-use Rattle.heads.specs.Limits.{isDrawn}
-use Rattle.exact.specs.Circle.{circleOf}
+use Rattle.heads.specs.Limits.{is_drawn}
+use Rattle.exact.specs.Circle.{circle_of}
 use Rattle.intersections.specs.Members.{Member}
 use Rattle.boundary.specs.NoArc.{NoneOf}
 use Rattle.boundary.specs.Outline.{outline}
@@ -11,5 +11,5 @@ use Rattle.boundary.specs.Outline.{outline}
 -- In a set with two identical heads the higher one, m, gets no arc: a point of its edge is on the edge of the lower one, l. Of the lower one's arcs nothing is
 -- claimed: with a third head a meeting point may fail its twin's distance test by a rounding.
 abbrev pub HigherHasNoArc : Type 0
-HigherHasNoArc = (h : Head) → T (isDrawn h) → (before between after : List Member) (l m : Member) → l.circle ≡ circleOf h → m.circle ≡ circleOf h
+HigherHasNoArc = (h : Head) → T (is_drawn h) → (before between after : List Member) (l m : Member) → l.circle ≡ circle_of h → m.circle ≡ circle_of h
     → NoneOf (length before + suc (length between)) (outline (before ++ (l ∷ (between ++ (m ∷ after)))))

@@ -4,59 +4,59 @@ use Rattle.std.specs.Float.Ieee.{neg}
 use Rattle.elementary.specs.Arctangent.{acos, asin}
 use Rattle.geometry.specs.declared.bounds.Bounds.{Bounds}
 use Rattle.geometry.specs.declared.circle.Circle.{Circle}
-use Rattle.geometry.specs.Tolerances.{clipAngle}
+use Rattle.geometry.specs.Tolerances.{clip_angle}
 use Rattle.lists.specs.Lists.{keep}
-use Rattle.binary64.specs.Constants.{zero64, one64, pi, twoPi}
+use Rattle.binary64.specs.Constants.{zero64, one64, pi, two_pi}
 use Rattle.binary64.specs.Functions.{absolute}
 use Rattle.binary64.specs.Floats.{◌+ᶠ◌, ◌-ᶠ◌, ◌*ᶠ◌, ◌/ᶠ◌, ◌<ᶠ◌, ◌≤ᶠ◌}
-use Rattle.boundary.specs.Sort.{sortOnto, sorted}
+use Rattle.boundary.specs.Sort.{sort_onto, sorted}
 use Rattle.boundary.specs.declared.arcs.BoundaryArc.{BoundaryArc}
 
 -- strictly inside the arc from a to b: further than 1e-12 from either end
-unfoldable pub strictlyInside : Float → Float → Float → Bool
-strictlyInside a b p = (a +ᶠ clipAngle <ᶠ p) && (p <ᶠ b -ᶠ clipAngle)
+unfoldable pub strictly_inside : Float → Float → Float → Bool
+strictly_inside a b p = (a +ᶠ clip_angle <ᶠ p) && (p <ᶠ b -ᶠ clip_angle)
 
 -- an angle, a turn before, as it is, and a turn after
 abbrev pub copies : Float → List Float
-copies phi = map (λ k. phi +ᶠ k *ᶠ twoPi) ((neg one64) ∷ (zero64 ∷ (one64 ∷ [])))
+copies phi = map (λ k. phi +ᶠ k *ᶠ two_pi) ((neg one64) ∷ (zero64 ∷ (one64 ∷ [])))
 
 -- those of them inside the arc from a to b
-unfoldable pub periodicInRange : Float → Float → Float → List Float
-unfolding keep strictlyInside
-periodicInRange phi a b = keep (strictlyInside a b) (copies phi)
+unfoldable pub periodic_in_range : Float → Float → Float → List Float
+unfolding keep strictly_inside
+periodic_in_range phi a b = keep (strictly_inside a b) (copies phi)
 
 -- where the arc crosses the vertical line at x: the cosine is (x - xc) / r
-unfoldable pub verticalCrossings : Float → Circle → Float → Float → List Float
-unfolding periodicInRange
-verticalCrossings x c a b =
+unfoldable pub vertical_crossings : Float → Circle → Float → Float → List Float
+unfolding periodic_in_range
+vertical_crossings x c a b =
     let q = (x -ᶠ c.center.x) /ᶠ c.radius in
-    cond (absolute q ≤ᶠ one64) (periodicInRange (acos q) a b ++ periodicInRange (neg (acos q)) a b) []
+    cond (absolute q ≤ᶠ one64) (periodic_in_range (acos q) a b ++ periodic_in_range (neg (acos q)) a b) []
 
 -- where the arc crosses the horizontal line at y: the sine is (y - yc) / r
-unfoldable pub horizontalCrossings : Float → Circle → Float → Float → List Float
-unfolding periodicInRange
-horizontalCrossings y c a b =
+unfoldable pub horizontal_crossings : Float → Circle → Float → Float → List Float
+unfolding periodic_in_range
+horizontal_crossings y c a b =
     let q = (y -ᶠ c.center.y) /ᶠ c.radius in
-    cond (absolute q ≤ᶠ one64) (periodicInRange (asin q) a b ++ periodicInRange (pi -ᶠ asin q) a b) []
+    cond (absolute q ≤ᶠ one64) (periodic_in_range (asin q) a b ++ periodic_in_range (pi -ᶠ asin q) a b) []
 
 -- the crossings with the box, in the Rust's order
 unfoldable pub crossings : Bounds → Circle → Float → Float → List Float
-unfolding verticalCrossings horizontalCrossings
+unfolding vertical_crossings horizontal_crossings
 crossings box c a b =
-    verticalCrossings box.x_min c a b
-    ++ (verticalCrossings box.x_max c a b
-    ++ (horizontalCrossings box.y_min c a b
-    ++ horizontalCrossings box.y_max c a b))
+    vertical_crossings box.x_min c a b
+    ++ (vertical_crossings box.x_max c a b
+    ++ (horizontal_crossings box.y_min c a b
+    ++ horizontal_crossings box.y_max c a b))
 
 -- the ends and the crossings, sorted stably
-unfoldable pub breaksBetween : Bounds → Circle → Float → Float → List Float
+unfoldable pub breaks_between : Bounds → Circle → Float → Float → List Float
 unfolding crossings sorted
-breaksBetween box c a b = sorted (a ∷ (crossings box c a b ++ (b ∷ [])))
+breaks_between box c a b = sorted (a ∷ (crossings box c a b ++ (b ∷ [])))
 
 -- the breaks of an arc, which ends at its start plus its length, not wrapped
 unfoldable pub breaks : Bounds → Circle → BoundaryArc → List Float
-unfolding breaksBetween
-breaks box c arc = breaksBetween box c arc.phi_start (arc.phi_start +ᶠ arc.delta_phi)
+unfolding breaks_between
+breaks box c arc = breaks_between box c arc.phi_start (arc.phi_start +ᶠ arc.delta_phi)
 
 -- ---- the list of breaks in 32 places of a lent array, the first n of it, with as many places for adopters beside
 
@@ -71,4 +71,4 @@ pub record Put (most n m : ℕ) (new phi phi' : List Float) (adopters' : List �
   pub few : m ≤ n + most
   pub places : length phi' ≡ 32
   pub beside : length adopters' ≡ 32
-  pub first : take m phi' ≡ sortOnto (take n phi) new
+  pub first : take m phi' ≡ sort_onto (take n phi) new

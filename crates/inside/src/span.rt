@@ -1,8 +1,8 @@
 // The span of an edge of the box: the part of it that every head of a set waters. The Rust has an Option<(f64, f64)> here.
 // Rests on specs/Span.antt.
 ghost use Rattle.std.specs.Prelude.{◌≡◌, map};
-ghost use Rattle.intersections.specs.Counted.{circleList};
-ghost use Rattle.inside.specs.Span.{spans, misses, halfChord, raised, lowered, open-between, seen, horizontalSpan, verticalSpan};
+ghost use Rattle.intersections.specs.Counted.{circle_list};
+ghost use Rattle.inside.specs.Span.{spans, misses, half_chord, raised, lowered, open-between, seen, horizontal_span, vertical_span};
 
 use binary64::larger;
 use elementary::root::root;
@@ -27,7 +27,7 @@ pub fn misses(y: f64, c: Circle) -> bool
 
 // Half the chord that a circle cuts from the line at y.
 pub fn half_chord(y: f64, c: Circle) -> f64
-    ensures { result ≡ halfChord y c }
+    ensures { result ≡ half_chord y c }
 {
     let dy = y - c.center.y;
     root(larger(c.radius * c.radius - dy * dy, 0.0))
@@ -69,7 +69,7 @@ pub fn seen(upright: bool, c: Circle) -> Circle
 // The span of the edge at `at` from `from` to `to`. The Rust also stops as soon as the ends have met: the answers are the
 // same, since the low end only rises and the high end only falls.
 fn edge_inside_interval(upright: bool, at: f64, from: f64, to: f64, set: Members) -> Span
-    ensures { spans result ≡ horizontalSpan at from to (map (seen upright) (circleList set)) }
+    ensures { spans result ≡ horizontal_span at from to (map (seen upright) (circle_list set)) }
 {
     let n = set.n;
     let mut lo = from;
@@ -93,14 +93,14 @@ fn edge_inside_interval(upright: bool, at: f64, from: f64, to: f64, set: Members
 
 // The span of the edge at y from x_min to x_max.
 pub fn horizontal_edge_inside_interval(y: f64, x_min: f64, x_max: f64, set: Members) -> Span
-    ensures { spans result ≡ horizontalSpan y x_min x_max (circleList set) }
+    ensures { spans result ≡ horizontal_span y x_min x_max (circle_list set) }
 {
     edge_inside_interval(false, y, x_min, x_max, set)
 }
 
 // The span of the edge at x from y_min to y_max.
 pub fn vertical_edge_inside_interval(x: f64, y_min: f64, y_max: f64, set: Members) -> Span
-    ensures { spans result ≡ verticalSpan x y_min y_max (circleList set) }
+    ensures { spans result ≡ vertical_span x y_min y_max (circle_list set) }
 {
     edge_inside_interval(true, x, y_min, y_max, set)
 }

@@ -7,16 +7,16 @@ use native.Mathlib.Omega.{arith}
 use lib.Ieee.{nan}
 use lib.ListN.{length, take, set, get_or, replicate, length-take, length-set, length-replicate}
 use lib.Seq.{get_or-take, take_all, take-suc}
-use Rattle.geometry.specs.Circle.{intersectionPoints}
+use Rattle.geometry.specs.Circle.{intersection_points}
 use Rattle.geometry.specs.declared.circle.Circle.{Circle}
 use Rattle.geometry.specs.declared.point.Point.{Point}
 use Rattle.lists.specs.Lists.{up_to}
-use Rattle.lists.proofs.Arrays.{capped-take}
-use Rattle.lists.proofs.Listing.{take-compose, pushed-one, pushed-full}
+use Rattle.lists.proofs.Arrays.{capped_take}
+use Rattle.lists.proofs.Listing.{take_compose, pushed_one, pushed_full}
 use Rattle.intersections.specs.declared.points.IntersectionPoint.{IntersectionPoint}
-use Rattle.intersections.specs.Members.{noCircle}
-use Rattle.intersections.specs.Points.{withAdopters, pairPoints, laterPoints, collected}
-use Rattle.intersections.specs.Counts.{collected-few}
+use Rattle.intersections.specs.Members.{no_circle}
+use Rattle.intersections.specs.Points.{with_adopters, pair_points, later_points, collected}
+use Rattle.intersections.specs.Counts.{collected_few}
 
 -- the first `count` of `all` are the list, as far as there is room
 pub record Held (all : List IntersectionPoint) (count : ℕ) (list : List IntersectionPoint) : Type 0 where
@@ -28,8 +28,8 @@ pub held_none : (q : IntersectionPoint) → Held (replicate 90 q) 0 []
 held_none q = record { places = length-replicate 90 q; room = omega arith; points = refl }
 
 module _ {all : List IntersectionPoint} {count : ℕ} {list : List IntersectionPoint} (h : Held all count list) where
-  held-as : {other : List IntersectionPoint} → list ≡ other → Held all count other
-  held-as e = record { places = h.places; room = h.room; points = h.points ∙ ap (take 90) e }
+  held_as : {other : List IntersectionPoint} → list ≡ other → Held all count other
+  held_as e = record { places = h.places; room = h.room; points = h.points ∙ ap (take 90) e }
 
   -- one more, while there is room
   held_one : (q : IntersectionPoint) → count < 90 → Held (set all count q) (count + 1) (list ++ (q ∷ []))
@@ -37,20 +37,20 @@ module _ {all : List IntersectionPoint} {count : ℕ} {list : List IntersectionP
       record {
         places = length-set all count q ∙ h.places;
         room = omega arith;
-        points = pushed-one all 90 count h.places q free ∙ rw h.points (take-compose 90 list (q ∷ []));
+        points = pushed_one all 90 count h.places q free ∙ rw h.points (take_compose 90 list (q ∷ []));
       }
 
-  held-full : (q : IntersectionPoint) → 90 ≤ count → Held all count (list ++ (q ∷ []))
-  held-full q full =
+  held_full : (q : IntersectionPoint) → 90 ≤ count → Held all count (list ++ (q ∷ []))
+  held_full q full =
       record {
         places = h.places;
         room = h.room;
-        points = pushed-full all 90 count h.places q full ∙ rw h.points (take-compose 90 list (q ∷ []));
+        points = pushed_full all 90 count h.places q full ∙ rw h.points (take_compose 90 list (q ∷ []));
       }
 
 -- the points of head i with the heads after it below j
-pub rowTo : List Circle → ℕ → ℕ → List IntersectionPoint
-rowTo cs i j = up_to (λ d. pairPoints cs i (i + 1 + d)) (j - (i + 1))
+pub row_to : List Circle → ℕ → ℕ → List IntersectionPoint
+row_to cs i j = up_to (λ d. pair_points cs i (i + 1 + d)) (j - (i + 1))
 
 -- what stands for a point that an array does not have
 abbrev nowhere : Point
@@ -61,7 +61,7 @@ pub record Rows (circles : List Circle) (n i : ℕ) (all : List IntersectionPoin
   pub ten : length circles ≡ 10
   pub most : n ≤ 10
   pub within : i ≤ n
-  pub held : Held all count (up_to (laterPoints (take n circles)) i)
+  pub held : Held all count (up_to (later_points (take n circles)) i)
 
 -- and those of head i with the heads below j
 pub record Row (circles : List Circle) (n i j : ℕ) (all : List IntersectionPoint) (count : ℕ) : Type 0 where
@@ -69,7 +69,7 @@ pub record Row (circles : List Circle) (n i j : ℕ) (all : List IntersectionPoi
   pub most : n ≤ 10
   pub after : i + 1 ≤ j
   pub within : j ≤ n
-  pub held : Held all count (up_to (laterPoints (take n circles)) i ++ rowTo (take n circles) i j)
+  pub held : Held all count (up_to (later_points (take n circles)) i ++ row_to (take n circles) i j)
 
 -- and of the points in which heads i and j meet, the first `many` of two, the first k
 pub record Met (circles : List Circle) (n i j : ℕ) (points : List Point) (many k : ℕ) (all : List IntersectionPoint) (count : ℕ)
@@ -82,65 +82,65 @@ pub record Met (circles : List Circle) (n i j : ℕ) (points : List Point) (many
   pub few : many ≤ 2
   pub within : k ≤ many
   pub held : Held all count
-      ((up_to (laterPoints (take n circles)) i ++ rowTo (take n circles) i j) ++ map (withAdopters (take n circles) i j) (take k points))
+      ((up_to (later_points (take n circles)) i ++ row_to (take n circles) i j) ++ map (with_adopters (take n circles) i j) (take k points))
 
 -- ---- lists
 
-row-none : (cs : List Circle) (i : ℕ) → rowTo cs i (i + 1) ≡ []
-unfolding rowTo up_to
-row-none cs i = let none : i + 1 - (i + 1) ≡ 0 = omega arith in rw none
+row_none : (cs : List Circle) (i : ℕ) → row_to cs i (i + 1) ≡ []
+unfolding row_to up_to
+row_none cs i = let none : i + 1 - (i + 1) ≡ 0 = omega arith in rw none
 
-row_on : (cs : List Circle) (i j : ℕ) → i + 1 ≤ j → rowTo cs i j ++ pairPoints cs i j ≡ rowTo cs i (j + 1)
-unfolding rowTo up_to
+row_on : (cs : List Circle) (i j : ℕ) → i + 1 ≤ j → row_to cs i j ++ pair_points cs i j ≡ row_to cs i (j + 1)
+unfolding row_to up_to
 row_on cs i j h =
     let more : j + 1 - (i + 1) ≡ suc (j - (i + 1)) = omega arith in
     let at : i + 1 + (j - (i + 1)) ≡ j = omega arith in
     rw (more, at)
 
-row-whole : (cs : List Circle) (i j : ℕ) → j ≡ length cs → rowTo cs i j ≡ laterPoints cs i
-unfolding rowTo laterPoints
-row-whole cs i j e = rw e
+row_whole : (cs : List Circle) (i j : ℕ) → j ≡ length cs → row_to cs i j ≡ later_points cs i
+unfolding row_to later_points
+row_whole cs i j e = rw e
 
-rows_on : (cs : List Circle) (i : ℕ) → up_to (laterPoints cs) i ++ laterPoints cs i ≡ up_to (laterPoints cs) (i + 1)
+rows_on : (cs : List Circle) (i : ℕ) → up_to (later_points cs) i ++ later_points cs i ≡ up_to (later_points cs) (i + 1)
 unfolding up_to
 rows_on cs i = rw (add-one i)
 
-met-on : (f : Point → IntersectionPoint) (points : List Point) (k : ℕ) → k < length points
+met_on : (f : Point → IntersectionPoint) (points : List Point) (k : ℕ) → k < length points
     → map f (take k points) ++ (f (get_or points k nowhere) ∷ []) ≡ map f (take (k + 1) points)
-met-on f points k h = rw (add-one k, take-suc points k nowhere h) (sym (map-append f (take k points) (get_or points k nowhere ∷ [])))
+met_on f points k h = rw (add-one k, take-suc points k nowhere h) (sym (map-append f (take k points) (get_or points k nowhere ∷ [])))
 
-met-whole : (circles : List Circle) (n i j : ℕ) → i < n → j < n
-    → map (withAdopters (take n circles) i j) (intersectionPoints (get_or circles i noCircle) (get_or circles j noCircle))
-    ≡ pairPoints (take n circles) i j
-unfolding pairPoints
-met-whole circles n i j hi hj = rw (get_or-take n circles i noCircle hi, get_or-take n circles j noCircle hj)
+met_whole : (circles : List Circle) (n i j : ℕ) → i < n → j < n
+    → map (with_adopters (take n circles) i j) (intersection_points (get_or circles i no_circle) (get_or circles j no_circle))
+    ≡ pair_points (take n circles) i j
+unfolding pair_points
+met_whole circles n i j hi hj = rw (get_or-take n circles i no_circle hi, get_or-take n circles j no_circle hj)
 
 -- ---- the loops
 
 module _ {circles : List Circle} {n i : ℕ} {all : List IntersectionPoint} {count : ℕ} where
   -- head i begins
-  pub row-start : Rows circles n i all count → i < n → Row circles n i (i + 1) all count
-  row-start r h =
-      let rows = up_to (laterPoints (take n circles)) i in
+  pub row_start : Rows circles n i all count → i < n → Row circles n i (i + 1) all count
+  row_start r h =
+      let rows = up_to (later_points (take n circles)) i in
       record {
         ten = r.ten;
         most = r.most;
         after = omega arith;
         within = omega arith;
-        held = held-as r.held (sym (ap (λ x. rows ++ x) (row-none (take n circles) i) ∙ append-nil rows));
+        held = held_as r.held (sym (ap (λ x. rows ++ x) (row_none (take n circles) i) ∙ append-nil rows));
       }
 
   -- it has met all heads after it
-  pub row-end : {j : ℕ} → Row circles n i j all count → n ≤ j → Rows circles n (i + 1) all count
-  row-end {j = j} r h =
+  pub row_end : {j : ℕ} → Row circles n i j all count → n ≤ j → Rows circles n (i + 1) all count
+  row_end {j = j} r h =
       let whole : j ≡ length (take n circles) = omega (arith, length-take n circles, r.ten, r.most, r.within) in
       record {
         ten = r.ten;
         most = r.most;
         within = omega (arith, r.after, r.within);
         held =
-            held-as r.held
-            (ap (λ x. up_to (laterPoints (take n circles)) i ++ x) (row-whole (take n circles) i j whole) ∙ rows_on (take n circles) i);
+            held_as r.held
+            (ap (λ x. up_to (later_points (take n circles)) i ++ x) (row_whole (take n circles) i j whole) ∙ rows_on (take n circles) i);
       }
 
   -- all heads: ten circles have no more points than there are places
@@ -150,8 +150,8 @@ module _ {circles : List Circle} {n i : ℕ} {all : List IntersectionPoint} {cou
   rows_end sets e r h =
       let many = length-take n circles in
       let whole : i ≡ length (take n circles) = omega (arith, many, r.ten, r.most, r.within) in
-      let same : take n circles ≡ take sets circles = ap (λ (k : ℕ). take k circles) e ∙ capped-take circles sets 10 r.ten in
-      let few = collected-few (take n circles) (omega (arith, many, r.most)) in
+      let same : take n circles ≡ take sets circles = ap (λ (k : ℕ). take k circles) e ∙ capped_take circles sets 10 r.ten in
+      let few = collected_few (take n circles) (omega (arith, many, r.most)) in
       let listed : take count all ≡ collected (take sets circles) =
       r.held.points ∙ rw whole (take_all 90 (collected (take n circles)) few) ∙ ap collected same in
       (listed, omega (arith, r.held.places, r.held.room, length-take count all, ap length listed))
@@ -168,21 +168,21 @@ module _ {circles : List Circle} {n i j : ℕ} {all : List IntersectionPoint} {c
         two = two;
         few = few;
         within = omega arith;
-        held = held-as r.held (sym (append-nil _));
+        held = held_as r.held (sym (append-nil _));
       }
 
   module _ {k : ℕ} (m : Met circles n i j points many k all count) where
     -- one point more, q
-    module _ {q : IntersectionPoint} (h : k < many) (e : q ≡ withAdopters (take n circles) i j (get_or points k nowhere)) where
+    module _ {q : IntersectionPoint} (h : k < many) (e : q ≡ with_adopters (take n circles) i j (get_or points k nowhere)) where
       met_next : {all' : List IntersectionPoint} {count' : ℕ}
           → Held all' count'
-          (((up_to (laterPoints (take n circles)) i ++ rowTo (take n circles) i j)
-          ++ map (withAdopters (take n circles) i j) (take k points))
+          (((up_to (later_points (take n circles)) i ++ row_to (take n circles) i j)
+          ++ map (with_adopters (take n circles) i j) (take k points))
           ++ (q ∷ []))
           → Met circles n i j points many (k + 1) all' count'
       met_next g =
-          let f = withAdopters (take n circles) i j in
-          let before = up_to (laterPoints (take n circles)) i ++ rowTo (take n circles) i j in
+          let f = with_adopters (take n circles) i j in
+          let before = up_to (later_points (take n circles)) i ++ row_to (take n circles) i j in
           record {
             ten = m.ten;
             most = m.most;
@@ -192,35 +192,35 @@ module _ {circles : List Circle} {n i j : ℕ} {all : List IntersectionPoint} {c
             few = m.few;
             within = omega arith;
             held =
-                held-as g
+                held_as g
                 (append_assoc before (map f (take k points)) (q ∷ [])
                 ∙ ap (λ x. before ++ x)
-                (ap (λ x. map f (take k points) ++ (x ∷ [])) e ∙ met-on f points k (omega (arith, m.two, m.few))));
+                (ap (λ x. map f (take k points) ++ (x ∷ [])) e ∙ met_on f points k (omega (arith, m.two, m.few))));
           }
 
-      pub met-one : count < 90 → Met circles n i j points many (k + 1) (set all count q) (count + 1)
-      met-one free = met_next (held_one m.held q free)
+      pub met_one : count < 90 → Met circles n i j points many (k + 1) (set all count q) (count + 1)
+      met_one free = met_next (held_one m.held q free)
 
-      pub met-full : 90 ≤ count → Met circles n i j points many (k + 1) all count
-      met-full full = met_next (held-full m.held q full)
+      pub met_full : 90 ≤ count → Met circles n i j points many (k + 1) all count
+      met_full full = met_next (held_full m.held q full)
 
     -- all their points
-    pub met-end : take many points ≡ intersectionPoints (get_or circles i noCircle) (get_or circles j noCircle) → many ≤ k
+    pub met_end : take many points ≡ intersection_points (get_or circles i no_circle) (get_or circles j no_circle) → many ≤ k
         → Row circles n i (j + 1) all count
-    met-end e h =
-        let f = withAdopters (take n circles) i j in
-        let rows = up_to (laterPoints (take n circles)) i in
-        let row = rowTo (take n circles) i j in
+    met_end e h =
+        let f = with_adopters (take n circles) i j in
+        let rows = up_to (later_points (take n circles)) i in
+        let row = row_to (take n circles) i j in
         let last : k ≡ many = omega (arith, m.within) in
         let whole = ap (λ (t : ℕ). map f (take t points)) last ∙ ap (map f) e
-        ∙ met-whole circles n i j (omega (arith, m.after, m.below)) m.below in
+        ∙ met_whole circles n i j (omega (arith, m.after, m.below)) m.below in
         record {
           ten = m.ten;
           most = m.most;
           after = omega (arith, m.after);
           within = omega (arith, m.below);
           held =
-              held-as m.held
-              (ap (λ x. (rows ++ row) ++ x) whole ∙ append_assoc rows row (pairPoints (take n circles) i j)
+              held_as m.held
+              (ap (λ x. (rows ++ row) ++ x) whole ∙ append_assoc rows row (pair_points (take n circles) i j)
               ∙ ap (λ x. rows ++ x) (row_on (take n circles) i j m.after));
         }

@@ -6,32 +6,32 @@ use native.Mathlib.Omega.{arith}
 use lib.Dec.{ltb}
 use borrow.Author.Tests.{ltb-true, ltb-false}
 use Rattle.masks.specs.Mask.{in_set, gather, every, subset}
-use Rattle.masks.specs.Operations.{in-beyond}
-use Rattle.masks.specs.Gather.{gather-lt, in-gather}
+use Rattle.masks.specs.Operations.{in_beyond}
+use Rattle.masks.specs.Gather.{gather_lt, in_gather}
 
-pub every-cong : (n : ℕ) (p p' : ℕ → Bool) → ((l : ℕ) → l < n → p l ≡ p' l) → every n p ≡ every n p'
+pub every_cong : (n : ℕ) (p p' : ℕ → Bool) → ((l : ℕ) → l < n → p l ≡ p' l) → every n p ≡ every n p'
 unfolding every
-every-cong zero p p' e = refl
-every-cong (suc n) p p' e = ap₂ ◌&&◌ (every-cong n p p' (λ l h. e l (omega arith))) (e n (omega arith))
+every_cong zero p p' e = refl
+every_cong (suc n) p p' e = ap₂ ◌&&◌ (every_cong n p p' (λ l h. e l (omega arith))) (e n (omega arith))
 
 -- whether S lies in a mask that is gathered by a test looks at the heads of S alone
-pub subset-alike : (w n S : ℕ) (p p' : ℕ → Bool) → ((l : ℕ) → in_set S l ≡ true → p l ≡ p' l) → subset w S (gather n p) ≡ subset w S (gather n p')
-subset-alike w n S p p' e = every-cong w _ _ (λ l h. at l (in_set S l) refl)
+pub subset_alike : (w n S : ℕ) (p p' : ℕ → Bool) → ((l : ℕ) → in_set S l ≡ true → p l ≡ p' l) → subset w S (gather n p) ≡ subset w S (gather n p')
+subset_alike w n S p p' e = every_cong w _ _ (λ l h. at l (in_set S l) refl)
   where
     gathered : (l : ℕ) → p l ≡ p' l → (b : Bool) → ltb l n ≡ b → in_set (gather n p) l ≡ in_set (gather n p') l
-    gathered l q true b = let h = ltb-true l n b in in-gather n p l h ∙ q ∙ sym (in-gather n p' l h)
+    gathered l q true b = let h = ltb-true l n b in in_gather n p l h ∙ q ∙ sym (in_gather n p' l h)
     gathered l q false b =
         let h = ltb-false l n b in
-        in-beyond n (gather n p) l (gather-lt n p) h ∙ sym (in-beyond n (gather n p') l (gather-lt n p') h)
+        in_beyond n (gather n p) l (gather_lt n p) h ∙ sym (in_beyond n (gather n p') l (gather_lt n p') h)
 
     at : (l : ℕ) (b : Bool) → in_set S l ≡ b → (not b || in_set (gather n p) l) ≡ (not b || in_set (gather n p') l)
     at l true i = gathered l (e l i) (ltb l n) refl
     at l false i = refl
 
 -- the heads of a mask below 2 ^ n are below n
-pub head-below : (S n l : ℕ) → S < 2 ^ n → in_set S l ≡ true → l < n
-head-below S n l h i = at (ltb l n) refl
+pub head_below : (S n l : ℕ) → S < 2 ^ n → in_set S l ≡ true → l < n
+head_below S n l h i = at (ltb l n) refl
   where
     at : (b : Bool) → ltb l n ≡ b → l < n
     at true e = ltb-true l n e
-    at false e = absurd (true≢false (sym i ∙ in-beyond n S l h (ltb-false l n e)))
+    at false e = absurd (true≢false (sym i ∙ in_beyond n S l h (ltb-false l n e)))

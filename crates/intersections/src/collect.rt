@@ -2,8 +2,8 @@
 ghost use Rattle.std.specs.Prelude.{◌≡◌, ◌||◌, ◌≤◌, ◌<◌, eqb, length, take};
 ghost use Rattle.geometry.specs.Meeting.{points};
 ghost use Rattle.masks.specs.Mask.{gather};
-ghost use Rattle.intersections.specs.Points.{adoptsPoint, adopts, withAdopters, collected};
-ghost use Rattle.intersections.specs.Counted.{pointList};
+ghost use Rattle.intersections.specs.Points.{adopts_point, adopts, with_adopters, collected};
+ghost use Rattle.intersections.specs.Counted.{point_list};
 
 use crate::members::at_most_ten;
 use crate::points::{IntersectionPoint, Intersections};
@@ -14,14 +14,14 @@ use geometry::point::Point;
 
 // Whether the circle c adopts the point p of the circles a and b.
 fn adopts_point(a: Circle, b: Circle, c: Circle, p: Point) -> bool
-    ensures { result ≡ adoptsPoint a b c p }
+    ensures { result ≡ adopts_point a b c p }
 {
     c.contains_point(p)
 }
 
 // Whether head l, the circle c, adopts a point of heads i and j, the circles a and b: a parent does without the test.
 fn adopts(a: Circle, b: Circle, c: Circle, i: usize, j: usize, p: Point, l: usize) -> bool
-    ensures { result ≡ (eqb l i || (eqb l j || adoptsPoint a b c p)) }
+    ensures { result ≡ (eqb l i || (eqb l j || adopts_point a b c p)) }
 {
     if l == i {
         return true;
@@ -53,7 +53,7 @@ fn adopters(circles: [Circle; 10], n: usize, i: usize, j: usize, p: Point) -> us
 // The meeting point p of heads i and j, with its adopters.
 fn with_adopters(circles: [Circle; 10], n: usize, i: usize, j: usize, p: Point) -> IntersectionPoint
     requires { (n ≤ 10) × ((i < n) × (j < n)) }
-    ensures { result ≡ withAdopters (take n circles) i j p }
+    ensures { result ≡ with_adopters (take n circles) i j p }
 {
     IntersectionPoint {
         point: p,
@@ -94,7 +94,7 @@ fn meeting_points(pair: Pair) -> MeetingPoints
 
 // The meeting points of the first n_sets circles. The list stays where it is: each point is put into its place.
 pub fn collect_intersections(circles: [Circle; 10], n_sets: usize) -> Intersections
-    ensures result_value { pointList result ≡ collected (take n_sets circles) }
+    ensures result_value { point_list result ≡ collected (take n_sets circles) }
     ensures n_value { result.n ≡ length (collected (take n_sets circles)) }
 {
     let n = at_most_ten(n_sets);

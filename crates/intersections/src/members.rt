@@ -1,8 +1,8 @@
 // The heads of a set, in order, and which points are counted for it there. Rests on specs/Members.antt.
 ghost use Rattle.std.specs.Prelude.{◌≡◌, map, min, take, length};
 ghost use Rattle.std.specs.Int.Count.{ones};
-ghost use Rattle.intersections.specs.Members.{headsOf, countedFor, circleAt};
-ghost use Rattle.intersections.specs.Counted.{headList, circleList};
+ghost use Rattle.intersections.specs.Members.{heads_of, counted_for, circle_at};
+ghost use Rattle.intersections.specs.Counted.{head_list, circle_list};
 
 use crate::points::IntersectionPoint;
 use geometry::circle::Circle;
@@ -24,9 +24,9 @@ pub struct Members {
 
 // The heads of a set among the first n_sets, one after another.
 fn gathered_members(mask: usize, circles: [Circle; 10], n_sets: usize) -> Members
-    ensures n_value { result.n ≡ length (headsOf (length (take n_sets circles)) mask) }
-    ensures result_value { headList result ≡ headsOf (length (take n_sets circles)) mask }
-    ensures result_value_2 { circleList result ≡ map (circleAt (take n_sets circles)) (headsOf (length (take n_sets circles)) mask) }
+    ensures n_value { result.n ≡ length (heads_of (length (take n_sets circles)) mask) }
+    ensures result_value { head_list result ≡ heads_of (length (take n_sets circles)) mask }
+    ensures result_value_2 { circle_list result ≡ map (circle_at (take n_sets circles)) (heads_of (length (take n_sets circles)) mask) }
 {
     let mut heads = [0usize; 10];
     let mut chosen = circles;
@@ -57,9 +57,9 @@ fn gathered_members(mask: usize, circles: [Circle; 10], n_sets: usize) -> Member
 // The head of a set of one, if it is among the first n_sets: its trailing zeros say which.
 fn single_member(mask: usize, circles: [Circle; 10], n_sets: usize) -> Members
     requires { ones mask ≡ 1 }
-    ensures n_value { result.n ≡ length (headsOf (length (take n_sets circles)) mask) }
-    ensures result_value { headList result ≡ headsOf (length (take n_sets circles)) mask }
-    ensures result_value_2 { circleList result ≡ map (circleAt (take n_sets circles)) (headsOf (length (take n_sets circles)) mask) }
+    ensures n_value { result.n ≡ length (heads_of (length (take n_sets circles)) mask) }
+    ensures result_value { head_list result ≡ heads_of (length (take n_sets circles)) mask }
+    ensures result_value_2 { circle_list result ≡ map (circle_at (take n_sets circles)) (heads_of (length (take n_sets circles)) mask) }
 {
     let j = usize::trailing_zeros(mask) as usize;
     let mut heads = [0usize; 10];
@@ -89,9 +89,9 @@ fn single_member(mask: usize, circles: [Circle; 10], n_sets: usize) -> Members
 
 // The heads of a set among the first n_sets.
 pub fn members_of(mask: usize, circles: [Circle; 10], n_sets: usize) -> Members
-    ensures n_value { result.n ≡ length (headsOf (length (take n_sets circles)) mask) }
-    ensures result_value { headList result ≡ headsOf (length (take n_sets circles)) mask }
-    ensures result_value_2 { circleList result ≡ map (circleAt (take n_sets circles)) (headsOf (length (take n_sets circles)) mask) }
+    ensures n_value { result.n ≡ length (heads_of (length (take n_sets circles)) mask) }
+    ensures result_value { head_list result ≡ heads_of (length (take n_sets circles)) mask }
+    ensures result_value_2 { circle_list result ≡ map (circle_at (take n_sets circles)) (heads_of (length (take n_sets circles)) mask) }
 {
     if usize::count_ones(mask) == 1 {
         return single_member(mask, circles, n_sets);
@@ -101,7 +101,7 @@ pub fn members_of(mask: usize, circles: [Circle; 10], n_sets: usize) -> Members
 
 // Whether a meeting point is counted for a set at head j.
 pub fn counted_for(mask: usize, j: usize, q: IntersectionPoint) -> bool
-    ensures { result ≡ countedFor mask j q }
+    ensures { result ≡ counted_for mask j q }
 {
     let adopted = mask & q.adopters == mask;
     if q.first == j {

@@ -11,24 +11,24 @@ use Rattle.lists.specs.Every.{Every}
 -- ---- a loop that appends
 
 -- the same lists give the same list
-pub upTo-cong : {A : Type 0} (f f' : ℕ → List A) (m : ℕ) → ((i : ℕ) → i < m → f i ≡ f' i) → up_to f m ≡ up_to f' m
+pub up_to_cong : {A : Type 0} (f f' : ℕ → List A) (m : ℕ) → ((i : ℕ) → i < m → f i ≡ f' i) → up_to f m ≡ up_to f' m
 unfolding up_to
-upTo-cong f f' zero e = refl
-upTo-cong f f' (suc m) e = ap₂ ◌++◌ (upTo-cong f f' m (λ i h. e i (omega arith))) (e m (omega arith))
+up_to_cong f f' zero e = refl
+up_to_cong f f' (suc m) e = ap₂ ◌++◌ (up_to_cong f f' m (λ i h. e i (omega arith))) (e m (omega arith))
 
 -- a function that goes through ++ goes through the loop
-pub upTo-through : {A B : Type 0} (F : List A → List B) → F [] ≡ [] → ((a b : List A) → F (a ++ b) ≡ F a ++ F b)
+pub up_to_through : {A B : Type 0} (F : List A → List B) → F [] ≡ [] → ((a b : List A) → F (a ++ b) ≡ F a ++ F b)
     → (f : ℕ → List A) (m : ℕ) → F (up_to f m) ≡ up_to (λ i. F (f i)) m
 unfolding up_to
-upTo-through F nil cat f zero = nil
-upTo-through F nil cat f (suc m) = cat (up_to f m) (f m) ∙ ap (λ l. l ++ F (f m)) (upTo-through F nil cat f m)
+up_to_through F nil cat f zero = nil
+up_to_through F nil cat f (suc m) = cat (up_to f m) (f m) ∙ ap (λ l. l ++ F (f m)) (up_to_through F nil cat f m)
 
 -- at most b each time
-pub upTo-few : {A : Type 0} (f : ℕ → List A) (b m : ℕ) → ((i : ℕ) → i < m → length (f i) ≤ b) → length (up_to f m) ≤ m * b
+pub up_to_few : {A : Type 0} (f : ℕ → List A) (b m : ℕ) → ((i : ℕ) → i < m → length (f i) ≤ b) → length (up_to f m) ≤ m * b
 unfolding up_to
-upTo-few f b zero h = omega arith
-upTo-few f b (suc m) h =
-    rw (length-append (up_to f m) (f m)) (omega (arith, upTo-few f b m (λ i k. h i (omega arith)), h m (omega arith)))
+up_to_few f b zero h = omega arith
+up_to_few f b (suc m) h =
+    rw (length-append (up_to f m) (f m)) (omega (arith, up_to_few f b m (λ i k. h i (omega arith)), h m (omega arith)))
 
 -- ---- the elements that pass
 
@@ -44,31 +44,31 @@ module _ {A : Type 0} (p : A → Bool) where
       by false e = e
 
   -- one more at the end
-  pub keep-push : (l : List A) (x : A) → keep p (l ++ (x ∷ [])) ≡ keep p l ++ cond (p x) (x ∷ []) []
+  pub keep_push : (l : List A) (x : A) → keep p (l ++ (x ∷ [])) ≡ keep p l ++ cond (p x) (x ∷ []) []
   unfolding keep
-  keep-push l x = keep_append l (x ∷ [])
+  keep_push l x = keep_append l (x ∷ [])
 
-  pub keep-length : (l : List A) → length (keep p l) ≤ length l
+  pub keep_length : (l : List A) → length (keep p l) ≤ length l
   unfolding keep
-  keep-length [] = omega arith
-  keep-length (x ∷ l) = by (p x) (keep-length l)
+  keep_length [] = omega arith
+  keep_length (x ∷ l) = by (p x) (keep_length l)
     where
       by : (b : Bool) → length (keep p l) ≤ length l → length (cond b (x ∷ keep p l) (keep p l)) ≤ suc (length l)
       by true h = omega arith
       by false h = omega arith
 
   -- none passes
-  pub keep-none : (l : List A) → Every (λ x. p x ≡ false) l → keep p l ≡ []
+  pub keep_none : (l : List A) → Every (λ x. p x ≡ false) l → keep p l ≡ []
   unfolding keep
-  keep-none [] h = refl
-  keep-none (x ∷ l) h = rw h.0 (keep-none l h.1)
+  keep_none [] h = refl
+  keep_none (x ∷ l) h = rw h.0 (keep_none l h.1)
 
   -- the same elements pass of two lists made alike, and are alike to f
-  pub keep-alike : {B C : Type 0} (f : A → B) (mk mk' : C → A) → ((c : C) → p (mk c) ≡ p (mk' c)) → ((c : C) → f (mk c) ≡ f (mk' c))
+  pub keep_alike : {B C : Type 0} (f : A → B) (mk mk' : C → A) → ((c : C) → p (mk c) ≡ p (mk' c)) → ((c : C) → f (mk c) ≡ f (mk' c))
       → (l : List C) → map f (keep p (map mk l)) ≡ map f (keep p (map mk' l))
   unfolding keep
-  keep-alike f mk mk' same e [] = refl
-  keep-alike f mk mk' same e (c ∷ l) = rw (same c) (by (p (mk' c)) (keep-alike f mk mk' same e l))
+  keep_alike f mk mk' same e [] = refl
+  keep_alike f mk mk' same e (c ∷ l) = rw (same c) (by (p (mk' c)) (keep_alike f mk mk' same e l))
     where
       by : (t : Bool) → map f (keep p (map mk l)) ≡ map f (keep p (map mk' l))
           → map f (cond t (mk c ∷ keep p (map mk l)) (keep p (map mk l))) ≡ map f (cond t (mk' c ∷ keep p (map mk' l)) (keep p (map mk' l)))
@@ -77,26 +77,26 @@ module _ {A : Type 0} (p : A → Bool) where
 
 -- ---- how many
 
-pub one-or-none : {A : Type 0} (b : Bool) (x : A) → length (cond b (x ∷ []) []) ≤ 1
-one-or-none true x = omega arith
-one-or-none false x = omega arith
+pub one_or_none : {A : Type 0} (b : Bool) (x : A) → length (cond b (x ∷ []) []) ≤ 1
+one_or_none true x = omega arith
+one_or_none false x = omega arith
 
 -- an element written over its like
-pub set-replicate : {A : Type 0} (n p : ℕ) (x : A) → set (replicate n x) p x ≡ replicate n x
-set-replicate zero p x = refl
-set-replicate (suc n) zero x = refl
-set-replicate (suc n) (suc p) x = ap (λ l. x ∷ l) (set-replicate n p x)
+pub set_replicate : {A : Type 0} (n p : ℕ) (x : A) → set (replicate n x) p x ≡ replicate n x
+set_replicate zero p x = refl
+set_replicate (suc n) zero x = refl
+set_replicate (suc n) (suc p) x = ap (λ l. x ∷ l) (set_replicate n p x)
 
 -- ---- a mapped list
 
 module _ {A B : Type 0} (f : A → B) where
-  pub map-set : (l : List A) (i : ℕ) (a : A) → map f (set l i a) ≡ set (map f l) i (f a)
-  map-set [] i a = refl
-  map-set (x ∷ l) zero a = refl
-  map-set (x ∷ l) (suc i) a = ap (λ t. f x ∷ t) (map-set l i a)
+  pub map_set : (l : List A) (i : ℕ) (a : A) → map f (set l i a) ≡ set (map f l) i (f a)
+  map_set [] i a = refl
+  map_set (x ∷ l) zero a = refl
+  map_set (x ∷ l) (suc i) a = ap (λ t. f x ∷ t) (map_set l i a)
 
   -- past the kit's law, each list with its own default
-  pub getD-mapped : (l : List A) (i : ℕ) (a : A) (b : B) → i < length l → get_or (map f l) i b ≡ f (get_or l i a)
-  getD-mapped [] i a b h = absurd (omega arith)
-  getD-mapped (x ∷ l) zero a b h = refl
-  getD-mapped (x ∷ l) (suc i) a b h = getD-mapped l i a b (omega arith)
+  pub get_d_mapped : (l : List A) (i : ℕ) (a : A) (b : B) → i < length l → get_or (map f l) i b ≡ f (get_or l i a)
+  get_d_mapped [] i a b h = absurd (omega arith)
+  get_d_mapped (x ∷ l) zero a b h = refl
+  get_d_mapped (x ∷ l) (suc i) a b h = get_d_mapped l i a b (omega arith)

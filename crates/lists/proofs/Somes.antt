@@ -19,14 +19,14 @@ pub some_next : (n : ℕ) (p : ℕ → Bool) → some (n + 1) p ≡ (some n p ||
 unfolding some
 some_next n p = ap (λ m. some m p) (add-one n)
 
-pub some-cong : (n : ℕ) (p q : ℕ → Bool) → ((i : ℕ) → i < n → p i ≡ q i) → some n p ≡ some n q
+pub some_cong : (n : ℕ) (p q : ℕ → Bool) → ((i : ℕ) → i < n → p i ≡ q i) → some n p ≡ some n q
 unfolding some
-some-cong zero p q e = refl
-some-cong (suc n) p q e = ap₂ (λ (a b : Bool). a || b) (some-cong n p q (λ i h. e i (omega arith))) (e n (omega arith))
+some_cong zero p q e = refl
+some_cong (suc n) p q e = ap₂ (λ (a b : Bool). a || b) (some_cong n p q (λ i h. e i (omega arith))) (e n (omega arith))
 
-pub some-zero : (p : ℕ → Bool) → some 0 p ≡ false
+pub some_zero : (p : ℕ → Bool) → some 0 p ≡ false
 unfolding some
-some-zero p = refl
+some_zero p = refl
 
 -- a number that passes
 pub some_of : (n : ℕ) (p : ℕ → Bool) (i : ℕ) → i < n → p i ≡ true → some n p ≡ true
@@ -39,10 +39,10 @@ some_of (suc n) p i h e =
     (eq-or-lt_of_le (le_of_suc-le-suc h))
 
 -- none passes
-pub some-none : (n : ℕ) (p : ℕ → Bool) → ((i : ℕ) → i < n → p i ≡ false) → some n p ≡ false
+pub some_none : (n : ℕ) (p : ℕ → Bool) → ((i : ℕ) → i < n → p i ≡ false) → some n p ≡ false
 unfolding some
-some-none zero p h = refl
-some-none (suc n) p h = ap₂ (λ (a b : Bool). a || b) (some-none n p (λ i k. h i (omega arith))) (h n (omega arith))
+some_none zero p h = refl
+some_none (suc n) p h = ap₂ (λ (a b : Bool). a || b) (some_none n p (λ i k. h i (omega arith))) (h n (omega arith))
 
 -- ---- some element of a list
 
@@ -51,9 +51,9 @@ unfolding any
 any_append p [] m = refl
 any_append p (x ∷ l) m = ap (λ (b : Bool). p x || b) (any_append p l m) ∙ sym (or_assoc (p x) (any p l) (any p m))
 
-any-one : {A : Type 0} (p : A → Bool) (x : A) → any p (x ∷ []) ≡ p x
+any_one : {A : Type 0} (p : A → Bool) (x : A) → any p (x ∷ []) ≡ p x
 unfolding any
-any-one p x = or-false (p x)
+any_one p x = or-false (p x)
 
 pub any_none : {A : Type 0} (p : A → Bool) (l : List A) → any p (take 0 l) ≡ false
 unfolding any
@@ -63,7 +63,7 @@ any_none p l = refl
 pub any_next : {A : Type 0} (p : A → Bool) (l : List A) (k : ℕ) (d : A) → k < length l → any p (take (k + 1) l) ≡ (any p (take k l) || p (get_or l k d))
 any_next p l k d h =
     ap (λ (m : ℕ). any p (take m l)) (add-one k) ∙ ap (any p) (take-suc l k d h) ∙ any_append p (take k l) (get_or l k d ∷ [])
-    ∙ ap (λ (b : Bool). any p (take k l) || b) (any-one p (get_or l k d))
+    ∙ ap (λ (b : Bool). any p (take k l) || b) (any_one p (get_or l k d))
 
 -- an element of the list that passes
 pub any_of : {A : Type 0} (p : A → Bool) (l : List A) (k n : ℕ) (d : A) → k < length l → k < n → p (get_or l k d) ≡ true → any p (take n l) ≡ true
@@ -75,7 +75,7 @@ any_of p (x ∷ l) (suc k) (suc n) d h g e =
     ap (λ (b : Bool). p x || b) (any_of p l k n d (omega arith) (omega arith) e) ∙ or-true (p x)
 
 -- some element of a loop that appends
-pub any-upTo : {A : Type 0} (p : A → Bool) (f : ℕ → List A) (m : ℕ) → any p (up_to f m) ≡ some m (λ k. any p (f k))
+pub any_up_to : {A : Type 0} (p : A → Bool) (f : ℕ → List A) (m : ℕ) → any p (up_to f m) ≡ some m (λ k. any p (f k))
 unfolding up_to some any
-any-upTo p f zero = refl
-any-upTo p f (suc m) = any_append p (up_to f m) (f m) ∙ ap (λ (b : Bool). b || any p (f m)) (any-upTo p f m)
+any_up_to p f zero = refl
+any_up_to p f (suc m) = any_append p (up_to f m) (f m) ∙ ap (λ (b : Bool). b || any p (f m)) (any_up_to p f m)

@@ -12,7 +12,7 @@ keep p [] = []
 keep p (x ∷ xs) = cond (p x) (x ∷ keep p xs) (keep p xs)
 
 -- a fold over the pairs of neighbours of a list: the Rust's windows(2)
-unfoldable pub overPairs : {A S : Type 0} → (S → A → A → S) → S → List A → S
-overPairs f s [] = s
-overPairs f s (a ∷ []) = s
-overPairs f s (a ∷ (b ∷ rest)) = overPairs f (f s a b) (b ∷ rest)
+unfoldable pub over_pairs : {A S : Type 0} → (S → A → A → S) → S → List A → S
+over_pairs f s [] = s
+over_pairs f s (a ∷ []) = s
+over_pairs f s (a ∷ (b ∷ rest)) = over_pairs f (f s a b) (b ∷ rest)

@@ -41,16 +41,16 @@ abbrev pub with_head : ℕ → ℕ → ℕ → ℕ
 with_head w S i = gather w (λ j. in_set S j || eqb j i)
 
 -- S without head i
-abbrev pub withoutHead : ℕ → ℕ → ℕ → ℕ
-withoutHead w S i = gather w (λ j. in_set S j && not (eqb j i))
+abbrev pub without_head : ℕ → ℕ → ℕ → ℕ
+without_head w S i = gather w (λ j. in_set S j && not (eqb j i))
 
 -- every head of S below w is in T
 abbrev pub subset : ℕ → ℕ → ℕ → Bool
 subset w S T = every w (λ j. not (in_set S j) || in_set T j)
 
 -- every head of S below w is in T, and they are not the same set
-abbrev pub strictSubset : ℕ → ℕ → ℕ → Bool
-strictSubset w S T = subset w S T && not (eqb S T)
+abbrev pub strict_subset : ℕ → ℕ → ℕ → Bool
+strict_subset w S T = subset w S T && not (eqb S T)
 
 -- ---- the terms that stand for what code writes at width w
 

@@ -9,6 +9,6 @@ abbrev pub stands : List ℕ → ℕ → Bool
 stands l S = eqb (get_or l S 0) 1
 
 -- a byte says what it stands for
-pub byte-stands : (b : Bool) → eqb (byte b) 1 ≡ b
-byte-stands true = refl
-byte-stands false = refl
+pub byte_stands : (b : Bool) → eqb (byte b) 1 ≡ b
+byte_stands true = refl
+byte_stands false = refl

@@ -5,95 +5,95 @@ use Rattle.std.proofs.Math.Arith.{bin_ind}
 use Rattle.std.specs.Int.Bits.{bit_and, bit_or}
 use Rattle.std.proofs.lemmas.Bool.{eqb-false}
 use Rattle.masks.specs.Mask.{bit, in_set, Subset, every, subset, shifted, complement}
-use Rattle.masks.specs.Operations.{bit-zero, bit-suc, bit_le, bit-and, bit-or, bit-ext, bit-minus, bit-beyond, bit-power-other, shifted-lt}
-use Rattle.masks.specs.Operations.{bit-with, bit-without, in-of-one, one-of-in, zero-of-in}
+use Rattle.masks.specs.Operations.{bit_zero, bit_suc, bit_le, bit-and, bit-or, bit_ext, bit_minus, bit_beyond, bit_power_other, shifted_lt}
+use Rattle.masks.specs.Operations.{bit_with, bit_without, in_of_one, one_of_in, zero_of_in}
 
 -- an order on sets
-pub subset-refl : (S : ℕ) → Subset S S
-subset-refl S i = le_refl (bit S i)
+pub subset_refl : (S : ℕ) → Subset S S
+subset_refl S i = le_refl (bit S i)
 
-pub subset-trans : (S T U : ℕ) → Subset S T → Subset T U → Subset S U
-subset-trans S T U h k i = le_trans (h i) (k i)
+pub subset_trans : (S T U : ℕ) → Subset S T → Subset T U → Subset S U
+subset_trans S T U h k i = le_trans (h i) (k i)
 
-pub subset-antisym : (S T : ℕ) → Subset S T → Subset T S → S ≡ T
-subset-antisym S T h k = bit-ext S T (λ i. le_antisymm (h i) (k i))
+pub subset_antisym : (S T : ℕ) → Subset S T → Subset T S → S ≡ T
+subset_antisym S T h k = bit_ext S T (λ i. le_antisymm (h i) (k i))
 
 -- `S & T` is a part of both, and both are parts of `S | T`
-pub and-subset-left : (S T : ℕ) → Subset (bit_and S T) S
-and-subset-left S T i = omega (arith, bit-and S T i)
+pub and_subset_left : (S T : ℕ) → Subset (bit_and S T) S
+and_subset_left S T i = omega (arith, bit-and S T i)
 
-pub and-subset-right : (S T : ℕ) → Subset (bit_and S T) T
-and-subset-right S T i = omega (arith, bit-and S T i)
+pub and_subset_right : (S T : ℕ) → Subset (bit_and S T) T
+and_subset_right S T i = omega (arith, bit-and S T i)
 
-pub or-subset-left : (S T : ℕ) → Subset S (bit_or S T)
-or-subset-left S T i = omega (arith, bit-or S T i)
+pub or_subset_left : (S T : ℕ) → Subset S (bit_or S T)
+or_subset_left S T i = omega (arith, bit-or S T i)
 
-pub or-subset-right : (S T : ℕ) → Subset T (bit_or S T)
-or-subset-right S T i = omega (arith, bit-or S T i)
+pub or_subset_right : (S T : ℕ) → Subset T (bit_or S T)
+or_subset_right S T i = omega (arith, bit-or S T i)
 
 -- `S & !T` is a part of S
-pub minus-subset : (w S T : ℕ) → S < 2 ^ w → T < 2 ^ w → Subset (bit_and S (complement w T)) S
-minus-subset w S T hs ht i = omega (arith, bit-minus w S T i hs ht)
+pub minus_subset : (w S T : ℕ) → S < 2 ^ w → T < 2 ^ w → Subset (bit_and S (complement w T)) S
+minus_subset w S T hs ht i = omega (arith, bit_minus w S T i hs ht)
 
 -- `S & T == S` exactly if S is a subset of T
-pub and-of-subset : (S T : ℕ) → Subset S T → bit_and S T ≡ S
-and-of-subset S T h = bit-ext (bit_and S T) S (λ i. omega (arith, bit-and S T i, h i))
+pub and_of_subset : (S T : ℕ) → Subset S T → bit_and S T ≡ S
+and_of_subset S T h = bit_ext (bit_and S T) S (λ i. omega (arith, bit-and S T i, h i))
 
-pub subset-of-and : (S T : ℕ) → bit_and S T ≡ S → Subset S T
-subset-of-and S T e i = omega (arith, bit-and S T i, ap (λ (n : ℕ). bit n i) e)
+pub subset_of_and : (S T : ℕ) → bit_and S T ≡ S → Subset S T
+subset_of_and S T e i = omega (arith, bit-and S T i, ap (λ (n : ℕ). bit n i) e)
 
 -- a subset is no larger as a number
-pub subset-le : (S T : ℕ) → Subset S T → S ≤ T
-subset-le =
+pub subset_le : (S T : ℕ) → Subset S T → S ≤ T
+subset_le =
     bin_ind (λ (n : ℕ). (T : ℕ) → Subset n T → n ≤ T) (λ T h. omega arith)
     (λ n ih T h. omega (
       arith,
-      ih (T / 2) (λ i. subst (λ (a : ℕ). a ≤ bit (T / 2) i) (bit-suc n i)
-          (subst (λ (b : ℕ). bit n (suc i) ≤ b) (bit-suc T i) (h (suc i)))),
-      bit-zero n,
-      bit-zero T,
+      ih (T / 2) (λ i. subst (λ (a : ℕ). a ≤ bit (T / 2) i) (bit_suc n i)
+          (subst (λ (b : ℕ). bit n (suc i) ≤ b) (bit_suc T i) (h (suc i)))),
+      bit_zero n,
+      bit_zero T,
       h 0,
     ))
 
 -- a strict subset is smaller as a number
-pub subset-lt : (S T : ℕ) → Subset S T → (S ≡ T → ⊥) → S < T
-subset-lt S T h n = let l = subset-le S T h in omega arith
+pub subset_lt : (S T : ℕ) → Subset S T → (S ≡ T → ⊥) → S < T
+subset_lt S T h n = let l = subset_le S T h in omega arith
 
 -- a head of S alone is a subset of S
-pub power-subset : (S i : ℕ) → bit S i ≡ 1 → Subset (2 ^ i) S
-power-subset S i e j = go (eqb i j) refl
+pub power_subset : (S i : ℕ) → bit S i ≡ 1 → Subset (2 ^ i) S
+power_subset S i e j = go (eqb i j) refl
   where
     go : (b : Bool) → eqb i j ≡ b → bit (2 ^ i) j ≤ bit S j
     go true f = let same = eqb-true i j f in omega (arith, ap (bit S) same, bit_le (2 ^ i) j)
-    go false f = omega (arith, bit-power-other i j (eqb-false i j f))
+    go false f = omega (arith, bit_power_other i j (eqb-false i j f))
 
 -- a join is a subset where both are
-pub or-subset : (S T U : ℕ) → Subset S U → Subset T U → Subset (bit_or S T) U
-or-subset S T U h k i = omega (arith, bit-or S T i, h i, k i)
+pub or_subset : (S T U : ℕ) → Subset S U → Subset T U → Subset (bit_or S T) U
+or_subset S T U h k i = omega (arith, bit-or S T i, h i, k i)
 
 -- `S & !(1 << i)` of a head of S is smaller, and `S | 1 << i` of another head larger
-pub without-lt : (w S i : ℕ) → S < 2 ^ w → i < w → bit S i ≡ 1 → bit_and S (complement w (shifted w i)) < S
-without-lt w S i hs h one =
-    subset-lt (bit_and S (complement w (shifted w i))) S (minus-subset w S (shifted w i) hs (shifted-lt w i))
-    (λ e. omega (arith, ap (λ (n : ℕ). bit n i) e, bit-without w S i hs h))
+pub without_lt : (w S i : ℕ) → S < 2 ^ w → i < w → bit S i ≡ 1 → bit_and S (complement w (shifted w i)) < S
+without_lt w S i hs h one =
+    subset_lt (bit_and S (complement w (shifted w i))) S (minus_subset w S (shifted w i) hs (shifted_lt w i))
+    (λ e. omega (arith, ap (λ (n : ℕ). bit n i) e, bit_without w S i hs h))
 
-pub with-gt : (w S i : ℕ) → i < w → bit S i ≡ 0 → S < bit_or S (shifted w i)
-with-gt w S i h none =
-    subset-lt S (bit_or S (shifted w i)) (or-subset-left S (shifted w i)) (λ e. omega (arith, ap (λ (n : ℕ). bit n i) e, bit-with w S i h))
+pub with_gt : (w S i : ℕ) → i < w → bit S i ≡ 0 → S < bit_or S (shifted w i)
+with_gt w S i h none =
+    subset_lt S (bit_or S (shifted w i)) (or_subset_left S (shifted w i)) (λ e. omega (arith, ap (λ (n : ℕ). bit n i) e, bit_with w S i h))
 
 -- ---- head by head
 
 -- S is a subset of T exactly if every head of S is in T
-pub subset-by-heads : (S T : ℕ) → ((i : ℕ) → in_set S i ≡ true → in_set T i ≡ true) → Subset S T
-subset-by-heads S T h i = go (in_set S i) refl
+pub subset_by_heads : (S T : ℕ) → ((i : ℕ) → in_set S i ≡ true → in_set T i ≡ true) → Subset S T
+subset_by_heads S T h i = go (in_set S i) refl
   where
     go : (b : Bool) → in_set S i ≡ b → bit S i ≤ bit T i
-    go true e = omega (arith, one-of-in S i e, one-of-in T i (h i e))
-    go false e = omega (arith, zero-of-in S i e)
+    go true e = omega (arith, one_of_in S i e, one_of_in T i (h i e))
+    go false e = omega (arith, zero_of_in S i e)
 
 -- and the other way
-pub subset-head : (S T : ℕ) → Subset S T → (i : ℕ) → in_set S i ≡ true → in_set T i ≡ true
-subset-head S T h i e = in-of-one T i (omega (arith, h i, one-of-in S i e, bit_le T i))
+pub subset_head : (S T : ℕ) → Subset S T → (i : ℕ) → in_set S i ≡ true → in_set T i ≡ true
+subset_head S T h i e = in_of_one T i (omega (arith, h i, one_of_in S i e, bit_le T i))
 
 -- ---- the test over the heads below w
 
@@ -102,12 +102,12 @@ and_both true b e = (refl, e)
 and_both false b e = absurd (subst T (sym e) tt)
 
 -- the test holds exactly if it holds at each head below w
-pub every-below : (w : ℕ) (p : ℕ → Bool) → every w p ≡ true → (i : ℕ) → i < w → p i ≡ true
+pub every_below : (w : ℕ) (p : ℕ → Bool) → every w p ≡ true → (i : ℕ) → i < w → p i ≡ true
 unfolding every
-every-below zero p e i h = absurd (omega arith)
-every-below (suc w) p e i h =
+every_below zero p e i h = absurd (omega arith)
+every_below (suc w) p e i h =
     let both = and_both (every w p) (p w) e in
-    ⊎_elim (λ k. ap p k ∙ both.1) (λ k. every-below w p both.0 i k) (eq-or-lt_of_le (le_of_suc-le-suc h))
+    ⊎_elim (λ k. ap p k ∙ both.1) (λ k. every_below w p both.0 i k) (eq-or-lt_of_le (le_of_suc-le-suc h))
 
 pub every_of : (w : ℕ) (p : ℕ → Bool) → ((i : ℕ) → i < w → p i ≡ true) → every w p ≡ true
 unfolding every
@@ -122,27 +122,27 @@ implies : (a b : Bool) → (a ≡ true → b ≡ true) → (not a || b) ≡ true
 implies true b h = h refl
 implies false b h = refl
 
-subset-of-test : (w S U : ℕ) → S < 2 ^ w → subset w S U ≡ true → Subset S U
-subset-of-test w S U hs e = subset-by-heads S U (λ i f. go i f (ltb i w) refl)
+subset_of_test : (w S U : ℕ) → S < 2 ^ w → subset w S U ≡ true → Subset S U
+subset_of_test w S U hs e = subset_by_heads S U (λ i f. go i f (ltb i w) refl)
   where
     go : (i : ℕ) → in_set S i ≡ true → (b : Bool) → ltb i w ≡ b → in_set U i ≡ true
     go i f true k =
-        implied (in_set S i) (in_set U i) (every-below w (λ j. not (in_set S j) || in_set U j) e i (ltb-true i w k)) f
-    go i f false k = absurd (omega (arith, one-of-in S i f, bit-beyond w S i hs (ltb-false i w k)))
+        implied (in_set S i) (in_set U i) (every_below w (λ j. not (in_set S j) || in_set U j) e i (ltb-true i w k)) f
+    go i f false k = absurd (omega (arith, one_of_in S i f, bit_beyond w S i hs (ltb-false i w k)))
 
-test-of-subset : (w S U : ℕ) → Subset S U → subset w S U ≡ true
-test-of-subset w S U h =
-    every_of w (λ j. not (in_set S j) || in_set U j) (λ i k. implies (in_set S i) (in_set U i) (subset-head S U h i))
+test_of_subset : (w S U : ℕ) → Subset S U → subset w S U ≡ true
+test_of_subset w S U h =
+    every_of w (λ j. not (in_set S j) || in_set U j) (λ i k. implies (in_set S i) (in_set U i) (subset_head S U h i))
 
 -- `S & T == S` is the test head by head
-pub and-test : (w S U : ℕ) → S < 2 ^ w → eqb (bit_and S U) S ≡ subset w S U
-and-test w S U hs = go (subset w S U) refl
+pub and_test : (w S U : ℕ) → S < 2 ^ w → eqb (bit_and S U) S ≡ subset w S U
+and_test w S U hs = go (subset w S U) refl
   where
     go : (b : Bool) → subset w S U ≡ b → eqb (bit_and S U) S ≡ b
-    go true e = eq-eqb (bit_and S U) S (and-of-subset S U (subset-of-test w S U hs e))
+    go true e = eq-eqb (bit_and S U) S (and_of_subset S U (subset_of_test w S U hs e))
     go false e =
-        ne_eqb (bit_and S U) S (λ f. subst T (sym (test-of-subset w S U (subset-of-and S U f)) ∙ e) tt)
+        ne_eqb (bit_and S U) S (λ f. subst T (sym (test_of_subset w S U (subset_of_and S U f)) ∙ e) tt)
 
 -- and it is true exactly for a subset
-pub subset-yes : (w S U : ℕ) → S < 2 ^ w → subset w S U ≡ true ↔ Subset S U
-subset-yes w S U hs = (subset-of-test w S U hs, test-of-subset w S U)
+pub subset_yes : (w S U : ℕ) → S < 2 ^ w → subset w S U ≡ true ↔ Subset S U
+subset_yes w S U hs = (subset_of_test w S U hs, test_of_subset w S U)

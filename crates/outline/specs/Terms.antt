@@ -5,11 +5,11 @@ use Rattle.geometry.specs.declared.circle.Circle.{Circle}
 use Rattle.boundary.specs.declared.arcs.BoundaryArc.{BoundaryArc}
 use Rattle.binary64.specs.Floats.{◌+ᶠ◌, ◌-ᶠ◌, ◌*ᶠ◌}
 
-unfoldable pub termX : Circle → BoundaryArc → Float
-termX c arc = let a = arc.phi_start in c.center.x *ᶠ c.radius *ᶠ (sin (a +ᶠ arc.delta_phi) -ᶠ sin a)
+unfoldable pub term_x : Circle → BoundaryArc → Float
+term_x c arc = let a = arc.phi_start in c.center.x *ᶠ c.radius *ᶠ (sin (a +ᶠ arc.delta_phi) -ᶠ sin a)
 
-unfoldable pub termY : Circle → BoundaryArc → Float
-termY c arc = let a = arc.phi_start in c.center.y *ᶠ c.radius *ᶠ (cos a -ᶠ cos (a +ᶠ arc.delta_phi))
+unfoldable pub term_y : Circle → BoundaryArc → Float
+term_y c arc = let a = arc.phi_start in c.center.y *ᶠ c.radius *ᶠ (cos a -ᶠ cos (a +ᶠ arc.delta_phi))
 
-unfoldable pub termR : Circle → BoundaryArc → Float
-termR c arc = c.radius *ᶠ c.radius *ᶠ arc.delta_phi
+unfoldable pub term_r : Circle → BoundaryArc → Float
+term_r c arc = c.radius *ᶠ c.radius *ᶠ arc.delta_phi

@@ -1,10 +1,10 @@
 // The area that arcs enclose: of a list of arcs, and of a set. Rests on specs/Area.antt.
 ghost use Rattle.std.specs.Prelude.{◌≡◌, take};
 ghost use Rattle.binary64.specs.Constants.{zero64};
-ghost use Rattle.outline.specs.Area.{arcTerms, addArc, addArcs, areaOf, openArea};
+ghost use Rattle.outline.specs.Area.{arc_terms, add_arc, add_arcs, area_of, open_area};
 ghost use Rattle.intersections.specs.Members.{members_of};
-ghost use Rattle.intersections.specs.Counted.{pointList};
-ghost use Rattle.boundary.specs.Counted.{arcList, outlineList};
+ghost use Rattle.intersections.specs.Counted.{point_list};
+ghost use Rattle.boundary.specs.Counted.{arc_list, outline_list};
 
 use crate::terms::{add_three, term_r, term_x, term_y};
 use boundary::arcs::{Arcs, BoundaryArc, Outline};
@@ -15,14 +15,14 @@ use intersections::points::Intersections;
 
 // The three terms of an arc of a circle, added to a sum.
 fn arc_terms(total: f64, c: Circle, arc: BoundaryArc) -> f64
-    ensures { result ≡ arcTerms total c arc }
+    ensures { result ≡ arc_terms total c arc }
 {
     add_three(total, term_x(c, arc), term_y(c, arc), term_r(c, arc))
 }
 
 // An arc added to a sum; one of no circle adds nothing.
 fn add_arc(total: f64, circles: [Circle; 10], n: usize, arc: BoundaryArc) -> f64
-    ensures { result ≡ addArc (take n circles) total arc }
+    ensures { result ≡ add_arc (take n circles) total arc }
 {
     let at = arc.circle;
     if n <= at {
@@ -36,7 +36,7 @@ fn add_arc(total: f64, circles: [Circle; 10], n: usize, arc: BoundaryArc) -> f64
 
 // The arcs of an outline, added up.
 fn arcs_sum(arcs: Outline, circles: [Circle; 10], n_sets: usize) -> f64
-    ensures { result ≡ addArcs (take n_sets circles) zero64 (outlineList arcs) }
+    ensures { result ≡ add_arcs (take n_sets circles) zero64 (outline_list arcs) }
 {
     let n = arcs.n;
     let mut total = 0.0;
@@ -53,14 +53,14 @@ fn arcs_sum(arcs: Outline, circles: [Circle; 10], n_sets: usize) -> f64
 
 // The area that a list of arcs encloses.
 pub fn area_from_boundary_arcs(arcs: Arcs, circles: [Circle; 10], n_sets: usize) -> f64
-    ensures { result ≡ areaOf (take n_sets circles) (arcList arcs) }
+    ensures { result ≡ area_of (take n_sets circles) (arc_list arcs) }
 {
     0.5 * arcs_sum(outline_from(arcs), circles, n_sets)
 }
 
 // The area that the heads of a set water together.
 pub fn region_area(mask: usize, circles: [Circle; 10], points: Intersections, n_sets: usize) -> f64
-    ensures { result ≡ openArea (members_of (take n_sets circles) (pointList points) mask) }
+    ensures { result ≡ open_area (members_of (take n_sets circles) (point_list points) mask) }
 {
     let set = members_of(mask, circles, n_sets);
     let theirs = set.circles;

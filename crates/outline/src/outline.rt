@@ -1,8 +1,8 @@
-// The outline of a set as a list of arcs, each with its head's number. Rests on `regionArcs` of boundary/specs/Set.antt.
+// The outline of a set as a list of arcs, each with its head's number. Rests on `region_arcs` of boundary/specs/Set.antt.
 ghost use Rattle.std.specs.Prelude.{◌≡◌, map, length, take};
-ghost use Rattle.boundary.specs.Set.{numbered, arcsHeld, regionArcs};
-ghost use Rattle.intersections.specs.Counted.{pointList, headList};
-ghost use Rattle.boundary.specs.Counted.{arcList, outlineList};
+ghost use Rattle.boundary.specs.Set.{numbered, arcs_held, region_arcs};
+ghost use Rattle.intersections.specs.Counted.{point_list, head_list};
+ghost use Rattle.boundary.specs.Counted.{arc_list, outline_list};
 
 use boundary::arcs::{Arcs, BoundaryArc, Outline};
 use boundary::walk::outline_of;
@@ -12,7 +12,7 @@ use intersections::points::Intersections;
 
 // The arc of a member as the arc of its head.
 fn numbered(arc: BoundaryArc, set: Members) -> BoundaryArc
-    ensures { result ≡ numbered (headList set) arc }
+    ensures { result ≡ numbered (head_list set) arc }
 {
     let mut renamed = arc;
     let k = arc.circle;
@@ -28,8 +28,8 @@ fn numbered(arc: BoundaryArc, set: Members) -> BoundaryArc
 
 // The arcs of an outline under head numbers, while there is room.
 fn numbered_arcs(arcs: Outline, set: Members) -> Arcs
-    ensures result_value { arcList result ≡ take arcsHeld (map (numbered (headList set)) (outlineList arcs)) }
-    ensures n_value { result.n ≡ length (arcList result) }
+    ensures result_value { arc_list result ≡ take arcs_held (map (numbered (head_list set)) (outline_list arcs)) }
+    ensures n_value { result.n ≡ length (arc_list result) }
 {
     let n = arcs.n;
     let mut all = [arcs.all[0]; 180];
@@ -52,8 +52,8 @@ pub fn region_boundary_arcs(
     points: Intersections,
     n_sets: usize,
 ) -> Arcs
-    ensures result_value { arcList result ≡ regionArcs (take n_sets circles) (pointList points) mask }
-    ensures n_value { result.n ≡ length (regionArcs (take n_sets circles) (pointList points) mask) }
+    ensures result_value { arc_list result ≡ region_arcs (take n_sets circles) (point_list points) mask }
+    ensures n_value { result.n ≡ length (region_arcs (take n_sets circles) (point_list points) mask) }
 {
     let set = members_of(mask, circles, n_sets);
     numbered_arcs(outline_of(mask, set, points), set)

@@ -5,16 +5,16 @@ use Prim.Native.Nat.{ℕ, zero, suc, ◌+◌, ◌-◌, ◌^◌, ◌≤◌, ◌<�
 use native.Mathlib.Omega.{arith}
 use lib.Ieee.{Float}
 use lib.ListN.{length, take, get_or, length-take}
-use Rattle.geometry.specs.Circle.{area, intersectionArea}
+use Rattle.geometry.specs.Circle.{area, intersection_area}
 use Rattle.geometry.specs.declared.circle.Circle.{Circle}
-use Rattle.intersections.specs.Members.{noCircle}
+use Rattle.intersections.specs.Members.{no_circle}
 use Rattle.overlaps.specs.Overlap.{of_all, overlap}
 
-pub of_one : (cs : List Circle) → 0 < length cs → area (get_or cs 0 noCircle) ≡ overlap (take 1 cs)
+pub of_one : (cs : List Circle) → 0 < length cs → area (get_or cs 0 no_circle) ≡ overlap (take 1 cs)
 of_one [] h = absurd (omega arith)
 of_one (a ∷ cs) h = refl
 
-pub of_two : (cs : List Circle) → 1 < length cs → intersectionArea (get_or cs 0 noCircle) (get_or cs 1 noCircle) ≡ overlap (take 2 cs)
+pub of_two : (cs : List Circle) → 1 < length cs → intersection_area (get_or cs 0 no_circle) (get_or cs 1 no_circle) ≡ overlap (take 2 cs)
 of_two [] h = absurd (omega arith)
 of_two (a ∷ []) h = absurd (omega arith)
 of_two (a ∷ b ∷ cs) h = refl

@@ -1,6 +1,6 @@
 // The area that circles water together. Rests on specs/Overlap.antt.
 ghost use Rattle.std.specs.Prelude.{◌≡◌, take};
-ghost use Rattle.overlaps.specs.Overlap.{overlap, overlapOf};
+ghost use Rattle.overlaps.specs.Overlap.{overlap, overlap_of};
 
 use geometry::circle::Circle;
 use intersections::collect::collect_intersections;
@@ -26,7 +26,7 @@ pub fn compute_overlaps_circles(circles: [Circle; 10], n_sets: usize) -> f64
 
 // The area that the heads of a mask among the first n_sets water together: what the call above gives for their circles alone.
 pub fn compute_overlaps_of(mask: usize, circles: [Circle; 10], n_sets: usize) -> f64
-    ensures { result ≡ overlapOf (take n_sets circles) mask }
+    ensures { result ≡ overlap_of (take n_sets circles) mask }
 {
     let set = members_of(mask, circles, n_sets);
     let chosen = set.circles;

@@ -12,28 +12,28 @@ use Rattle.plan.specs.declared.Answer.TheVariants.{Taken, Refused}
 use Rattle.plan.specs.declared.Edit.{Edit}
 use Rattle.plan.specs.declared.Lent.{Lent}
 use Rattle.plan.specs.declared.Plan.{Plan}
-use Rattle.plan.specs.Checks.{editAnswer}
-use Rattle.plan.specs.Limits.{HeadWithin, noHead, Acceptable}
-use Rattle.plan.specs.Book.{head_of, applied, leaves, bookStep, Keeps, AppliedHeads, BookKeeps, AppliedAcceptable, BookAcceptable}
-use Rattle.plan.proofs.Exactly.{edit-taken}
+use Rattle.plan.specs.Checks.{edit_answer}
+use Rattle.plan.specs.Limits.{HeadWithin, no_head, Acceptable}
+use Rattle.plan.specs.Book.{head_of, applied, leaves, book_step, Keeps, AppliedHeads, BookKeeps, AppliedAcceptable, BookAcceptable}
+use Rattle.plan.proofs.Exactly.{edit_taken}
 
-entered-keeps : (p : Plan) (e : Edit) (a : Answer) → Keeps p (leaves a p (applied p e))
-entered-keeps p e Taken = record { n = refl; ground = refl; room = length-set p.heads e.head (head_of e) }
-entered-keeps p e (Refused r at) = record { n = refl; ground = refl; room = refl }
+entered_keeps : (p : Plan) (e : Edit) (a : Answer) → Keeps p (leaves a p (applied p e))
+entered_keeps p e Taken = record { n = refl; ground = refl; room = length-set p.heads e.head (head_of e) }
+entered_keeps p e (Refused r at) = record { n = refl; ground = refl; room = refl }
 
-pub applied-heads : AppliedHeads
-applied-heads p e = refl
+pub applied_heads : AppliedHeads
+applied_heads p e = refl
 
-pub book-keeps : BookKeeps
+pub book_keeps : BookKeeps
 unfolding after
-book-keeps p [] = record { n = refl; ground = refl; room = refl }
-book-keeps p (e ∷ es) =
-    let one = entered-keeps p e.edit (editAnswer p e.edit e.lent) in
-    let rest = book-keeps (bookStep p e).left es in
+book_keeps p [] = record { n = refl; ground = refl; room = refl }
+book_keeps p (e ∷ es) =
+    let one = entered_keeps p e.edit (edit_answer p e.edit e.lent) in
+    let rest = book_keeps (book_step p e).left es in
     record { n = rest.n ∙ one.n; ground = rest.ground ∙ one.ground; room = rest.room ∙ one.room }
 
-pub applied-acceptable : AppliedAcceptable
-applied-acceptable p e long ok edit =
+pub applied_acceptable : AppliedAcceptable
+applied_acceptable p e long ok edit =
     record {
       count = ok.count;
       x = ok.x;
@@ -41,27 +41,27 @@ applied-acceptable p e long ok edit =
       width = ok.width;
       height = ok.height;
       heads = λ i lt.
-          elim (ℕ_discrete i e.head) as (λ d. HeadWithin (get_or (set p.heads e.head (head_of e)) i noHead)) [
+          elim (ℕ_discrete i e.head) as (λ d. HeadWithin (get_or (set p.heads e.head (head_of e)) i no_head)) [
             | yes same ↦
                 let room : e.head < length p.heads = omega (arith, ok.count, edit.head) in
-                let here : get_or (set p.heads e.head (head_of e)) i noHead ≡ head_of e =
-                rw same (get_or-set_same p.heads e.head (head_of e) noHead room) in
+                let here : get_or (set p.heads e.head (head_of e)) i no_head ≡ head_of e =
+                rw same (get_or-set_same p.heads e.head (head_of e) no_head room) in
                 subst HeadWithin (sym here) (edit.x, edit.y, edit.radius)
             | no other ↦
-                subst HeadWithin (sym (get_or-set_other p.heads e.head i (head_of e) noHead other)) (ok.heads i lt)
+                subst HeadWithin (sym (get_or-set_other p.heads e.head i (head_of e) no_head other)) (ok.heads i lt)
           ];
     }
 
-entered-acceptable : (p : Plan) (e : Edit) (lent : Lent) (a : Answer) → editAnswer p e lent ≡ a → length p.heads ≡ 10 → Acceptable p → Acceptable (leaves a p (applied p e))
-entered-acceptable p e lent Taken taken long ok =
-    applied-acceptable p e long ok ((edit-taken p e lent long).0 taken).1
-entered-acceptable p e lent (Refused r at) refused long ok = ok
+entered_acceptable : (p : Plan) (e : Edit) (lent : Lent) (a : Answer) → edit_answer p e lent ≡ a → length p.heads ≡ 10 → Acceptable p → Acceptable (leaves a p (applied p e))
+entered_acceptable p e lent Taken taken long ok =
+    applied_acceptable p e long ok ((edit_taken p e lent long).0 taken).1
+entered_acceptable p e lent (Refused r at) refused long ok = ok
 
-pub book-acceptable : BookAcceptable
+pub book_acceptable : BookAcceptable
 unfolding after
-book-acceptable p [] long ok = ok
-book-acceptable p (e ∷ es) long ok =
-    let answer = editAnswer p e.edit e.lent in
-    book-acceptable (bookStep p e).left es
-    ((entered-keeps p e.edit answer).room ∙ long)
-    (entered-acceptable p e.edit e.lent answer refl long ok)
+book_acceptable p [] long ok = ok
+book_acceptable p (e ∷ es) long ok =
+    let answer = edit_answer p e.edit e.lent in
+    book_acceptable (book_step p e).left es
+    ((entered_keeps p e.edit answer).room ∙ long)
+    (entered_acceptable p e.edit e.lent answer refl long ok)

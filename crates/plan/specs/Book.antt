@@ -9,9 +9,9 @@ use Rattle.plan.specs.declared.Answer.TheVariants.{Taken, Refused}
 use Rattle.plan.specs.declared.Edit.{Edit}
 use Rattle.plan.specs.declared.Lent.{Lent}
 use Rattle.plan.specs.declared.Plan.{Plan}
-use Rattle.plan.specs.Checks.{editAnswer}
+use Rattle.plan.specs.Checks.{edit_answer}
 use Rattle.plan.specs.Limits.{Acceptable, AcceptableEdit}
-use Rattle.plan.specs.Table.{headsAfter}
+use Rattle.plan.specs.Table.{heads_after}
 
 -- the head that an edit asks for
 abbrev pub head_of : Edit → Head
@@ -32,7 +32,7 @@ leaves (Refused r at) p q = p
 
 -- one edit against the book
 abbrev pub entered : Plan → Edit → Lent → Plan
-entered p e lent = leaves (editAnswer p e lent) p (applied p e)
+entered p e lent = leaves (edit_answer p e lent) p (applied p e)
 
 -- an edit in a list, with the lengths lent for it
 pub record Entry : Type 0 where
@@ -40,15 +40,15 @@ pub record Entry : Type 0 where
   pub lent : Lent
 
 -- the same as a step, with its answer
-abbrev pub bookStep : Plan → Entry → Step Plan Answer
-bookStep p e = record { left = entered p e.edit e.lent; answer = editAnswer p e.edit e.lent }
+abbrev pub book_step : Plan → Entry → Step Plan Answer
+book_step p e = record { left = entered p e.edit e.lent; answer = edit_answer p e.edit e.lent }
 
 -- the plan that a list of edits leaves, and the answer to each
 abbrev pub book : Plan → List Entry → Plan
-book = Run.after bookStep
+book = Run.after book_step
 
 abbrev pub answers : Plan → List Entry → List Answer
-answers = Run.answers bookStep
+answers = Run.answers book_step
 
 -- some edit of a list was taken
 abbrev pub AnyTaken : List Answer → Type 0
@@ -64,9 +64,9 @@ pub record Keeps (p q : Plan) : Type 0 where
   pub ground : q.ground ≡ p.ground
   pub room : length q.heads ≡ length p.heads
 
--- an edit leaves as many heads as `headsAfter` says
+-- an edit leaves as many heads as `heads_after` says
 abbrev pub AppliedHeads : Type 0
-AppliedHeads = (p : Plan) (e : Edit) → (applied p e).n ≡ headsAfter p e
+AppliedHeads = (p : Plan) (e : Edit) → (applied p e).n ≡ heads_after p e
 
 -- the book keeps them
 abbrev pub BookKeeps : Type 0

@@ -9,12 +9,12 @@ use lib.Seq.{set_at, take-append-le, take_all, drop-cons, take-suc}
 use Rattle.printing.specs.Text.{put, PutFits, PutCut}
 
 -- one text and then another
-pub put-append : (out : List ℕ) (at : ℕ) (s t : List ℕ) → put out at (s ++ t) ≡ put (put out at s) (at + length s) t
+pub put_append : (out : List ℕ) (at : ℕ) (s t : List ℕ) → put out at (s ++ t) ≡ put (put out at s) (at + length s) t
 unfolding put
-put-append out at [] t = ap (λ n. put out n t) (omega arith)
-put-append out at (b ∷ s) t =
+put_append out at [] t = ap (λ n. put out n t) (omega arith)
+put_append out at (b ∷ s) t =
     let e : suc at + length s ≡ at + suc (length s) = omega arith in
-    put-append (set out at b) (suc at) s t ∙ ap (λ n. put (put (set out at b) (suc at) s) n t) e
+    put_append (set out at b) (suc at) s t ∙ ap (λ n. put (put (set out at b) (suc at) s) n t) e
 
 -- one byte
 pub put_one : (out : List ℕ) (at b : ℕ) → set out at b ≡ put out at (b ∷ [])
@@ -26,15 +26,15 @@ pub put_next : (out : List ℕ) (at b : ℕ) (t : List ℕ) → put out at (b �
 unfolding put
 put_next out at b t = ap (λ n. put (set out at b) n t) (sym (add-one at))
 
-pub put-nothing : (out : List ℕ) (at : ℕ) → put out at [] ≡ out
+pub put_nothing : (out : List ℕ) (at : ℕ) → put out at [] ≡ out
 unfolding put
-put-nothing out at = refl
+put_nothing out at = refl
 
 -- the slice keeps its length
-pub length-put : (out : List ℕ) (at : ℕ) (t : List ℕ) → length (put out at t) ≡ length out
+pub length_put : (out : List ℕ) (at : ℕ) (t : List ℕ) → length (put out at t) ≡ length out
 unfolding put
-length-put out at [] = refl
-length-put out at (b ∷ t) = length-put (set out at b) (suc at) t ∙ length-set out at b
+length_put out at [] = refl
+length_put out at (b ∷ t) = length_put (set out at b) (suc at) t ∙ length-set out at b
 
 -- there is no such place
 pub set_past : {A : Type 0} (l : List A) (at : ℕ) (b : A) → length l ≤ at → l ≡ set l at b
@@ -57,30 +57,30 @@ fits_after p (x ∷ out) (b ∷ t) h =
     ∙ fits_after q out t (omega arith)
     ∙ append_assoc p (b ∷ []) (t ++ drop (length t) out)
 
-pub put-fits : PutFits
-put-fits out t h = fits_after [] out t h
+pub put_fits : PutFits
+put_fits out t h = fits_after [] out t h
 
-cut-after : (p out t : List ℕ) → length out ≤ length t → put (p ++ out) (length p) t ≡ p ++ take (length out) t
+cut_after : (p out t : List ℕ) → length out ≤ length t → put (p ++ out) (length p) t ≡ p ++ take (length out) t
 unfolding put
-cut-after p [] [] h = refl
-cut-after p (x ∷ out) [] h = absurd (omega arith)
-cut-after p [] (b ∷ t) h =
+cut_after p [] [] h = refl
+cut_after p (x ∷ out) [] h = absurd (omega arith)
+cut_after p [] (b ∷ t) h =
     past (b ∷ t) (p ++ []) (length p) (omega (arith, length-append p []))
   where
     past : (t out : List ℕ) (at : ℕ) → length out ≤ at → put out at t ≡ out
     past [] out at h = refl
     past (b ∷ t) out at h =
         ap (λ l. put l (suc at) t) (sym (set_past out at b h)) ∙ past t out (suc at) (omega arith)
-cut-after p (x ∷ out) (b ∷ t) h =
+cut_after p (x ∷ out) (b ∷ t) h =
     let q = p ++ (b ∷ []) in
     let n : length q ≡ suc (length p) = omega (arith, length-append p (b ∷ [])) in
     ap (λ l. put l (suc (length p)) t) (set_at p x out b (length p) refl ∙ sym (append_assoc p (b ∷ []) out))
     ∙ ap (λ m. put (q ++ out) m t) (sym n)
-    ∙ cut-after q out t (omega arith)
+    ∙ cut_after q out t (omega arith)
     ∙ append_assoc p (b ∷ []) (take (length out) t)
 
-pub put-cut : PutCut
-put-cut out t h = cut-after [] out t h
+pub put_cut : PutCut
+put_cut out t h = cut_after [] out t h
 
 -- ---- a word, from byte i on
 

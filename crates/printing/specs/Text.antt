@@ -22,8 +22,8 @@ abbrev pub decimal : ℕ → List ℕ
 decimal n = digits 10 (places 19 n) n
 
 -- "every line, a refusal's too, ends with byte 0x0A"
-abbrev pub lineEnd : List ℕ
-lineEnd = 10 ∷ []
+abbrev pub line_end : List ℕ
+line_end = 10 ∷ []
 
 -- ---- a text put into a lent slice
 
@@ -37,10 +37,10 @@ pub record Printed (text out left : List ℕ) (count : ℕ) : Type 0 where
   pub counted : count ≡ length text
   pub bytes : left ≡ put out 0 text
 
--- Where the text fits it stands whole at the front of the slice, and what follows stays. Proved as `put-fits`, proofs/Putting.antt.
+-- Where the text fits it stands whole at the front of the slice, and what follows stays. Proved as `put_fits`, proofs/Putting.antt.
 abbrev pub PutFits : Type 0
 PutFits = (out text : List ℕ) → length text ≤ length out → put out 0 text ≡ text ++ drop (length text) out
 
--- Where it does not, the slice is full of its first bytes: a count above the slice's length says so. Proved as `put-cut`.
+-- Where it does not, the slice is full of its first bytes: a count above the slice's length says so. Proved as `put_cut`.
 abbrev pub PutCut : Type 0
 PutCut = (out text : List ℕ) → length out ≤ length text → put out 0 text ≡ take (length out) text

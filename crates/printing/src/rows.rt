@@ -5,7 +5,7 @@ ghost use Rattle.std.specs.Float.{nan, binary64};
 ghost use Rattle.std.specs.Float.Ieee.{to_bits};
 ghost use Rattle.masks.specs.Presence.{stands};
 ghost use Rattle.printing.specs.Text.{put, Printed};
-ghost use Rattle.printing.specs.Rows.{line_of, levelLines, tableLines};
+ghost use Rattle.printing.specs.Rows.{line_of, level_lines, table_lines};
 
 use crate::text::{put_byte, put_digits};
 
@@ -59,8 +59,8 @@ fn put_level(
     start: usize,
 ) -> usize
     requires { (start ≤ 800000) × (masks ≤ 1024) }
-    ensures out_after { out.new ≡ put out.old start (levelLines presence.now numbers.now c masks) }
-    ensures value { (result ≡ start + length (levelLines presence.now numbers.now c masks)) × (result ≤ start + 21 * masks) }
+    ensures out_after { out.new ≡ put out.old start (level_lines presence.now numbers.now c masks) }
+    ensures value { (result ≡ start + length (level_lines presence.now numbers.now c masks)) × (result ≤ start + 21 * masks) }
 {
     let mut at = start;
     let mut s: usize = 0;
@@ -75,7 +75,7 @@ fn put_level(
 
 // The lines of a table of n heads, at the front of `out`; gives how many bytes they have.
 pub fn print_rows(presence: &[u8], numbers: &[f64], n: usize, out: &mut [u8]) -> usize
-    ensures { Printed (tableLines n presence.now numbers.now) out.old out.new result }
+    ensures { Printed (table_lines n presence.now numbers.now) out.old out.new result }
 {
     if 10 < n {
         return 0;

@@ -1,9 +1,9 @@
 // Exports of crates `sets`, `exclusive` and `overlaps`: the sets of the first n_sets circles, exclusive areas of lent tables, and the area
 // that circles water together.
 ghost use Rattle.std.specs.Prelude.{◌≡◌};
-ghost use Rattle.sets.specs.Regions.{setBytes};
-ghost use Rattle.exclusive.specs.Exclusive.{exclusiveAnswer, exclusiveTable};
-ghost use Rattle.overlaps.specs.Overlap.{overlap, overlapOf};
+ghost use Rattle.sets.specs.Regions.{set_bytes};
+ghost use Rattle.exclusive.specs.Exclusive.{exclusive_answer, exclusive_table};
+ghost use Rattle.overlaps.specs.Overlap.{overlap, overlap_of};
 ghost use Rattle.probe.specs.Handed as spec;
 
 use crate::given::{Circles, circles_of};
@@ -22,7 +22,7 @@ pub struct Sets {
 // Which masks are among the sets.
 #[unsafe(no_mangle)]
 pub extern "C" fn probe_sets(circles: Circles, n_sets: usize) -> Sets
-    ensures { result.bytes ≡ setBytes (spec.circles circles.numbers n_sets) (spec.points circles.numbers n_sets) }
+    ensures { result.bytes ≡ set_bytes (spec.circles circles.numbers n_sets) (spec.points circles.numbers n_sets) }
 {
     let bytes = discover_regions(circles_of(circles), points_of(circles, n_sets), n_sets);
     Sets { bytes: bytes }
@@ -36,8 +36,8 @@ pub extern "C" fn probe_to_exclusive_areas(
     exclusives: &mut [f64],
     n: usize,
 ) -> u8
-    ensures value { result ≡ exclusiveAnswer n present.now areas.now exclusives.old }
-    ensures exclusives_after { exclusives.new ≡ exclusiveTable n present.now areas.now exclusives.old }
+    ensures value { result ≡ exclusive_answer n present.now areas.now exclusives.old }
+    ensures exclusives_after { exclusives.new ≡ exclusive_table n present.now areas.now exclusives.old }
 {
     to_exclusive_areas(present, areas, exclusives, n)
 }
@@ -53,7 +53,7 @@ pub extern "C" fn probe_compute_overlaps_circles(circles: Circles, n_sets: usize
 // The same of the circles of a mask alone.
 #[unsafe(no_mangle)]
 pub extern "C" fn probe_compute_overlaps_of(circles: Circles, n_sets: usize, mask: usize) -> f64
-    ensures { result ≡ overlapOf (spec.circles circles.numbers n_sets) mask }
+    ensures { result ≡ overlap_of (spec.circles circles.numbers n_sets) mask }
 {
     compute_overlaps_of(mask, circles_of(circles), n_sets)
 }

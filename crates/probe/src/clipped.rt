@@ -1,10 +1,10 @@
 // Exports of crates `inside` and `clip`: spans of edges, areas and gradients in the box of a set of the first n_sets circles. Each works the
 // meeting points out anew.
 ghost use Rattle.std.specs.Prelude.{◌≡◌};
-ghost use Rattle.clip.specs.Area.{clippedAreaOf, clippedArea};
-ghost use Rattle.clip.specs.Arc.{namedArcIntegralWithGradient};
-ghost use Rattle.clip.specs.Gradient.{with-gradient, clippedWithGradient, clippedOnto};
-ghost use Rattle.inside.specs.Span.{horizontalSpan, verticalSpan};
+ghost use Rattle.clip.specs.Area.{clipped_area_of, clipped_area};
+ghost use Rattle.clip.specs.Arc.{named_arc_integral_with_gradient};
+ghost use Rattle.clip.specs.Gradient.{with_gradient, clipped_with_gradient, clipped_onto};
+ghost use Rattle.inside.specs.Span.{horizontal_span, vertical_span};
 ghost use Rattle.probe.specs.Handed as spec;
 
 use crate::Extents;
@@ -26,7 +26,7 @@ pub extern "C" fn probe_horizontal_span(
     x_min: f64,
     x_max: f64,
 ) -> Ends
-    ensures { result ≡ spec.endsOf (horizontalSpan y x_min x_max (spec.own circles.numbers n_sets mask)) }
+    ensures { result ≡ spec.ends_of (horizontal_span y x_min x_max (spec.own circles.numbers n_sets mask)) }
 {
     let set = members_of(mask, circles_of(circles), n_sets);
     ends_of(horizontal_edge_inside_interval(y, x_min, x_max, set))
@@ -42,7 +42,7 @@ pub extern "C" fn probe_vertical_span(
     y_min: f64,
     y_max: f64,
 ) -> Ends
-    ensures { result ≡ spec.endsOf (verticalSpan x y_min y_max (spec.own circles.numbers n_sets mask)) }
+    ensures { result ≡ spec.ends_of (vertical_span x y_min y_max (spec.own circles.numbers n_sets mask)) }
 {
     let set = members_of(mask, circles_of(circles), n_sets);
     ends_of(vertical_edge_inside_interval(x, y_min, y_max, set))
@@ -57,7 +57,7 @@ pub extern "C" fn probe_clipped_arc_integral_with_gradient(
     sides: Extents,
     grad: &mut [f64],
 ) -> f64
-    ensures { with-gradient result grad.new ≡ namedArcIntegralWithGradient (spec.bounds_of sides) (spec.circles circles.numbers n_sets) (spec.boundaryArc arc) grad.old }
+    ensures { with_gradient result grad.new ≡ named_arc_integral_with_gradient (spec.bounds_of sides) (spec.circles circles.numbers n_sets) (spec.boundary_arc arc) grad.old }
 {
     clipped_arc_integral_with_gradient(
         boundary_arc(arc),
@@ -76,7 +76,7 @@ pub extern "C" fn probe_area_from_clipped_arcs(
     mask: usize,
     sides: Extents,
 ) -> f64
-    ensures { result ≡ clippedAreaOf (spec.bounds_of sides) (spec.circles circles.numbers n_sets) (spec.own circles.numbers n_sets mask) (spec.arcs circles.numbers n_sets mask) }
+    ensures { result ≡ clipped_area_of (spec.bounds_of sides) (spec.circles circles.numbers n_sets) (spec.own circles.numbers n_sets mask) (spec.arcs circles.numbers n_sets mask) }
 {
     let arcs = arcs_of(circles, n_sets, mask);
     area_from_clipped_arcs(arcs, circles_of(circles), bounds_of(sides), mask, n_sets)
@@ -90,7 +90,7 @@ pub extern "C" fn probe_clipped_region_area(
     mask: usize,
     sides: Extents,
 ) -> f64
-    ensures { result ≡ clippedArea (spec.bounds_of sides) (spec.members circles.numbers n_sets mask) }
+    ensures { result ≡ clipped_area (spec.bounds_of sides) (spec.members circles.numbers n_sets mask) }
 {
     let points = points_of(circles, n_sets);
     clipped_region_area(mask, circles_of(circles), points, n_sets, bounds_of(sides))
@@ -105,7 +105,7 @@ pub extern "C" fn probe_area_and_gradient_from_clipped_arcs(
     sides: Extents,
     grad: &mut [f64],
 ) -> f64
-    ensures { with-gradient result grad.new ≡ clippedWithGradient (spec.bounds_of sides) (spec.circles circles.numbers n_sets) (spec.own circles.numbers n_sets mask) (spec.arcs circles.numbers n_sets mask) grad.old }
+    ensures { with_gradient result grad.new ≡ clipped_with_gradient (spec.bounds_of sides) (spec.circles circles.numbers n_sets) (spec.own circles.numbers n_sets mask) (spec.arcs circles.numbers n_sets mask) grad.old }
 {
     let arcs = arcs_of(circles, n_sets, mask);
     area_and_gradient_from_clipped_arcs(
@@ -127,7 +127,7 @@ pub extern "C" fn probe_clipped_region_area_and_gradient(
     sides: Extents,
     grad: &mut [f64],
 ) -> f64
-    ensures { with-gradient result grad.new ≡ clippedOnto (spec.bounds_of sides) (spec.members circles.numbers n_sets mask) grad.old }
+    ensures { with_gradient result grad.new ≡ clipped_onto (spec.bounds_of sides) (spec.members circles.numbers n_sets mask) grad.old }
 {
     let points = points_of(circles, n_sets);
     clipped_region_area_and_gradient(

@@ -1,8 +1,8 @@
 // Circles, meeting points, arcs and spans as the differential run hands them over and gets them. Rests on specs/Handed.antt.
 ghost use Rattle.std.specs.Prelude.{◌≡◌, ◌<◌, length};
 ghost use Rattle.inside.specs.Span.{spans};
-ghost use Rattle.intersections.specs.Counted.{pointList};
-ghost use Rattle.boundary.specs.Counted.{arcList};
+ghost use Rattle.intersections.specs.Counted.{point_list};
+ghost use Rattle.boundary.specs.Counted.{arc_list};
 ghost use Rattle.probe.specs.Handed as spec;
 
 use crate::Extents;
@@ -52,7 +52,7 @@ pub struct Ends {
 
 fn circle_of(c: Circles, i: usize) -> Circle
     requires { i < 10 }
-    ensures { result ≡ spec.circleOf c.numbers i }
+    ensures { result ≡ spec.circle_of c.numbers i }
 {
     let at = i * 3;
     Circle::new(
@@ -62,7 +62,7 @@ fn circle_of(c: Circles, i: usize) -> Circle
 }
 
 pub(crate) fn circles_of(c: Circles) -> [Circle; 10]
-    ensures { result ≡ spec.circlesOf c.numbers }
+    ensures { result ≡ spec.circles_of c.numbers }
 {
     [
         circle_of(c, 0),
@@ -85,13 +85,13 @@ pub(crate) fn bounds_of(s: Extents) -> Bounds
 }
 
 pub(crate) fn number_of_points(list: Intersections) -> usize
-    ensures { result ≡ length (pointList list) }
+    ensures { result ≡ length (point_list list) }
 {
     if list.n < 90 { list.n } else { 90 }
 }
 
 pub(crate) fn point_at(list: Intersections, k: usize) -> Met
-    ensures { result ≡ spec.metAt (pointList list) k }
+    ensures { result ≡ spec.met_at (point_list list) k }
 {
     let n = list.n;
     let nowhere = Met {
@@ -118,13 +118,13 @@ pub(crate) fn point_at(list: Intersections, k: usize) -> Met
 }
 
 pub(crate) fn number_of_arcs(list: Arcs) -> usize
-    ensures { result ≡ length (arcList list) }
+    ensures { result ≡ length (arc_list list) }
 {
     if list.n < 180 { list.n } else { 180 }
 }
 
 pub(crate) fn arc_at(list: Arcs, k: usize) -> Arc
-    ensures { result ≡ spec.arcAt (arcList list) k }
+    ensures { result ≡ spec.arc_at (arc_list list) k }
 {
     let n = list.n;
     let none = Arc {
@@ -150,7 +150,7 @@ pub(crate) fn arc_at(list: Arcs, k: usize) -> Arc
 
 // The same head and angles.
 pub(crate) fn boundary_arc(a: Arc) -> BoundaryArc
-    ensures { result ≡ spec.boundaryArc a }
+    ensures { result ≡ spec.boundary_arc a }
 {
     BoundaryArc {
         circle: a.head,
@@ -161,7 +161,7 @@ pub(crate) fn boundary_arc(a: Arc) -> BoundaryArc
 }
 
 pub(crate) fn ends_of(span: Span) -> Ends
-    ensures { result ≡ spec.endsOf (spans span) }
+    ensures { result ≡ spec.ends_of (spans span) }
 {
     match span {
         Span::None => Ends {

@@ -1,10 +1,10 @@
 // Exports of crates `boundary` and `outline`: wrapped angles; meeting points, arcs, open areas and gradients of a set of the first
 // n_sets circles. Each works the meeting points out anew.
 ghost use Rattle.std.specs.Prelude.{◌≡◌, length, take};
-ghost use Rattle.outline.specs.Area.{areaOf, openArea, addGradient};
-ghost use Rattle.intersections.specs.Counted.{pointList};
-ghost use Rattle.boundary.specs.Counted.{arcList};
-ghost use Rattle.boundary.specs.Outline.{wrapAngle};
+ghost use Rattle.outline.specs.Area.{area_of, open_area, add_gradient};
+ghost use Rattle.intersections.specs.Counted.{point_list};
+ghost use Rattle.boundary.specs.Counted.{arc_list};
+ghost use Rattle.boundary.specs.Outline.{wrap_angle};
 ghost use Rattle.probe.specs.Handed as spec;
 
 use crate::given::{
@@ -20,19 +20,19 @@ use outline::outline::region_boundary_arcs;
 
 #[unsafe(no_mangle)]
 pub extern "C" fn probe_wrap_angle(x: f64) -> f64
-    ensures { result ≡ wrapAngle x }
+    ensures { result ≡ wrap_angle x }
 {
     wrap_angle(x)
 }
 
 pub(crate) fn points_of(circles: Circles, n_sets: usize) -> Intersections
-    ensures { pointList result ≡ spec.points circles.numbers n_sets }
+    ensures { point_list result ≡ spec.points circles.numbers n_sets }
 {
     collect_intersections(circles_of(circles), n_sets)
 }
 
 pub(crate) fn arcs_of(circles: Circles, n_sets: usize, mask: usize) -> Arcs
-    ensures { arcList result ≡ spec.arcs circles.numbers n_sets mask }
+    ensures { arc_list result ≡ spec.arcs circles.numbers n_sets mask }
 {
     region_boundary_arcs(
         mask,
@@ -53,7 +53,7 @@ pub extern "C" fn probe_number_of_points(circles: Circles, n_sets: usize) -> usi
 // The k-th of them.
 #[unsafe(no_mangle)]
 pub extern "C" fn probe_point(circles: Circles, n_sets: usize, k: usize) -> Met
-    ensures { result ≡ spec.metAt (spec.points circles.numbers n_sets) k }
+    ensures { result ≡ spec.met_at (spec.points circles.numbers n_sets) k }
 {
     point_at(points_of(circles, n_sets), k)
 }
@@ -69,7 +69,7 @@ pub extern "C" fn probe_number_of_arcs(circles: Circles, n_sets: usize, mask: us
 // The k-th of them.
 #[unsafe(no_mangle)]
 pub extern "C" fn probe_arc(circles: Circles, n_sets: usize, mask: usize, k: usize) -> Arc
-    ensures { result ≡ spec.arcAt (spec.arcs circles.numbers n_sets mask) k }
+    ensures { result ≡ spec.arc_at (spec.arcs circles.numbers n_sets mask) k }
 {
     arc_at(arcs_of(circles, n_sets, mask), k)
 }
@@ -77,7 +77,7 @@ pub extern "C" fn probe_arc(circles: Circles, n_sets: usize, mask: usize, k: usi
 // The area that the arcs enclose.
 #[unsafe(no_mangle)]
 pub extern "C" fn probe_area_from_boundary_arcs(circles: Circles, n_sets: usize, mask: usize) -> f64
-    ensures { result ≡ areaOf (spec.circles circles.numbers n_sets) (spec.arcs circles.numbers n_sets mask) }
+    ensures { result ≡ area_of (spec.circles circles.numbers n_sets) (spec.arcs circles.numbers n_sets mask) }
 {
     area_from_boundary_arcs(arcs_of(circles, n_sets, mask), circles_of(circles), n_sets)
 }
@@ -85,7 +85,7 @@ pub extern "C" fn probe_area_from_boundary_arcs(circles: Circles, n_sets: usize,
 // The same straight from the members of the set.
 #[unsafe(no_mangle)]
 pub extern "C" fn probe_region_area(circles: Circles, n_sets: usize, mask: usize) -> f64
-    ensures { result ≡ openArea (spec.members circles.numbers n_sets mask) }
+    ensures { result ≡ open_area (spec.members circles.numbers n_sets mask) }
 {
     region_area(
         mask,
@@ -103,7 +103,7 @@ pub extern "C" fn probe_overlap_gradient(
     mask: usize,
     grad: &mut [f64],
 )
-    ensures { grad.new ≡ addGradient (spec.circles circles.numbers n_sets) grad.old (spec.arcs circles.numbers n_sets mask) }
+    ensures { grad.new ≡ add_gradient (spec.circles circles.numbers n_sets) grad.old (spec.arcs circles.numbers n_sets mask) }
 {
     accumulate_region_overlap_gradient(
         arcs_of(circles, n_sets, mask),

@@ -2,7 +2,7 @@
 // centre and sides or without one, with gradients or without.
 ghost use Rattle.std.specs.Prelude.{◌≡◌};
 ghost use Rattle.diagram.specs.Diagram as left;
-ghost use Rattle.exclusive_gradients.specs.Gradient.{gradientAnswer, exclusiveAreas, exclusiveGradients};
+ghost use Rattle.exclusive_gradients.specs.Gradient.{gradient_answer, exclusive_areas, exclusive_gradients};
 ghost use Rattle.geometry.specs.Point.{at};
 ghost use Rattle.geometry.specs.Rectangle.{around};
 ghost use Rattle.probe.specs.Handed as spec;
@@ -33,9 +33,9 @@ pub extern "C" fn probe_to_exclusive_areas_and_gradients(
     n: usize,
     width: usize,
 ) -> u8
-    ensures value { result ≡ gradientAnswer n width present.now areas.old gradients.old }
-    ensures areas_after { areas.new ≡ exclusiveAreas n width present.now areas.old gradients.old }
-    ensures gradients_after { gradients.new ≡ exclusiveGradients n width present.now areas.old gradients.old }
+    ensures value { result ≡ gradient_answer n width present.now areas.old gradients.old }
+    ensures areas_after { areas.new ≡ exclusive_areas n width present.now areas.old gradients.old }
+    ensures gradients_after { gradients.new ≡ exclusive_gradients n width present.now areas.old gradients.old }
 {
     to_exclusive_areas_and_gradients(present, areas, gradients, n, width)
 }
@@ -48,9 +48,9 @@ pub extern "C" fn probe_compute_exclusive_regions(
     presence: &mut [u8],
     exclusives: &mut [f64],
 ) -> u8
-    ensures value { result ≡ left.answer n_sets (left.openDiagram (spec.circles circles.numbers n_sets)) presence.old exclusives.old }
-    ensures presence_after { presence.new ≡ left.presenceLeft n_sets (left.openDiagram (spec.circles circles.numbers n_sets)) presence.old exclusives.old }
-    ensures exclusives_after { exclusives.new ≡ left.exclusivesLeft n_sets (left.openDiagram (spec.circles circles.numbers n_sets)) presence.old exclusives.old }
+    ensures value { result ≡ left.answer n_sets (left.open_diagram (spec.circles circles.numbers n_sets)) presence.old exclusives.old }
+    ensures presence_after { presence.new ≡ left.presence_left n_sets (left.open_diagram (spec.circles circles.numbers n_sets)) presence.old exclusives.old }
+    ensures exclusives_after { exclusives.new ≡ left.exclusives_left n_sets (left.open_diagram (spec.circles circles.numbers n_sets)) presence.old exclusives.old }
 {
     compute_exclusive_regions(circles_of(circles), n_sets, presence, exclusives)
 }
@@ -67,9 +67,9 @@ pub extern "C" fn probe_compute_exclusive_regions_clipped(
     presence: &mut [u8],
     exclusives: &mut [f64],
 ) -> u8
-    ensures value { result ≡ left.answer n_sets (left.clippedDiagram (around (at x y) width height) (spec.circles circles.numbers n_sets)) presence.old exclusives.old }
-    ensures presence_after { presence.new ≡ left.presenceLeft n_sets (left.clippedDiagram (around (at x y) width height) (spec.circles circles.numbers n_sets)) presence.old exclusives.old }
-    ensures exclusives_after { exclusives.new ≡ left.exclusivesLeft n_sets (left.clippedDiagram (around (at x y) width height) (spec.circles circles.numbers n_sets)) presence.old exclusives.old }
+    ensures value { result ≡ left.answer n_sets (left.clipped_diagram (around (at x y) width height) (spec.circles circles.numbers n_sets)) presence.old exclusives.old }
+    ensures presence_after { presence.new ≡ left.presence_left n_sets (left.clipped_diagram (around (at x y) width height) (spec.circles circles.numbers n_sets)) presence.old exclusives.old }
+    ensures exclusives_after { exclusives.new ≡ left.exclusives_left n_sets (left.clipped_diagram (around (at x y) width height) (spec.circles circles.numbers n_sets)) presence.old exclusives.old }
 {
     compute_exclusive_regions_clipped(
         circles_of(circles),
@@ -89,10 +89,10 @@ pub extern "C" fn probe_compute_exclusive_regions_with_gradient_circles(
     exclusives: &mut [f64],
     gradients: &mut [f64],
 ) -> u8
-    ensures value { result ≡ left.answerWith n_sets (left.openWithGradients (spec.circles circles.numbers n_sets)) presence.old exclusives.old gradients.old }
-    ensures presence_after { presence.new ≡ left.presenceLeftWith n_sets (left.openWithGradients (spec.circles circles.numbers n_sets)) presence.old exclusives.old gradients.old }
-    ensures exclusives_after { exclusives.new ≡ left.areasLeft n_sets (left.openWithGradients (spec.circles circles.numbers n_sets)) presence.old exclusives.old gradients.old }
-    ensures gradients_after { gradients.new ≡ left.gradientsLeft n_sets (left.openWithGradients (spec.circles circles.numbers n_sets)) presence.old exclusives.old gradients.old }
+    ensures value { result ≡ left.answer_with n_sets (left.open_with_gradients (spec.circles circles.numbers n_sets)) presence.old exclusives.old gradients.old }
+    ensures presence_after { presence.new ≡ left.presence_left_with n_sets (left.open_with_gradients (spec.circles circles.numbers n_sets)) presence.old exclusives.old gradients.old }
+    ensures exclusives_after { exclusives.new ≡ left.areas_left n_sets (left.open_with_gradients (spec.circles circles.numbers n_sets)) presence.old exclusives.old gradients.old }
+    ensures gradients_after { gradients.new ≡ left.gradients_left n_sets (left.open_with_gradients (spec.circles circles.numbers n_sets)) presence.old exclusives.old gradients.old }
 {
     compute_exclusive_regions_with_gradient_circles(
         circles_of(circles),
@@ -116,10 +116,10 @@ pub extern "C" fn probe_compute_exclusive_regions_clipped_with_gradient(
     exclusives: &mut [f64],
     gradients: &mut [f64],
 ) -> u8
-    ensures value { result ≡ left.answerWith n_sets (left.clippedWithGradients (around (at x y) width height) (spec.circles circles.numbers n_sets)) presence.old exclusives.old gradients.old }
-    ensures presence_after { presence.new ≡ left.presenceLeftWith n_sets (left.clippedWithGradients (around (at x y) width height) (spec.circles circles.numbers n_sets)) presence.old exclusives.old gradients.old }
-    ensures exclusives_after { exclusives.new ≡ left.areasLeft n_sets (left.clippedWithGradients (around (at x y) width height) (spec.circles circles.numbers n_sets)) presence.old exclusives.old gradients.old }
-    ensures gradients_after { gradients.new ≡ left.gradientsLeft n_sets (left.clippedWithGradients (around (at x y) width height) (spec.circles circles.numbers n_sets)) presence.old exclusives.old gradients.old }
+    ensures value { result ≡ left.answer_with n_sets (left.clipped_with_gradients (around (at x y) width height) (spec.circles circles.numbers n_sets)) presence.old exclusives.old gradients.old }
+    ensures presence_after { presence.new ≡ left.presence_left_with n_sets (left.clipped_with_gradients (around (at x y) width height) (spec.circles circles.numbers n_sets)) presence.old exclusives.old gradients.old }
+    ensures exclusives_after { exclusives.new ≡ left.areas_left n_sets (left.clipped_with_gradients (around (at x y) width height) (spec.circles circles.numbers n_sets)) presence.old exclusives.old gradients.old }
+    ensures gradients_after { gradients.new ≡ left.gradients_left n_sets (left.clipped_with_gradients (around (at x y) width height) (spec.circles circles.numbers n_sets)) presence.old exclusives.old gradients.old }
 {
     compute_exclusive_regions_clipped_with_gradient(
         circles_of(circles),

@@ -15,175 +15,175 @@ use Rattle.plan.specs.declared.Answer.TheVariants.{Taken, Refused}
 use Rattle.plan.specs.declared.Gradients.TheVariants.{None}
 use Rattle.plan.specs.declared.Plan.{Plan}
 use Rattle.plan.specs.Book.{leaves}
-use Rattle.plan.specs.Checks.{first_of, callAnswer}
+use Rattle.plan.specs.Checks.{first_of, call_answer}
 use Rattle.plan.specs.Limits.{Acceptable}
-use Rattle.plan.specs.Table.{answerNumber, answerOffset}
-use Rattle.plan.proofs.Exactly.{call-seven, offset-zero}
-use Rattle.plan.proofs.Keeps.{book-keeps, book-acceptable}
-use Rattle.file.specs.Applied.{planAfter, entries}
-use Rattle.file.specs.File.{File, ends, givesPlan, givesEdit, readFile}
+use Rattle.plan.specs.Table.{answer_number, answer_offset}
+use Rattle.plan.proofs.Exactly.{call_seven, offset_zero}
+use Rattle.plan.proofs.Keeps.{book_keeps, book_acceptable}
+use Rattle.file.specs.Applied.{plan_after, entries}
+use Rattle.file.specs.File.{File, ends, gives_plan, gives_edit, read_file}
 use Rattle.file.specs.Reader.{start, finish, feed}
 use Rattle.file.specs.Same.{end_of}
 use Rattle.file.specs.Sound.{EditsWithin, FileWithin}
-use Rattle.file.proofs.Applied.{reader-plan, reader-book, taken-gives}
-use Rattle.file.proofs.Same.{reader-answers}
-use Rattle.file.proofs.Sound.{file-sound}
+use Rattle.file.proofs.Applied.{reader_plan, reader_book, taken_gives}
+use Rattle.file.proofs.Same.{reader_answers}
+use Rattle.file.proofs.Sound.{file_sound}
 use Rattle.regions.specs.Edit.{Row}
-use Rattle.regions.specs.Slices.{row_at, withRows, LentTables, lent_of, PlanSlices, afreshAnswer, afreshLeft, afreshSlices}
+use Rattle.regions.specs.Slices.{row_at, with_rows, LentTables, lent_of, PlanSlices, afresh_answer, afresh_left, afresh_slices}
 use Rattle.regions.specs.Table.{Method, afresh}
-use Rattle.regions.proofs.Slices.{afresh-room, settled-lengths}
-use Rattle.printing.specs.Rows.{row_lines, tableLines, refusalLine}
+use Rattle.regions.proofs.Slices.{afresh_room, settled_lengths}
+use Rattle.printing.specs.Rows.{row_lines, table_lines, refusal_line}
 use Rattle.printing.proofs.Lines.{table-lines, lines_same}
-use Rattle.reading.specs.Whole.{over, noPlan, lastPlan, fileLeft, tablesAnswer, fileAnswer}
-use Rattle.reading.specs.Whole.{afreshExclusive, exclusiveLines, planLines, printedFor, filePrinted, ShortTables}
-use Rattle.reading.proofs.Fresh.{leftOver, row_below, afresh-is-taken, afresh-needs, afresh-leaves, afresh-stays, fresh-edits, short-book, short-edits}
+use Rattle.reading.specs.Whole.{over, no_plan, last_plan, file_left, tables_answer, file_answer}
+use Rattle.reading.specs.Whole.{afresh_exclusive, exclusive_lines, plan_lines, printed_for, file_printed, ShortTables}
+use Rattle.reading.proofs.Fresh.{left_over, row_below, afresh_is_taken, afresh_needs, afresh_leaves, afresh_stays, fresh_edits, short_book, short_edits}
 
 -- ---- the tables
 
-module _ (m : Method) (t : LentTables) (s : List ℕ) (p : Plan) (f : File) (e : readFile s ≡ givesPlan p f) where
-  within : FileWithin (givesPlan p f)
-  within = subst FileWithin e (file-sound s)
+module _ (m : Method) (t : LentTables) (s : List ℕ) (p : Plan) (f : File) (e : read_file s ≡ gives_plan p f) where
+  within : FileWithin (gives_plan p f)
+  within = subst FileWithin e (file_sound s)
 
-  ten : length (lastPlan t p f).heads ≡ 10
+  ten : length (last_plan t p f).heads ≡ 10
   unfolding within
-  ten = (book-keeps p (entries (lent_of t) f)).room ∙ within.1
+  ten = (book_keeps p (entries (lent_of t) f)).room ∙ within.1
 
-  count : (lastPlan t p f).n ≡ p.n
-  count = (book-keeps p (entries (lent_of t) f)).n
+  count : (last_plan t p f).n ≡ p.n
+  count = (book_keeps p (entries (lent_of t) f)).n
 
   -- tables that are long enough
-  enough-left : 2 ^ p.n ≤ (lent_of t).rows → leftOver m f (afreshSlices m (over t p)).left ≡ (afreshSlices m (over t (lastPlan t p f))).left
+  enough_left : 2 ^ p.n ≤ (lent_of t).rows → left_over m f (afresh_slices m (over t p)).left ≡ (afresh_slices m (over t (last_plan t p f))).left
   unfolding within ten
-  enough-left enough =
-      let last = book-acceptable p (entries (lent_of t) f) within.1 within.0 in
-      ap (leftOver m f) (afresh-leaves m (over t p) (afresh-is-taken t p within.1 within.0 enough))
-      ∙ fresh-edits m t f p within.1 within.0 within.2 enough
-      ∙ ap (λ q. afreshLeft m (over t q)) (sym (reader-plan s p f e) ∙ reader-book s p f (lent_of t) enough e)
-      ∙ sym (afresh-leaves m (over t (lastPlan t p f)) (afresh-is-taken t (lastPlan t p f) ten last (subst (λ n. 2 ^ n ≤ (lent_of t).rows) (sym count) enough)))
+  enough_left enough =
+      let last = book_acceptable p (entries (lent_of t) f) within.1 within.0 in
+      ap (left_over m f) (afresh_leaves m (over t p) (afresh_is_taken t p within.1 within.0 enough))
+      ∙ fresh_edits m t f p within.1 within.0 within.2 enough
+      ∙ ap (λ q. afresh_left m (over t q)) (sym (reader_plan s p f e) ∙ reader_book s p f (lent_of t) enough e)
+      ∙ sym (afresh_leaves m (over t (last_plan t p f)) (afresh_is_taken t (last_plan t p f) ten last (subst (λ n. 2 ^ n ≤ (lent_of t).rows) (sym count) enough)))
 
   -- tables that are too short
-  stays-over : (lent_of t).rows < 2 ^ p.n → (afreshSlices m (over t p)).left ≡ over t p
+  stays_over : (lent_of t).rows < 2 ^ p.n → (afresh_slices m (over t p)).left ≡ over t p
   unfolding within
-  stays-over short = afresh-stays m (over t p) (λ a. omega (arith, afresh-needs t p within.1 a))
+  stays_over short = afresh_stays m (over t p) (λ a. omega (arith, afresh_needs t p within.1 a))
 
-  last-is : (lent_of t).rows < 2 ^ p.n → lastPlan t p f ≡ p
+  last_is : (lent_of t).rows < 2 ^ p.n → last_plan t p f ≡ p
   unfolding within
-  last-is short = short-book p (lent_of t) within.1 short f
+  last_is short = short_book p (lent_of t) within.1 short f
 
-  short-left : (lent_of t).rows < 2 ^ p.n → leftOver m f (afreshSlices m (over t p)).left ≡ (afreshSlices m (over t (lastPlan t p f))).left
+  short_left : (lent_of t).rows < 2 ^ p.n → left_over m f (afresh_slices m (over t p)).left ≡ (afresh_slices m (over t (last_plan t p f))).left
   unfolding within
-  short-left short =
-      ap (leftOver m f) (stays-over short) ∙ short-edits m t p within.1 short f p within.2
-      ∙ sym (ap (λ q. (afreshSlices m (over t q)).left) (last-is short) ∙ stays-over short)
+  short_left short =
+      ap (left_over m f) (stays_over short) ∙ short_edits m t p within.1 short f p within.2
+      ∙ sym (ap (λ q. (afresh_slices m (over t q)).left) (last_is short) ∙ stays_over short)
 
-  plan-left : leftOver m f (afreshSlices m (over t p)).left ≡ (afreshSlices m (over t (lastPlan t p f))).left
-  plan-left = by (ltb (lent_of t).rows (2 ^ p.n)) refl
+  plan_left : left_over m f (afresh_slices m (over t p)).left ≡ (afresh_slices m (over t (last_plan t p f))).left
+  plan_left = by (ltb (lent_of t).rows (2 ^ p.n)) refl
     where
       by : (b : Bool) → ltb (lent_of t).rows (2 ^ p.n) ≡ b
-          → leftOver m f (afreshSlices m (over t p)).left ≡ (afreshSlices m (over t (lastPlan t p f))).left
-      by true h = short-left (ltb-true (lent_of t).rows (2 ^ p.n) h)
-      by false h = enough-left (ltb-false (lent_of t).rows (2 ^ p.n) h)
+          → left_over m f (afresh_slices m (over t p)).left ≡ (afresh_slices m (over t (last_plan t p f))).left
+      by true h = short_left (ltb-true (lent_of t).rows (2 ^ p.n) h)
+      by false h = enough_left (ltb-false (lent_of t).rows (2 ^ p.n) h)
 
 -- What a file leaves. It begins with a plan, or gives nothing.
-pub file-left : (m : Method) (t : LentTables) (s : List ℕ) → leftOver m (readFile s) (over t noPlan) ≡ fileLeft m t (readFile s)
-unfolding leftOver fileLeft
-file-left m t s = by (readFile s) refl
+pub file-left : (m : Method) (t : LentTables) (s : List ℕ) → left_over m (read_file s) (over t no_plan) ≡ file_left m t (read_file s)
+unfolding left_over file_left
+file-left m t s = by (read_file s) refl
   where
-    by : (g : File) → readFile s ≡ g → leftOver m g (over t noPlan) ≡ fileLeft m t g
+    by : (g : File) → read_file s ≡ g → left_over m g (over t no_plan) ≡ file_left m t g
     by (ends a) e = refl
-    by (givesPlan p f) e = plan-left m t s p f e
-    by (givesEdit d f) e = absurd (subst FileWithin e (file-sound s))
+    by (gives_plan p f) e = plan_left m t s p f e
+    by (gives_edit d f) e = absurd (subst FileWithin e (file_sound s))
 
 -- ---- the answer
 
 -- a file that gives nothing is refused
-not-empty : (s : List ℕ) (a : Answer) → readFile s ≡ ends a → a ≡ Taken → ⊥
+not_empty : (s : List ℕ) (a : Answer) → read_file s ≡ ends a → a ≡ Taken → ⊥
 unfolding end_of
-not-empty s a e q =
-    let gives = taken-gives s (reader-answers s ∙ ap end_of e ∙ q) in
-    let same : ends a ≡ givesPlan gives.0 gives.1 = sym e ∙ gives.2 in
+not_empty s a e q =
+    let gives = taken_gives s (reader_answers s ∙ ap end_of e ∙ q) in
+    let same : ends a ≡ gives_plan gives.0 gives.1 = sym e ∙ gives.2 in
     let z : ◌≡◌ {A = ℕ} 0 1 = cc in
     omega arith
 
-first-same : (a x y : Answer) → (a ≡ Taken → x ≡ y) → first_of a x ≡ first_of a y
-first-same Taken x y h = h refl
-first-same (Refused r at) x y h = refl
+first_same : (a x y : Answer) → (a ≡ Taken → x ≡ y) → first_of a x ≡ first_of a y
+first_same Taken x y h = h refl
+first_same (Refused r at) x y h = refl
 
 -- the tables' check is the same after the afresh call as before it
-afresh-again : (m : Method) (t : LentTables) (q : Plan) → length q.heads ≡ 10 → afreshAnswer (afreshSlices m (over t q)).left ≡ afreshAnswer (over t q)
-unfolding afreshSlices
-afresh-again m t q ten = go (afreshAnswer (over t q)) refl
+afresh_again : (m : Method) (t : LentTables) (q : Plan) → length q.heads ≡ 10 → afresh_answer (afresh_slices m (over t q)).left ≡ afresh_answer (over t q)
+unfolding afresh_slices
+afresh_again m t q ten = go (afresh_answer (over t q)) refl
   where
-    go : (a : Answer) → afreshAnswer (over t q) ≡ a → afreshAnswer (leaves a (over t q) (afreshLeft m (over t q))) ≡ afreshAnswer (over t q)
-    go Taken e = ap (callAnswer q None) (settled-lengths m q.n (afresh m q) t (afresh-room (over t q) ten e))
+    go : (a : Answer) → afresh_answer (over t q) ≡ a → afresh_answer (leaves a (over t q) (afresh_left m (over t q))) ≡ afresh_answer (over t q)
+    go Taken e = ap (call_answer q None) (settled_lengths m q.n (afresh m q) t (afresh_room (over t q) ten e))
     go (Refused r at) e = refl
 
-pub file-answers : (m : Method) (t : LentTables) (s : List ℕ)
-    → first_of (finish (feed start s)) (afreshAnswer (fileLeft m t (readFile s))) ≡ fileAnswer t (readFile s)
-unfolding fileLeft tablesAnswer end_of
-file-answers m t s = ap (λ a. first_of a (afreshAnswer (fileLeft m t (readFile s)))) (reader-answers s) ∙ by (readFile s) refl
+pub file_answers : (m : Method) (t : LentTables) (s : List ℕ)
+    → first_of (finish (feed start s)) (afresh_answer (file_left m t (read_file s))) ≡ file_answer t (read_file s)
+unfolding file_left tables_answer end_of
+file_answers m t s = ap (λ a. first_of a (afresh_answer (file_left m t (read_file s)))) (reader_answers s) ∙ by (read_file s) refl
   where
-    by : (g : File) → readFile s ≡ g → first_of (end_of g) (afreshAnswer (fileLeft m t g)) ≡ first_of (end_of g) (tablesAnswer t g)
-    by (ends a) e = first-same a _ _ (λ q. absurd (not-empty s a e q))
-    by (givesPlan p f) e = ap (first_of (end_of f)) (afresh-again m t (lastPlan t p f) (ten m t s p f e))
-    by (givesEdit d f) e = absurd (subst FileWithin e (file-sound s))
+    by : (g : File) → read_file s ≡ g → first_of (end_of g) (afresh_answer (file_left m t g)) ≡ first_of (end_of g) (tables_answer t g)
+    by (ends a) e = first_same a _ _ (λ q. absurd (not_empty s a e q))
+    by (gives_plan p f) e = ap (first_of (end_of f)) (afresh_again m t (last_plan t p f) (ten m t s p f e))
+    by (gives_edit d f) e = absurd (subst FileWithin e (file_sound s))
 
 -- ---- what is printed
 
-pub printed-same : (a : Answer) (x y : List ℕ) → (a ≡ Taken → x ≡ y) → printedFor a x ≡ printedFor a y
-printed-same Taken x y h = h refl
-printed-same (Refused r at) x y h = refl
+pub printed_same : (a : Answer) (x y : List ℕ) → (a ≡ Taken → x ≡ y) → printed_for a x ≡ printed_for a y
+printed_same Taken x y h = h refl
+printed_same (Refused r at) x y h = refl
 
 -- the lines of the second table after a taken afresh call
-exclusive-lines : (m : Method) (t : LentTables) (q : Plan) → length q.heads ≡ 10 → afreshAnswer (over t q) ≡ Taken
-    → tableLines q.n (afreshLeft m (over t q)).tables.exclusives.bytes (afreshLeft m (over t q)).tables.exclusives.numbers ≡ exclusiveLines m q
-unfolding exclusiveLines
+exclusive-lines : (m : Method) (t : LentTables) (q : Plan) → length q.heads ≡ 10 → afresh_answer (over t q) ≡ Taken
+    → table_lines q.n (afresh_left m (over t q)).tables.exclusives.bytes (afresh_left m (over t q)).tables.exclusives.numbers ≡ exclusive_lines m q
+unfolding exclusive_lines
 exclusive-lines m t q ten e =
-    let left = (afreshLeft m (over t q)).tables in
-    let row : (S : ℕ) → S < 2 ^ q.n → row_at left.exclusives S ≡ afreshExclusive m q S = λ S h.
+    let left = (afresh_left m (over t q)).tables in
+    let row : (S : ℕ) → S < 2 ^ q.n → row_at left.exclusives S ≡ afresh_exclusive m q S = λ S h.
     row_below (m.exclusives.of q.n (row_at left.rows)) (2 ^ q.n) t.exclusives S h
     ∙ m.exclusives.below q.n (row_at left.rows) (afresh m q) (λ T k. row_below (afresh m q) (2 ^ q.n) t.rows T k) S h in
-    table-lines q.n left.exclusives.bytes left.exclusives.numbers (afresh-room (over t q) ten e).count
-    ∙ lines_same q.n (stands left.exclusives.bytes) (λ S. eqb (afreshExclusive m q S).byte 1)
-    (λ S. get_or left.exclusives.numbers S nan) (λ S. (afreshExclusive m q S).number)
+    table-lines q.n left.exclusives.bytes left.exclusives.numbers (afresh_room (over t q) ten e).count
+    ∙ lines_same q.n (stands left.exclusives.bytes) (λ S. eqb (afresh_exclusive m q S).byte 1)
+    (λ S. get_or left.exclusives.numbers S nan) (λ S. (afresh_exclusive m q S).number)
     (λ S h. (ap (λ r. eqb r.byte 1) (row S h), ap (λ r. r.number) (row S h)))
 
 -- both answers are taken
-both-taken : (a b : Answer) → first_of a b ≡ Taken → (a ≡ Taken) × (b ≡ Taken)
-both-taken Taken b e = (refl, e)
-both-taken (Refused r at) b e = let z : ◌≡◌ {A = ℕ} 0 1 = cc in absurd (omega arith)
+both_taken : (a b : Answer) → first_of a b ≡ Taken → (a ≡ Taken) × (b ≡ Taken)
+both_taken Taken b e = (refl, e)
+both_taken (Refused r at) b e = let z : ◌≡◌ {A = ℕ} 0 1 = cc in absurd (omega arith)
 
 -- the lines of the second table
-abbrev pub linesIn : PlanSlices → List ℕ
-linesIn d = tableLines d.plan.n d.tables.exclusives.bytes d.tables.exclusives.numbers
+abbrev pub lines_in : PlanSlices → List ℕ
+lines_in d = table_lines d.plan.n d.tables.exclusives.bytes d.tables.exclusives.numbers
 
-pub file-lines : (m : Method) (t : LentTables) (s : List ℕ) → fileAnswer t (readFile s) ≡ Taken
-    → linesIn (fileLeft m t (readFile s)) ≡ planLines m t (readFile s)
-unfolding fileLeft tablesAnswer planLines end_of
-file-lines m t s taken = by (readFile s) refl taken
+pub file_lines : (m : Method) (t : LentTables) (s : List ℕ) → file_answer t (read_file s) ≡ Taken
+    → lines_in (file_left m t (read_file s)) ≡ plan_lines m t (read_file s)
+unfolding file_left tables_answer plan_lines end_of
+file_lines m t s taken = by (read_file s) refl taken
   where
-    by : (g : File) → readFile s ≡ g → first_of (end_of g) (tablesAnswer t g) ≡ Taken → linesIn (fileLeft m t g) ≡ planLines m t g
-    by (ends a) e q = absurd (not-empty s a e (both-taken a Taken q).0)
-    by (givesPlan p f) e q =
-        let q' = (both-taken (end_of f) (afreshAnswer (over t (lastPlan t p f))) q).1 in
-        ap linesIn (afresh-leaves m (over t (lastPlan t p f)) q') ∙ exclusive-lines m t (lastPlan t p f) (ten m t s p f e) q'
-    by (givesEdit d f) e q = absurd (subst FileWithin e (file-sound s))
+    by : (g : File) → read_file s ≡ g → first_of (end_of g) (tables_answer t g) ≡ Taken → lines_in (file_left m t g) ≡ plan_lines m t g
+    by (ends a) e q = absurd (not_empty s a e (both_taken a Taken q).0)
+    by (gives_plan p f) e q =
+        let q' = (both_taken (end_of f) (afresh_answer (over t (last_plan t p f))) q).1 in
+        ap lines_in (afresh_leaves m (over t (last_plan t p f)) q') ∙ exclusive-lines m t (last_plan t p f) (ten m t s p f e) q'
+    by (gives_edit d f) e q = absurd (subst FileWithin e (file_sound s))
 
 -- ---- tables that are too short
 
-seven-printed : (a : Answer) (lines : List ℕ) → answerNumber a ≡ 7 → answerOffset a ≡ 0 → printedFor a lines ≡ refusalLine 7 0
-seven-printed Taken lines n o = absurd (omega arith)
-seven-printed (Refused r at) lines n o = ap₂ refusalLine n o
+seven_printed : (a : Answer) (lines : List ℕ) → answer_number a ≡ 7 → answer_offset a ≡ 0 → printed_for a lines ≡ refusal_line 7 0
+seven_printed Taken lines n o = absurd (omega arith)
+seven_printed (Refused r at) lines n o = ap₂ refusal_line n o
 
-pub short-tables : (m : Method) → ShortTables m
-unfolding fileLeft tablesAnswer planLines end_of within
-short-tables m t s p f e taken short =
-    let last = last-is m t s p f e short in
+pub short_tables : (m : Method) → ShortTables m
+unfolding file_left tables_answer plan_lines end_of within
+short_tables m t s p f e taken short =
+    let last = last_is m t s p f e short in
     let w = within m t s p f e in
-    let seven = (call-seven p None (lent_of t) w.1).1 (w.0, inl short) in
-    let zero = offset-zero.call p None (lent_of t) in
-    let is : fileAnswer t (readFile s) ≡ callAnswer p None (lent_of t) =
-    ap (fileAnswer t) e ∙ ap (λ a. first_of a (afreshAnswer (over t (lastPlan t p f)))) taken ∙ ap (λ q. afreshAnswer (over t q)) last in (
-      seven-printed (fileAnswer t (readFile s)) (planLines m t (readFile s)) (ap answerNumber is ∙ seven) (ap answerOffset is ∙ zero),
-      ap (λ g. (fileLeft m t g).tables) e ∙ ap (λ q. (afreshSlices m (over t q)).left.tables) last ∙ ap (λ d. d.tables) (stays-over m t s p f e short),
+    let seven = (call_seven p None (lent_of t) w.1).1 (w.0, inl short) in
+    let zero = offset_zero.call p None (lent_of t) in
+    let is : file_answer t (read_file s) ≡ call_answer p None (lent_of t) =
+    ap (file_answer t) e ∙ ap (λ a. first_of a (afresh_answer (over t (last_plan t p f)))) taken ∙ ap (λ q. afresh_answer (over t q)) last in (
+      seven_printed (file_answer t (read_file s)) (plan_lines m t (read_file s)) (ap answer_number is ∙ seven) (ap answer_offset is ∙ zero),
+      ap (λ g. (file_left m t g).tables) e ∙ ap (λ q. (afresh_slices m (over t q)).left.tables) last ∙ ap (λ d. d.tables) (stays_over m t s p f e short),
     )

@@ -2,12 +2,12 @@
 // is complete is tried on them.
 ghost use Rattle.std.specs.Prelude.{◌≡◌, List, ◌++◌, ℕ};
 ghost use Rattle.plan.specs.Checks.{first_of};
-ghost use Rattle.file.specs.File.{readFile};
+ghost use Rattle.file.specs.File.{read_file};
 ghost use Rattle.file.specs.Reader.{start};
-ghost use Rattle.regions.specs.Slices.{LentTables, tables_of, planSlices};
-ghost use Rattle.table.specs.Method.{clippedTable};
-ghost use Rattle.reading.specs.Whole.{noPlan, fileAnswer};
-ghost use Rattle.reading.specs.Reading.{state_of, begun, handedTo, readBytes, answerAt, AfterBytes};
+ghost use Rattle.regions.specs.Slices.{LentTables, tables_of, plan_slices};
+ghost use Rattle.table.specs.Method.{clipped_table};
+ghost use Rattle.reading.specs.Whole.{no_plan, file_answer};
+ghost use Rattle.reading.specs.Reading.{state_of, begun, handed_to, read_bytes, answer_at, AfterBytes};
 
 use file::reader;
 use file::reader::{Handed, Reader};
@@ -26,7 +26,7 @@ pub struct Reading {
 
 // Before the first byte.
 pub fn begin() -> Reading
-    ensures { (result.reader ≡ start) × (result.plan ≡ noPlan) }
+    ensures { (result.reader ≡ start) × (result.plan ≡ no_plan) }
 {
     let reader = reader::start();
     let plan = reader.plan;
@@ -46,7 +46,7 @@ fn hand(
     exclusive_presence: &mut [u8],
     exclusives: &mut [f64],
 ) -> Plan
-    ensures { planSlices result presence.new rows.new exclusive_presence.new exclusives.new ≡ handedTo clippedTable handed read (planSlices plan presence.old rows.old exclusive_presence.old exclusives.old) }
+    ensures { plan_slices result presence.new rows.new exclusive_presence.new exclusives.new ≡ handed_to clipped_table handed read (plan_slices plan presence.old rows.old exclusive_presence.old exclusives.old) }
 {
     match handed {
         Handed::Nothing => plan,
@@ -70,8 +70,8 @@ pub fn feed(
     exclusive_presence: &mut [u8],
     exclusives: &mut [f64],
 ) -> Reading
-    ensures exclusives_after { state_of result.reader (planSlices result.plan presence.new rows.new exclusive_presence.new exclusives.new) ≡ readBytes clippedTable (state_of reading.reader (planSlices reading.plan presence.old rows.old exclusive_presence.old exclusives.old)) bytes.now }
-    ensures after_bytes { (t : LentTables) (s : List ℕ) → AfterBytes clippedTable t s (state_of reading.reader (planSlices reading.plan presence.old rows.old exclusive_presence.old exclusives.old)) → AfterBytes clippedTable t (s ++ bytes.now) (state_of result.reader (planSlices result.plan presence.new rows.new exclusive_presence.new exclusives.new)) }
+    ensures exclusives_after { state_of result.reader (plan_slices result.plan presence.new rows.new exclusive_presence.new exclusives.new) ≡ read_bytes clipped_table (state_of reading.reader (plan_slices reading.plan presence.old rows.old exclusive_presence.old exclusives.old)) bytes.now }
+    ensures after_bytes { (t : LentTables) (s : List ℕ) → AfterBytes clipped_table t s (state_of reading.reader (plan_slices reading.plan presence.old rows.old exclusive_presence.old exclusives.old)) → AfterBytes clipped_table t (s ++ bytes.now) (state_of result.reader (plan_slices result.plan presence.new rows.new exclusive_presence.new exclusives.new)) }
 {
     let mut reader = reading.reader;
     let mut plan = reading.plan;
@@ -106,8 +106,8 @@ pub fn finish(
     exclusive_presence: &[u8],
     exclusives: &[f64],
 ) -> Answer
-    ensures value { result ≡ answerAt (state_of reading.reader (planSlices reading.plan presence.now rows.now exclusive_presence.now exclusives.now)) }
-    ensures value_2 { (t : LentTables) (s : List ℕ) → AfterBytes clippedTable t s (state_of reading.reader (planSlices reading.plan presence.now rows.now exclusive_presence.now exclusives.now)) → result ≡ fileAnswer t (readFile s) }
+    ensures value { result ≡ answer_at (state_of reading.reader (plan_slices reading.plan presence.now rows.now exclusive_presence.now exclusives.now)) }
+    ensures value_2 { (t : LentTables) (s : List ℕ) → AfterBytes clipped_table t s (state_of reading.reader (plan_slices reading.plan presence.now rows.now exclusive_presence.now exclusives.now)) → result ≡ file_answer t (read_file s) }
 {
     let reader = reading.reader;
     let plan = reading.plan;

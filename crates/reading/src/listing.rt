@@ -1,11 +1,11 @@
 // What the program prints of a plan file: the lines of the exclusives after the last edit, or a refusal's line (specs/Whole.antt).
 ghost use Rattle.std.specs.Prelude.{◌≡◌, List, ℕ, ◌≤◌};
-ghost use Rattle.file.specs.File.{readFile};
-ghost use Rattle.regions.specs.Slices.{LentTables, planSlices};
-ghost use Rattle.table.specs.Method.{clippedTable};
+ghost use Rattle.file.specs.File.{read_file};
+ghost use Rattle.regions.specs.Slices.{LentTables, plan_slices};
+ghost use Rattle.table.specs.Method.{clipped_table};
 ghost use Rattle.printing.specs.Text.{Printed};
-ghost use Rattle.reading.specs.Whole.{printedFor, filePrinted};
-ghost use Rattle.reading.specs.Reading.{state_of, printedAt, AfterBytes};
+ghost use Rattle.reading.specs.Whole.{printed_for, file_printed};
+ghost use Rattle.reading.specs.Reading.{state_of, printed_at, AfterBytes};
 
 use crate::feeding::{Reading, finish};
 use plan::{Answer, number};
@@ -21,8 +21,8 @@ pub fn print_file(
     exclusives: &[f64],
     out: &mut [u8],
 ) -> usize
-    ensures printed { Printed (printedAt (state_of reading.reader (planSlices reading.plan presence.now rows.now exclusive_presence.now exclusives.now))) out.old out.new result }
-    ensures printed_2 { (t : LentTables) (s : List ℕ) → AfterBytes clippedTable t s (state_of reading.reader (planSlices reading.plan presence.now rows.now exclusive_presence.now exclusives.now)) → Printed (filePrinted clippedTable t (readFile s)) out.old out.new result }
+    ensures printed { Printed (printed_at (state_of reading.reader (plan_slices reading.plan presence.now rows.now exclusive_presence.now exclusives.now))) out.old out.new result }
+    ensures printed_2 { (t : LentTables) (s : List ℕ) → AfterBytes clipped_table t s (state_of reading.reader (plan_slices reading.plan presence.now rows.now exclusive_presence.now exclusives.now)) → Printed (file_printed clipped_table t (read_file s)) out.old out.new result }
     ensures upper_bound { result ≤ 21504 }
 {
     let plan = reading.plan;

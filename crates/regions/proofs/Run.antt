@@ -9,24 +9,24 @@ use lib.Seq.{drop-cons, set_at}
 use Rattle.lists.specs.Run as Run
 use Rattle.lists.specs.Run.{Step}
 use Rattle.lists.specs.Written.{tab}
-use Rattle.lists.proofs.Writing.{length-tab, length-written, drop-written}
+use Rattle.lists.proofs.Writing.{length_tab, length_written, drop_written}
 use Rattle.plan.specs.declared.Answer.{Answer}
 use Rattle.plan.specs.declared.Answer.TheVariants.{Taken, Refused}
 use Rattle.plan.specs.declared.Edit.{Edit}
 use Rattle.plan.specs.declared.Gradients.TheVariants.{None}
 use Rattle.plan.specs.Book.{AnyTaken, head_of, leaves}
-use Rattle.plan.specs.Checks.{planAnswer, callAnswer}
-use Rattle.plan.specs.Table.{answerNumber}
-use Rattle.plan.proofs.Exactly.{plan-taken, call-taken}
+use Rattle.plan.specs.Checks.{plan_answer, call_answer}
+use Rattle.plan.specs.Table.{answer_number}
+use Rattle.plan.proofs.Exactly.{plan_taken, call_taken}
 use Rattle.regions.specs.Edit.{Row}
 use Rattle.regions.specs.Demand.{AfreshRows, ExclusivesOf, Fresh, Ends, Reworks}
-use Rattle.regions.specs.Table.{Method, afresh, edited, afreshStep, tableStep}
-use Rattle.regions.specs.Slices.{row_at, withRows, LentTables, lent_of, PlanSlices, settledTables, step_of, sliceAnswer, editedLeft, afreshSlices}
-use Rattle.regions.specs.Slices.{editSlices, planTable, entry_of}
-use Rattle.regions.specs.Run.{slicesAfter, answersAfter, answersWritten, entriesOf, BytesStay, AfreshBegins, SlicesRework, RunEnds}
-use Rattle.regions.proofs.Demand.{afresh-works, list-ends-afresh, edit-reworks-exactly}
-use Rattle.regions.proofs.Slices.{Room, edit-room, edited-left, slices-are-tables}
-use Rattle.regions.proofs.Steps.{none-taken}
+use Rattle.regions.specs.Table.{Method, afresh, edited, afresh_step, table_step}
+use Rattle.regions.specs.Slices.{row_at, with_rows, LentTables, lent_of, PlanSlices, settled_tables, step_of, slice_answer, edited_left, afresh_slices}
+use Rattle.regions.specs.Slices.{edit_slices, plan_table, entry_of}
+use Rattle.regions.specs.Run.{slices_after, answers_after, answers_written, entries_of, BytesStay, AfreshBegins, SlicesRework, RunEnds}
+use Rattle.regions.proofs.Demand.{afresh_works, list_ends_afresh, edit_reworks_exactly}
+use Rattle.regions.proofs.Slices.{Room, edit_room, edited-left, slices_are_tables}
+use Rattle.regions.proofs.Steps.{none_taken}
 
 -- ---- a fold of steps, one step more at its end
 
@@ -36,81 +36,81 @@ module _ {State Entry Answered : Type 0} (step : State → Entry → Step State 
   after_more s [] e = refl
   after_more s (d ∷ es) e = after_more (step s d).left es e
 
-  answers-more : (s : State) (es : List Entry) (e : Entry)
+  answers_more : (s : State) (es : List Entry) (e : Entry)
       → Run.answers step s (es ++ (e ∷ [])) ≡ Run.answers step s es ++ ((step (Run.after step s es) e).answer ∷ [])
   unfolding Run.after Run.answers
-  answers-more s [] e = refl
-  answers-more s (d ∷ es) e = ap (λ l. (step s d).answer ∷ l) (answers-more (step s d).left es e)
+  answers_more s [] e = refl
+  answers_more s (d ∷ es) e = ap (λ l. (step s d).answer ∷ l) (answers_more (step s d).left es e)
 
-  answers-length : (s : State) (es : List Entry) → length (Run.answers step s es) ≡ length es
+  answers_length : (s : State) (es : List Entry) → length (Run.answers step s es) ≡ length es
   unfolding Run.answers
-  answers-length s [] = refl
-  answers-length s (e ∷ es) = ap suc (answers-length (step s e).left es)
+  answers_length s [] = refl
+  answers_length s (e ∷ es) = ap suc (answers_length (step s e).left es)
 
 -- ---- a run's next edit
 
 module _ (m : Method) (start : PlanSlices) (f : ℕ → Edit) (i : ℕ) where
-  tab-next : tab f (i + 1) ≡ tab f i ++ (f i ∷ [])
+  tab_next : tab f (i + 1) ≡ tab f i ++ (f i ∷ [])
   unfolding tab
-  tab-next = rw (add-one i)
+  tab_next = rw (add-one i)
 
   -- what one more edit leaves
-  pub slices-next : (d left : PlanSlices) (e : Edit) (a : Answer) → d ≡ slicesAfter m start (tab f i) → e ≡ f i → step_of left a ≡ editSlices m d e
-      → left ≡ slicesAfter m start (tab f (i + 1))
-  slices-next d left e a h k s =
-      ap (λ t. t.left) s ∙ ap₂ (λ x y. (editSlices m x y).left) h k ∙ sym (ap (slicesAfter m start) tab-next ∙ after_more (editSlices m) start (tab f i) (f i))
+  pub slices_next : (d left : PlanSlices) (e : Edit) (a : Answer) → d ≡ slices_after m start (tab f i) → e ≡ f i → step_of left a ≡ edit_slices m d e
+      → left ≡ slices_after m start (tab f (i + 1))
+  slices_next d left e a h k s =
+      ap (λ t. t.left) s ∙ ap₂ (λ x y. (edit_slices m x y).left) h k ∙ sym (ap (slices_after m start) tab_next ∙ after_more (edit_slices m) start (tab f i) (f i))
 
-  numbers-so-far : List ℕ
-  numbers-so-far = map answerNumber (answersAfter m start (tab f i))
+  numbers_so_far : List ℕ
+  numbers_so_far = map answer_number (answers_after m start (tab f i))
 
   -- its answer's number
-  number-next : (d left : PlanSlices) (e : Edit) (a : Answer) → d ≡ slicesAfter m start (tab f i) → e ≡ f i → step_of left a ≡ editSlices m d e
-      → map answerNumber (answersAfter m start (tab f (i + 1))) ≡ numbers-so-far ++ (answerNumber a ∷ [])
-  unfolding numbers-so-far
-  number-next d left e a h k s =
-      ap (λ es. map answerNumber (answersAfter m start es)) tab-next
-      ∙ ap (map answerNumber) (answers-more (editSlices m) start (tab f i) (f i))
-      ∙ map-append answerNumber (answersAfter m start (tab f i)) ((editSlices m (slicesAfter m start (tab f i)) (f i)).answer ∷ [])
-      ∙ ap (λ x. numbers-so-far ++ (answerNumber x ∷ [])) (sym (ap (λ t. t.answer) s ∙ ap₂ (λ x y. (editSlices m x y).answer) h k))
+  number_next : (d left : PlanSlices) (e : Edit) (a : Answer) → d ≡ slices_after m start (tab f i) → e ≡ f i → step_of left a ≡ edit_slices m d e
+      → map answer_number (answers_after m start (tab f (i + 1))) ≡ numbers_so_far ++ (answer_number a ∷ [])
+  unfolding numbers_so_far
+  number_next d left e a h k s =
+      ap (λ es. map answer_number (answers_after m start es)) tab_next
+      ∙ ap (map answer_number) (answers_more (edit_slices m) start (tab f i) (f i))
+      ∙ map-append answer_number (answers_after m start (tab f i)) ((edit_slices m (slices_after m start (tab f i)) (f i)).answer ∷ [])
+      ∙ ap (λ x. numbers_so_far ++ (answer_number x ∷ [])) (sym (ap (λ t. t.answer) s ∙ ap₂ (λ x y. (edit_slices m x y).answer) h k))
 
-  many : length numbers-so-far ≡ i
-  unfolding numbers-so-far
-  many = length-map (answersAfter m start (tab f i)) answerNumber ∙ answers-length (editSlices m) start (tab f i) ∙ length-tab f i
+  many : length numbers_so_far ≡ i
+  unfolding numbers_so_far
+  many = length-map (answers_after m start (tab f i)) answer_number ∙ answers_length (edit_slices m) start (tab f i) ∙ length_tab f i
 
   -- the numbers written, one more
-  pub answers_next : (d left : PlanSlices) (e : Edit) (a : Answer) → d ≡ slicesAfter m start (tab f i) → e ≡ f i → step_of left a ≡ editSlices m d e
-      → (out so_far : List ℕ) (v : ℕ) → so_far ≡ answersWritten m start (tab f i) out → i < length out → v ≡ answerNumber a
-      → set so_far i v ≡ answersWritten m start (tab f (i + 1)) out
-  unfolding numbers-so-far
+  pub answers_next : (d left : PlanSlices) (e : Edit) (a : Answer) → d ≡ slices_after m start (tab f i) → e ≡ f i → step_of left a ≡ edit_slices m d e
+      → (out so_far : List ℕ) (v : ℕ) → so_far ≡ answers_written m start (tab f i) out → i < length out → v ≡ answer_number a
+      → set so_far i v ≡ answers_written m start (tab f (i + 1)) out
+  unfolding numbers_so_far
   answers_next d left e a h k s out so_far v q b w =
-      ap (λ l. set l i v) (q ∙ ap (λ n. numbers-so-far ++ drop n out) (length-tab f i) ∙ ap (λ l. numbers-so-far ++ l) (drop-cons out i 0 b))
-      ∙ set_at numbers-so-far (get_or out i 0) (drop (suc i) out) v i many
-      ∙ ap (λ x. numbers-so-far ++ x ∷ drop (suc i) out) w
-      ∙ sym (append_assoc numbers-so-far (answerNumber a ∷ []) (drop (suc i) out))
-      ∙ ap₂ (λ l n. l ++ drop n out) (sym (number-next d left e a h k s)) (sym (length-tab f (i + 1) ∙ add-one i))
+      ap (λ l. set l i v) (q ∙ ap (λ n. numbers_so_far ++ drop n out) (length_tab f i) ∙ ap (λ l. numbers_so_far ++ l) (drop-cons out i 0 b))
+      ∙ set_at numbers_so_far (get_or out i 0) (drop (suc i) out) v i many
+      ∙ ap (λ x. numbers_so_far ++ x ∷ drop (suc i) out) w
+      ∙ sym (append_assoc numbers_so_far (answer_number a ∷ []) (drop (suc i) out))
+      ∙ ap₂ (λ l n. l ++ drop n out) (sym (number_next d left e a h k s)) (sym (length_tab f (i + 1) ∙ add-one i))
 
 -- ---- what a list of edits keeps of the slices
 
-settled-stays : (m : Method) (n : ℕ) (F : ℕ → Row) (t : LentTables) → Room n t → BytesStay (2 ^ n) t (settledTables m (2 ^ n) n F t)
-settled-stays m n F t r =
-    let G : ℕ → Row = m.exclusives.of n (row_at (withRows F (2 ^ n) t.rows)) in
+settled_stays : (m : Method) (n : ℕ) (F : ℕ → Row) (t : LentTables) → Room n t → BytesStay (2 ^ n) t (settled_tables m (2 ^ n) n F t)
+settled_stays m n F t r =
+    let G : ℕ → Row = m.exclusives.of n (row_at (with_rows F (2 ^ n) t.rows)) in
     record {
-      bytes = (drop-written (λ S. (F S).byte) (2 ^ n) (2 ^ n) t.rows.bytes (le_refl (2 ^ n)), length-written (λ S. (F S).byte) (2 ^ n) t.rows.bytes r.bytes);
-      numbers = (drop-written (λ S. (F S).number) (2 ^ n) (2 ^ n) t.rows.numbers (le_refl (2 ^ n)), length-written (λ S. (F S).number) (2 ^ n) t.rows.numbers r.numbers);
-      others = (drop-written (λ S. (G S).byte) (2 ^ n) (2 ^ n) t.exclusives.bytes (le_refl (2 ^ n)), length-written (λ S. (G S).byte) (2 ^ n) t.exclusives.bytes r.others);
-      areas = (drop-written (λ S. (G S).number) (2 ^ n) (2 ^ n) t.exclusives.numbers (le_refl (2 ^ n)), length-written (λ S. (G S).number) (2 ^ n) t.exclusives.numbers r.areas);
+      bytes = (drop_written (λ S. (F S).byte) (2 ^ n) (2 ^ n) t.rows.bytes (le_refl (2 ^ n)), length_written (λ S. (F S).byte) (2 ^ n) t.rows.bytes r.bytes);
+      numbers = (drop_written (λ S. (F S).number) (2 ^ n) (2 ^ n) t.rows.numbers (le_refl (2 ^ n)), length_written (λ S. (F S).number) (2 ^ n) t.rows.numbers r.numbers);
+      others = (drop_written (λ S. (G S).byte) (2 ^ n) (2 ^ n) t.exclusives.bytes (le_refl (2 ^ n)), length_written (λ S. (G S).byte) (2 ^ n) t.exclusives.bytes r.others);
+      areas = (drop_written (λ S. (G S).number) (2 ^ n) (2 ^ n) t.exclusives.numbers (le_refl (2 ^ n)), length_written (λ S. (G S).number) (2 ^ n) t.exclusives.numbers r.areas);
     }
 
-stay-stays : (count : ℕ) (t u v : LentTables) → BytesStay count t u → BytesStay count u v → BytesStay count t v
-stay-stays count t u v a b = record {
+stay_stays : (count : ℕ) (t u v : LentTables) → BytesStay count t u → BytesStay count u v → BytesStay count t v
+stay_stays count t u v a b = record {
   bytes = (b.bytes.0 ∙ a.bytes.0, b.bytes.1 ∙ a.bytes.1);
   numbers = (b.numbers.0 ∙ a.numbers.0, b.numbers.1 ∙ a.numbers.1);
   others = (b.others.0 ∙ a.others.0, b.others.1 ∙ a.others.1);
   areas = (b.areas.0 ∙ a.areas.0, b.areas.1 ∙ a.areas.1);
 }
 
-same-lengths : (count : ℕ) (t u : LentTables) → BytesStay count t u → lent_of u ≡ lent_of t
-same-lengths count t u k = rw (k.bytes.1, k.numbers.1, k.others.1, k.areas.1)
+same_lengths : (count : ℕ) (t u : LentTables) → BytesStay count t u → lent_of u ≡ lent_of t
+same_lengths count t u k = rw (k.bytes.1, k.numbers.1, k.others.1, k.areas.1)
 
 module _ (m : Method) (start : PlanSlices) where
   -- room for ten heads, their number, and what stands beyond
@@ -119,96 +119,96 @@ module _ (m : Method) (start : PlanSlices) where
     count : d.plan.n ≡ start.plan.n
     stay : BytesStay (2 ^ start.plan.n) start.tables d.tables
 
-  edited-kept : (d : PlanSlices) (e : Edit) → Kept d → sliceAnswer d e ≡ Taken → Kept (editedLeft m d e)
-  edited-kept d e k q =
+  edited_kept : (d : PlanSlices) (e : Edit) → Kept d → slice_answer d e ≡ Taken → Kept (edited_left m d e)
+  edited_kept d e k q =
       subst Kept (sym (edited-left m d e))
       (record {
         ten = length-set d.plan.heads e.head (head_of e) ∙ k.ten;
         count = k.count;
-        stay = stay-stays (2 ^ start.plan.n) start.tables d.tables _ k.stay
+        stay = stay_stays (2 ^ start.plan.n) start.tables d.tables _ k.stay
             (subst (λ n. BytesStay (2 ^ n) d.tables
-            (settledTables m (2 ^ d.plan.n) d.plan.n (edited m d.plan e (row_at d.tables.rows)) d.tables)) k.count
-            (settled-stays m d.plan.n (edited m d.plan e (row_at d.tables.rows)) d.tables (edit-room d e k.ten q).0));
+            (settled_tables m (2 ^ d.plan.n) d.plan.n (edited m d.plan e (row_at d.tables.rows)) d.tables)) k.count
+            (settled_stays m d.plan.n (edited m d.plan e (row_at d.tables.rows)) d.tables (edit_room d e k.ten q).0));
       })
 
-  left-kept : (d : PlanSlices) (e : Edit) → Kept d → (a : Answer) → sliceAnswer d e ≡ a → Kept (leaves a d (editedLeft m d e))
-  left-kept d e k Taken q = edited-kept d e k q
-  left-kept d e k (Refused r at) q = k
+  left_kept : (d : PlanSlices) (e : Edit) → Kept d → (a : Answer) → slice_answer d e ≡ a → Kept (leaves a d (edited_left m d e))
+  left_kept d e k Taken q = edited_kept d e k q
+  left_kept d e k (Refused r at) q = k
 
-  step_kept : (d : PlanSlices) (e : Edit) → Kept d → Kept (editSlices m d e).left
-  unfolding editSlices
-  step_kept d e k = left-kept d e k (sliceAnswer d e) refl
+  step_kept : (d : PlanSlices) (e : Edit) → Kept d → Kept (edit_slices m d e).left
+  unfolding edit_slices
+  step_kept d e k = left_kept d e k (slice_answer d e) refl
 
-  after_kept : (es : List Edit) (d : PlanSlices) → Kept d → Kept (slicesAfter m d es)
+  after_kept : (es : List Edit) (d : PlanSlices) → Kept d → Kept (slices_after m d es)
   unfolding Run.after
   after_kept [] d k = k
-  after_kept (e ∷ es) d k = after_kept es (editSlices m d e).left (step_kept d e k)
+  after_kept (e ∷ es) d k = after_kept es (edit_slices m d e).left (step_kept d e k)
 
   -- ---- the list over slices is the list over their rows
 
-  step-table : (d : PlanSlices) (e : Edit) → Kept d → planTable (editSlices m d e).left ≡ (tableStep m (planTable d) (entry_of start.tables e)).left
-  step-table d e k =
-      (slices-are-tables m).edit-left d e
-      ∙ ap (λ lent. (tableStep m (planTable d) (record { edit = e; lent = lent })).left)
-      (same-lengths (2 ^ start.plan.n) start.tables d.tables k.stay)
+  step_table : (d : PlanSlices) (e : Edit) → Kept d → plan_table (edit_slices m d e).left ≡ (table_step m (plan_table d) (entry_of start.tables e)).left
+  step_table d e k =
+      (slices_are_tables m).edit_left d e
+      ∙ ap (λ lent. (table_step m (plan_table d) (record { edit = e; lent = lent })).left)
+      (same_lengths (2 ^ start.plan.n) start.tables d.tables k.stay)
 
-  step-answer : (d : PlanSlices) (e : Edit) → Kept d → (editSlices m d e).answer ≡ (tableStep m (planTable d) (entry_of start.tables e)).answer
-  step-answer d e k =
-      (slices-are-tables m).edit-answer d e
-      ∙ ap (λ lent. (tableStep m (planTable d) (record { edit = e; lent = lent })).answer)
-      (same-lengths (2 ^ start.plan.n) start.tables d.tables k.stay)
+  step_answer : (d : PlanSlices) (e : Edit) → Kept d → (edit_slices m d e).answer ≡ (table_step m (plan_table d) (entry_of start.tables e)).answer
+  step_answer d e k =
+      (slices_are_tables m).edit-answer d e
+      ∙ ap (λ lent. (table_step m (plan_table d) (record { edit = e; lent = lent })).answer)
+      (same_lengths (2 ^ start.plan.n) start.tables d.tables k.stay)
 
-  after_table : (es : List Edit) (d : PlanSlices) → Kept d → planTable (slicesAfter m d es) ≡ Run.after (tableStep m) (planTable d) (entriesOf start es)
+  after_table : (es : List Edit) (d : PlanSlices) → Kept d → plan_table (slices_after m d es) ≡ Run.after (table_step m) (plan_table d) (entries_of start es)
   unfolding Run.after
   after_table [] d k = refl
   after_table (e ∷ es) d k =
-      after_table es (editSlices m d e).left (step_kept d e k)
-      ∙ ap (λ s. Run.after (tableStep m) s (entriesOf start es)) (step-table d e k)
+      after_table es (edit_slices m d e).left (step_kept d e k)
+      ∙ ap (λ s. Run.after (table_step m) s (entries_of start es)) (step_table d e k)
 
-  answers-table : (es : List Edit) (d : PlanSlices) → Kept d → answersAfter m d es ≡ Run.answers (tableStep m) (planTable d) (entriesOf start es)
+  answers_table : (es : List Edit) (d : PlanSlices) → Kept d → answers_after m d es ≡ Run.answers (table_step m) (plan_table d) (entries_of start es)
   unfolding Run.answers
-  answers-table [] d k = refl
-  answers-table (e ∷ es) d k =
-      ap₂ ◌∷◌ (step-answer d e k)
-      (answers-table es (editSlices m d e).left (step_kept d e k) ∙ ap (λ s. Run.answers (tableStep m) s (entriesOf start es)) (step-table d e k))
+  answers_table [] d k = refl
+  answers_table (e ∷ es) d k =
+      ap₂ ◌∷◌ (step_answer d e k)
+      (answers_table es (edit_slices m d e).left (step_kept d e k) ∙ ap (λ s. Run.answers (table_step m) s (entries_of start es)) (step_table d e k))
 
-refused-slices : (m : Method) (d : PlanSlices) (e : Edit) → ((editSlices m d e).answer ≡ Taken → ⊥) → (editSlices m d e).left ≡ d
-unfolding editSlices
-refused-slices m d e n = go (sliceAnswer d e) n
+refused_slices : (m : Method) (d : PlanSlices) (e : Edit) → ((edit_slices m d e).answer ≡ Taken → ⊥) → (edit_slices m d e).left ≡ d
+unfolding edit_slices
+refused_slices m d e n = go (slice_answer d e) n
   where
-    go : (a : Answer) → (a ≡ Taken → ⊥) → leaves a d (editedLeft m d e) ≡ d
+    go : (a : Answer) → (a ≡ Taken → ⊥) → leaves a d (edited_left m d e) ≡ d
     go Taken n = absurd (n refl)
     go (Refused r at) n = refl
 
 -- ---- demand 3, of the slices
 
-afresh-answer-is : (m : Method) (d : PlanSlices) → callAnswer d.plan None (lent_of d.tables) ≡ (afreshSlices m d).answer
-unfolding afreshSlices
-afresh-answer-is m d = refl
+afresh_answer_is : (m : Method) (d : PlanSlices) → call_answer d.plan None (lent_of d.tables) ≡ (afresh_slices m d).answer
+unfolding afresh_slices
+afresh_answer_is m d = refl
 
 -- what a run begins with
-pub afresh-begins : (m : Method) → AfreshBegins m
-afresh-begins m d ten q =
-    let same = slices-are-tables m in
-    let works = (afresh-works m (planTable d) (lent_of d.tables)).taken (sym (same.afresh-answer d) ∙ q) in
+pub afresh_begins : (m : Method) → AfreshBegins m
+afresh_begins m d ten q =
+    let same = slices_are_tables m in
+    let works = (afresh_works m (plan_table d) (lent_of d.tables)).taken (sym (same.afresh-answer d) ∙ q) in
     let left = sym (same.afresh-left d) in
-    let accepted = ((call-taken d.plan None (lent_of d.tables) ten).0 (afresh-answer-is m d ∙ q)).0 in (
+    let accepted = ((call_taken d.plan None (lent_of d.tables) ten).0 (afresh_answer_is m d ∙ q)).0 in (
       subst (Fresh m) left
           (record {
             room = ap (λ p. length p.heads) works.0 ∙ ten;
-            taken = ap planAnswer works.0 ∙ (plan-taken d.plan ten).1 accepted;
-            fresh = subst (λ p. AfreshRows m p (afreshStep m (planTable d) (lent_of d.tables)).left.rows) (sym works.0) works.1;
+            taken = ap plan_answer works.0 ∙ (plan_taken d.plan ten).1 accepted;
+            fresh = subst (λ p. AfreshRows m p (afresh_step m (plan_table d) (lent_of d.tables)).left.rows) (sym works.0) works.1;
           }),
       subst (λ t. ExclusivesOf m d.plan.n (afresh m d.plan) t.exclusives) left works.2,
     )
 
 -- the second half
-pub slices-rework : (m : Method) → SlicesRework m
-slices-rework m d e q =
-    let same = slices-are-tables m in
-    let rows = ap (λ t. t.rows) (sym (same.edit-left d e)) in
+pub slices_rework : (m : Method) → SlicesRework m
+slices_rework m d e q =
+    let same = slices_are_tables m in
+    let rows = ap (λ t. t.rows) (sym (same.edit_left d e)) in
     subst (Reworks m d.plan e (row_at d.tables.rows)) rows
-    (edit-reworks-exactly m (planTable d) (entry_of d.tables e) (sym (same.edit-answer d e) ∙ q)).1
+    (edit_reworks_exactly m (plan_table d) (entry_of d.tables e) (sym (same.edit-answer d e) ∙ q)).1
 
 -- the list
 pub run_ends : (m : Method) → RunEnds m
@@ -218,11 +218,11 @@ run_ends m d es begin =
       count = refl;
       stay = record { bytes = (refl, refl); numbers = (refl, refl); others = (refl, refl); areas = (refl, refl) };
     } in
-    let end = list-ends-afresh m (planTable d) begin (entriesOf d es) in
-    let answered = answers-table m d es d start in
+    let end = list_ends_afresh m (plan_table d) begin (entries_of d es) in
+    let answered = answers_table m d es d start in
     record {
-      ends = subst (λ s. Ends m (planTable d) (entriesOf d es) s (answersAfter m d es)) (sym (after_table m d es d start))
-          (subst (Ends m (planTable d) (entriesOf d es) (Run.after (tableStep m) (planTable d) (entriesOf d es))) (sym answered) end);
-      untouched = λ t. none-taken (editSlices m) (refused-slices m) es d (λ u. t (subst AnyTaken (answered ∙ end.answered) u));
+      ends = subst (λ s. Ends m (plan_table d) (entries_of d es) s (answers_after m d es)) (sym (after_table m d es d start))
+          (subst (Ends m (plan_table d) (entries_of d es) (Run.after (table_step m) (plan_table d) (entries_of d es))) (sym answered) end);
+      untouched = λ t. none_taken (edit_slices m) (refused_slices m) es d (λ u. t (subst AnyTaken (answered ∙ end.answered) u));
       stay = (after_kept m d es d start).stay;
     }

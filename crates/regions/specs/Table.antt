@@ -9,15 +9,15 @@ use Rattle.plan.specs.declared.Ground.{Ground}
 use Rattle.plan.specs.declared.Lent.{Lent}
 use Rattle.plan.specs.declared.Plan.{Plan}
 use Rattle.plan.specs.Book.{Entry, head_of, applied, leaves}
-use Rattle.plan.specs.Checks.{callAnswer, editAnswer}
-use Rattle.plan.specs.Limits.{noHead}
-use Rattle.plan.specs.Table.{headsOver}
+use Rattle.plan.specs.Checks.{call_answer, edit_answer}
+use Rattle.plan.specs.Limits.{no_head}
+use Rattle.plan.specs.Table.{heads_over}
 use Rattle.geometry.specs.declared.point.Point.{Point}
 use Rattle.geometry.specs.declared.circle.Circle.{Circle}
-use Rattle.drawn.specs.Drawn.{planCircles}
+use Rattle.drawn.specs.Drawn.{plan_circles}
 use Rattle.intersections.specs.Members.{Member, members_of}
 use Rattle.intersections.specs.Points.{collected}
-use Rattle.regions.specs.Edit.{Row, afreshRow, met, editedRow}
+use Rattle.regions.specs.Edit.{Row, afresh_row, met, edited_row}
 use Rattle.lists.specs.Run.{Step}
 
 -- "Exclusives go to a second table, worked out from the first": how they follow from the rows of n heads. Exclusives 0 to 2^n - 1 look at no
@@ -33,34 +33,34 @@ pub record Method : Type 0 where
   -- "The outline of a single is its head's full circle, whatever meets it": of one member alone no point is looked at.
   pub alone : (g : Ground) (c : Circle) (ps qs : List Point) → area g (record { circle = c; points = ps } ∷ [])
       ≡ area g (record { circle = c; points = qs } ∷ [])
-  pub hasBox : Bool
-  pub boxArea : Ground → Float
+  pub has_box : Bool
+  pub box_area : Ground → Float
   pub sets : Plan → ℕ → Bool
   pub exclusives : Exclusives
 
 -- head i of a plan
-abbrev pub headAt : Plan → ℕ → Head
-headAt p i = get_or p.heads i noHead
+abbrev pub head_at : Plan → ℕ → Head
+head_at p i = get_or p.heads i no_head
 
 -- the members of the set S of a plan's heads, as the code gathers them
-abbrev pub planMembers : Plan → ℕ → List Member
-planMembers p S = members_of (planCircles p) (collected (planCircles p)) S
+abbrev pub plan_members : Plan → ℕ → List Member
+plan_members p S = members_of (plan_circles p) (collected (plan_circles p)) S
 
 -- the area of row S of a plan
-abbrev pub areaAt : Method → Plan → ℕ → Float
-areaAt m p S = m.area p.ground (planMembers p S)
+abbrev pub area_at : Method → Plan → ℕ → Float
+area_at m p S = m.area p.ground (plan_members p S)
 
 -- the plan's afresh rows
 abbrev pub afresh : Method → Plan → ℕ → Row
-afresh m p S = afreshRow m.hasBox (m.boxArea p.ground) (areaAt m p) (m.sets p) S
+afresh m p S = afresh_row m.has_box (m.box_area p.ground) (area_at m p) (m.sets p) S
 
 -- the heads that head k, the edited one, meets before or after
-abbrev pub metBy : Plan → Edit → ℕ
-metBy p e = met (headAt p e.head ∷ head_of e ∷ []) (headAt p) p.n e.head
+abbrev pub met_by : Plan → Edit → ℕ
+met_by p e = met (head_at p e.head ∷ head_of e ∷ []) (head_at p) p.n e.head
 
 -- row S after a taken edit, from the rows handed in
 unfoldable pub edited : Method → Plan → Edit → (ℕ → Row) → ℕ → Row
-edited m p e rows S = editedRow m.hasBox (2 ^ e.head) (metBy p e) (areaAt m (applied p e)) (m.sets p) (m.sets (applied p e)) rows S
+edited m p e rows S = edited_row m.has_box (2 ^ e.head) (met_by p e) (area_at m (applied p e)) (m.sets p) (m.sets (applied p e)) rows S
 
 -- ---- the steps
 
@@ -84,20 +84,20 @@ settled m count p rows s = record {
 }
 
 -- The afresh call on a plan, over whatever its tables hold: refused, all is as it was; taken, rows 0 to 2^n - 1 are the plan's and the exclusives theirs.
-unfoldable pub afreshStep : Method → PlanTable → Lent → Step PlanTable Answer
-afreshStep m s lent =
-    let answer = callAnswer s.plan None lent in
+unfoldable pub afresh_step : Method → PlanTable → Lent → Step PlanTable Answer
+afresh_step m s lent =
+    let answer = call_answer s.plan None lent in
     record { left = leaves answer s (settled m (2 ^ s.plan.n) s.plan (afresh m s.plan) s); answer = answer }
 
 -- how many rows an edit writes: those of the larger of the head counts before and after
-abbrev pub rowsOver : Plan → Edit → ℕ
-rowsOver p e = 2 ^ headsOver p e
+abbrev pub rows_over : Plan → Edit → ℕ
+rows_over p e = 2 ^ heads_over p e
 
 -- One edit of a plan's table. The decision looks at the plan, the edit and the lengths, and the rows follow it.
-unfoldable pub tableStep : Method → PlanTable → Entry → Step PlanTable Answer
-tableStep m s e =
-    let answer = editAnswer s.plan e.edit e.lent in
+unfoldable pub table_step : Method → PlanTable → Entry → Step PlanTable Answer
+table_step m s e =
+    let answer = edit_answer s.plan e.edit e.lent in
     record {
-      left = leaves answer s (settled m (rowsOver s.plan e.edit) (applied s.plan e.edit) (edited m s.plan e.edit s.rows) s);
+      left = leaves answer s (settled m (rows_over s.plan e.edit) (applied s.plan e.edit) (edited m s.plan e.edit s.rows) s);
       answer = answer;
     }

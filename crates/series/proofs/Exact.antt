@@ -9,57 +9,57 @@ use lib.ListN.{length, replicate}
 use lib.Dec.{T, leb→le}
 use lib.Pow.{pow_pos}
 use lib.IntN.{ℤ, pos, ◌+ℤ◌, ◌*ℤ◌, *ℤ-zero, zero-*ℤ, +ℤ_idl}
-use Rattle.series.specs.Kernel.{quarter, firstCoefficient, coefficients, mulhi, horner, rawSine}
+use Rattle.series.specs.Kernel.{quarter, first_coefficient, coefficients, mulhi, horner, raw_sine}
 use Rattle.series.proofs.Polynomial.{hval}
-use Rattle.series.proofs.Alternating.{negated, alternating, exactSum, falling, alternating-value, Stands, horner-stands, quotient-above, quotient-below}
-use Rattle.series.proofs.Tests.{alternatingPart, grain, unit, recipe}
+use Rattle.series.proofs.Alternating.{negated, alternating, exact_sum, falling, alternating_value, Stands, horner_stands, quotient_above, quotient_below}
+use Rattle.series.proofs.Tests.{alternating_part, grain, unit, recipe}
 
 -- ---- the recipe against its own exact polynomial
 
-coefficients-fall : T (falling firstCoefficient coefficients)
+coefficients_fall : T (falling first_coefficient coefficients)
 unfolding falling
-coefficients-fall = tt
+coefficients_fall = tt
 
 -- the exact alternating sum at an angle n, and n times it: the recipe's polynomial without any cut
 unfoldable pub sum_at : ℕ → ℕ
-sum_at n = exactSum (2 ^ 64 * 2 ^ 56) (n * n) (firstCoefficient ∷ coefficients)
+sum_at n = exact_sum (2 ^ 64 * 2 ^ 56) (n * n) (first_coefficient ∷ coefficients)
 
-unfoldable pub exactSine : ℕ → ℕ
-exactSine n = n * (grain * sum_at n)
+unfoldable pub exact_sine : ℕ → ℕ
+exact_sine n = n * (grain * sum_at n)
 
 module _ (n : ℕ) (small : n ≤ quarter) where
-  pub square-small : n * n ≤ 2 ^ 64 * 2 ^ 56
-  square-small = le_trans (mul-le-mul small small) (leb→le (quarter * quarter) (2 ^ 64 * 2 ^ 56) tt)
+  pub square_small : n * n ≤ 2 ^ 64 * 2 ^ 56
+  square_small = le_trans (mul-le-mul small small) (leb→le (quarter * quarter) (2 ^ 64 * 2 ^ 56) tt)
 
   squared : ℕ
   squared = mulhi (16 * n) (16 * n)
 
-  squared-low : squared * 2 ^ 56 ≤ n * n
+  squared_low : squared * 2 ^ 56 ≤ n * n
   unfolding squared
-  squared-low = cut (mulhi (16 * n) (16 * n)) (n * n) (quotient-above (16 * n * (16 * n)) (2 ^ 64)) (omega arith)
+  squared_low = cut (mulhi (16 * n) (16 * n)) (n * n) (quotient_above (16 * n * (16 * n)) (2 ^ 64)) (omega arith)
     where
       cut : (z m : ℕ) → z * 2 ^ 64 ≤ 16 * n * (16 * n) → 16 * n * (16 * n) ≡ 256 * m → z * 2 ^ 56 ≤ m
       cut z m h e = omega arith
 
-  squared-high : n * n ≤ squared * 2 ^ 56 + 2 ^ 56
+  squared_high : n * n ≤ squared * 2 ^ 56 + 2 ^ 56
   unfolding squared
-  squared-high = cut (mulhi (16 * n) (16 * n)) (n * n) (quotient-below (16 * n * (16 * n)) (2 ^ 64) (pow_pos 64)) (omega arith)
+  squared_high = cut (mulhi (16 * n) (16 * n)) (n * n) (quotient_below (16 * n * (16 * n)) (2 ^ 64) (pow_pos 64)) (omega arith)
     where
       cut : (z m : ℕ) → 16 * n * (16 * n) ≤ z * 2 ^ 64 + 2 ^ 64 → 16 * n * (16 * n) ≡ 256 * m → m ≤ z * 2 ^ 56 + 2 ^ 56
       cut z m h e = omega arith
 
-  raw-horner : Stands (horner firstCoefficient coefficients squared) (sum_at n) ((2 ^ 64 * 2 ^ 56) ^ 10) 20
+  raw_horner : Stands (horner first_coefficient coefficients squared) (sum_at n) ((2 ^ 64 * 2 ^ 56) ^ 10) 20
   unfolding sum_at
-  raw-horner =
-      (horner-stands (2 ^ 56) (n * n) squared squared-low squared-high square-small (pow_pos 56) firstCoefficient coefficients (leb→le firstCoefficient (2 ^ 64) tt) coefficients-fall).0
+  raw_horner =
+      (horner_stands (2 ^ 56) (n * n) squared squared_low squared_high square_small (pow_pos 56) first_coefficient coefficients (leb→le first_coefficient (2 ^ 64) tt) coefficients_fall).0
 
-  raw-quotient : (16 * n) * horner firstCoefficient coefficients squared / 2 ^ 64 ≡ rawSine n
-  unfolding rawSine squared
-  raw-quotient = refl
+  raw_quotient : (16 * n) * horner first_coefficient coefficients squared / 2 ^ 64 ≡ raw_sine n
+  unfolding raw_sine squared
+  raw_quotient = refl
 
 -- f = n h / C, cut, stands for n g E / (g C U) where h stands for E / U
-times-stands : (g C U n h E f e : ℕ) → n ≤ C → f * C ≤ n * h → n * h ≤ f * C + C → Stands h E U e → Stands f (n * (g * E)) (g * C * U) (suc e)
-times-stands g C U n h E f e small low high t = record {
+times_stands : (g C U n h E f e : ℕ) → n ≤ C → f * C ≤ n * h → n * h ≤ f * C + C → Stands h E U e → Stands f (n * (g * E)) (g * C * U) (suc e)
+times_stands g C U n h E f e small low high t = record {
   above = up (mul-le-mul_right (g * U) low) (mul-le-mul_left (n * g) t.above) (mul-le-mul_right (g * (e * U)) small);
   below = down (mul-le-mul_right (g * U) high) (mul-le-mul_left (n * g) t.below) (mul-le-mul_right (g * (e * U)) small);
 }
@@ -70,22 +70,22 @@ times-stands g C U n h E f e small low high t = record {
     down : n * h * (g * U) ≤ (f * C + C) * (g * U) → n * g * E ≤ n * g * (h * U + e * U) → n * (g * (e * U)) ≤ C * (g * (e * U)) → n * (g * E) ≤ f * (g * C * U) + suc e * (g * C * U)
     down p q r = omega arith
 
-unit-is : unit ≡ grain * 2 ^ 60 * (2 ^ 64 * 2 ^ 56) ^ 10
+unit_is : unit ≡ grain * 2 ^ 60 * (2 ^ 64 * 2 ^ 56) ^ 10
 unfolding unit
-unit-is = refl
+unit_is = refl
 
 -- the recipe's sine before the cap, against its exact polynomial: 21 units
-pub raw-stands : (n : ℕ) → n ≤ quarter → Stands (rawSine n) (exactSine n) unit 21
-unfolding exactSine
-raw-stands n small =
-    rw unit-is
-    (times-stands grain (2 ^ 60) ((2 ^ 64 * 2 ^ 56) ^ 10) n h (sum_at n) (rawSine n) 20 (le_trans small (leb→le quarter (2 ^ 60) tt))
-    (low (rawSine n) (subst (λ (f : ℕ). f * 2 ^ 64 ≤ 16 * n * h) (raw-quotient n small) (quotient-above (16 * n * h) (2 ^ 64))))
-    (high (rawSine n) (subst (λ (f : ℕ). 16 * n * h ≤ f * 2 ^ 64 + 2 ^ 64) (raw-quotient n small) (quotient-below (16 * n * h) (2 ^ 64) (pow_pos 64))))
-    (raw-horner n small))
+pub raw_stands : (n : ℕ) → n ≤ quarter → Stands (raw_sine n) (exact_sine n) unit 21
+unfolding exact_sine
+raw_stands n small =
+    rw unit_is
+    (times_stands grain (2 ^ 60) ((2 ^ 64 * 2 ^ 56) ^ 10) n h (sum_at n) (raw_sine n) 20 (le_trans small (leb→le quarter (2 ^ 60) tt))
+    (low (raw_sine n) (subst (λ (f : ℕ). f * 2 ^ 64 ≤ 16 * n * h) (raw_quotient n small) (quotient_above (16 * n * h) (2 ^ 64))))
+    (high (raw_sine n) (subst (λ (f : ℕ). 16 * n * h ≤ f * 2 ^ 64 + 2 ^ 64) (raw_quotient n small) (quotient_below (16 * n * h) (2 ^ 64) (pow_pos 64))))
+    (raw_horner n small))
   where
     h : ℕ
-    h = horner firstCoefficient coefficients (squared n small)
+    h = horner first_coefficient coefficients (squared n small)
 
     low : (f : ℕ) → f * 2 ^ 64 ≤ 16 * n * h → f * 2 ^ 60 ≤ n * h
     low f k = omega arith
@@ -95,28 +95,28 @@ raw-stands n small =
 
 -- ---- the exact polynomial's value: ±n (..) at ±n
 
-pub zeros-value : (k : ℕ) (x : ℤ) (y : ℕ) → hval (replicate k (pos 0)) x y ≡ pos 0
+pub zeros_value : (k : ℕ) (x : ℤ) (y : ℕ) → hval (replicate k (pos 0)) x y ≡ pos 0
 unfolding hval
-zeros-value zero x y = refl
-zeros-value (suc k) x y = rw (zeros-value k x y) (ap₂ (λ (a b : ℤ). a +ℤ b) (zero-*ℤ (pos (y ^ suc (length (replicate k (pos 0)))))) (*ℤ-zero x) ∙ +ℤ_idl (pos 0))
+zeros_value zero x y = refl
+zeros_value (suc k) x y = rw (zeros_value k x y) (ap₂ (λ (a b : ℤ). a +ℤ b) (zero-*ℤ (pos (y ^ suc (length (replicate k (pos 0)))))) (*ℤ-zero x) ∙ +ℤ_idl (pos 0))
 
-length_part : length alternatingPart ≡ 79
-unfolding alternatingPart negated alternating
+length_part : length alternating_part ≡ 79
+unfolding alternating_part negated alternating
 length_part = refl
 
-pub length-recipe : length recipe ≡ 80
+pub length_recipe : length recipe ≡ 80
 unfolding recipe
-length-recipe = ap suc length_part
+length_recipe = ap suc length_part
 
-recipe-times : (x : ℤ) (y : ℕ) → hval recipe x y ≡ x *ℤ hval alternatingPart x y
+recipe_times : (x : ℤ) (y : ℕ) → hval recipe x y ≡ x *ℤ hval alternating_part x y
 unfolding recipe hval
-recipe-times x y = ap (λ (z : ℤ). z +ℤ x *ℤ hval alternatingPart x y) (zero-*ℤ (pos (y ^ suc (length alternatingPart)))) ∙ +ℤ_idl (x *ℤ hval alternatingPart x y)
+recipe_times x y = ap (λ (z : ℤ). z +ℤ x *ℤ hval alternating_part x y) (zero-*ℤ (pos (y ^ suc (length alternating_part)))) ∙ +ℤ_idl (x *ℤ hval alternating_part x y)
 
 module _ (n y : ℕ) (small : n ≤ quarter) (x : ℤ) (square : x *ℤ x ≡ pos (n * n * (y * y))) where
-  part-value : hval alternatingPart x y ≡ pos (y ^ length alternatingPart * (grain * sum_at n))
-  unfolding alternatingPart sum_at
-  part-value =
-      alternating-value grain (2 ^ 120) n y (square-small n small) (replicate 57 (pos 0)) x (zeros-value 57 x y) square firstCoefficient coefficients coefficients-fall
+  part_value : hval alternating_part x y ≡ pos (y ^ length alternating_part * (grain * sum_at n))
+  unfolding alternating_part sum_at
+  part_value =
+      alternating_value grain (2 ^ 120) n y (square_small n small) (replicate 57 (pos 0)) x (zeros_value 57 x y) square first_coefficient coefficients coefficients_fall
 
-  pub recipe-value : hval recipe x y ≡ x *ℤ pos (y ^ 79 * (grain * sum_at n))
-  recipe-value = recipe-times x y ∙ ap (λ (z : ℤ). x *ℤ z) (part-value ∙ ap (λ (k : ℕ). pos (y ^ k * (grain * sum_at n))) length_part)
+  pub recipe_value : hval recipe x y ≡ x *ℤ pos (y ^ 79 * (grain * sum_at n))
+  recipe_value = recipe_times x y ∙ ap (λ (z : ℤ). x *ℤ z) (part_value ∙ ap (λ (k : ℕ). pos (y ^ k * (grain * sum_at n))) length_part)

@@ -11,40 +11,40 @@ use lib.IntN.{ℤ, pos, negsuc, neg_ℤ, ◌+ℤ◌, ◌-ℤ◌, ◌*ℤ◌, nat
 pub +ℤ-left-comm : (a b c : ℤ) → a +ℤ (b +ℤ c) ≡ b +ℤ (a +ℤ c)
 +ℤ-left-comm a b c = sym (+ℤ_assoc a b c) ∙ ap (λ (z : ℤ). z +ℤ c) (+ℤ_comm a b) ∙ +ℤ_assoc b a c
 
-pub pair-sum : (a b c d : ℤ) → (a +ℤ b) +ℤ (c +ℤ d) ≡ (a +ℤ c) +ℤ (b +ℤ d)
-pair-sum a b c d = simp (+ℤ_assoc, +ℤ-left-comm)
+pub pair_sum : (a b c d : ℤ) → (a +ℤ b) +ℤ (c +ℤ d) ≡ (a +ℤ c) +ℤ (b +ℤ d)
+pair_sum a b c d = simp (+ℤ_assoc, +ℤ-left-comm)
 
 -- (-a) b = -(a b)
-neg-negsuc : (n : ℕ) (k : ℤ) → negsuc n *ℤ k ≡ neg_ℤ (pos (suc n) *ℤ k)
-neg-negsuc n k = *ℤ_comm (negsuc n) k ∙ *ℤ-negsuc k n ∙ ap neg_ℤ (*ℤ_comm k (pos (suc n)))
+neg_negsuc : (n : ℕ) (k : ℤ) → negsuc n *ℤ k ≡ neg_ℤ (pos (suc n) *ℤ k)
+neg_negsuc n k = *ℤ_comm (negsuc n) k ∙ *ℤ-negsuc k n ∙ ap neg_ℤ (*ℤ_comm k (pos (suc n)))
 
 pub neg-*ℤ : (a b : ℤ) → neg_ℤ a *ℤ b ≡ neg_ℤ (a *ℤ b)
 neg-*ℤ (pos zero) b = zero-*ℤ b ∙ sym (ap neg_ℤ (zero-*ℤ b))
-neg-*ℤ (pos (suc n)) b = neg-negsuc n b
-neg-*ℤ (negsuc n) b = sym (ap neg_ℤ (neg-negsuc n b) ∙ neg_ℤ-neg_ℤ (pos (suc n) *ℤ b))
+neg-*ℤ (pos (suc n)) b = neg_negsuc n b
+neg-*ℤ (negsuc n) b = sym (ap neg_ℤ (neg_negsuc n b) ∙ neg_ℤ-neg_ℤ (pos (suc n) *ℤ b))
 
 pub *ℤ-neg : (a b : ℤ) → a *ℤ neg_ℤ b ≡ neg_ℤ (a *ℤ b)
 *ℤ-neg a b = *ℤ_comm a (neg_ℤ b) ∙ neg-*ℤ b a ∙ ap neg_ℤ (*ℤ_comm b a)
 
-distrib-pos : (n : ℕ) (b c : ℤ) → pos n *ℤ (b +ℤ c) ≡ pos n *ℤ b +ℤ pos n *ℤ c
-distrib-pos zero b c = zero-*ℤ (b +ℤ c) ∙ sym (ap₂ (λ (x y : ℤ). x +ℤ y) (zero-*ℤ b) (zero-*ℤ c))
-distrib-pos (suc n) b c =
+distrib_pos : (n : ℕ) (b c : ℤ) → pos n *ℤ (b +ℤ c) ≡ pos n *ℤ b +ℤ pos n *ℤ c
+distrib_pos zero b c = zero-*ℤ (b +ℤ c) ∙ sym (ap₂ (λ (x y : ℤ). x +ℤ y) (zero-*ℤ b) (zero-*ℤ c))
+distrib_pos (suc n) b c =
     suc_ℤ-*ℤ (pos n) (b +ℤ c)
-    ∙ ap (λ (z : ℤ). z +ℤ (b +ℤ c)) (distrib-pos n b c)
-    ∙ pair-sum (pos n *ℤ b) (pos n *ℤ c) b c
+    ∙ ap (λ (z : ℤ). z +ℤ (b +ℤ c)) (distrib_pos n b c)
+    ∙ pair_sum (pos n *ℤ b) (pos n *ℤ c) b c
     ∙ sym (ap₂ (λ (x y : ℤ). x +ℤ y) (suc_ℤ-*ℤ (pos n) b) (suc_ℤ-*ℤ (pos n) c))
 
 -- a (b + c) = a b + a c
 pub distrib : (a b c : ℤ) → a *ℤ (b +ℤ c) ≡ a *ℤ b +ℤ a *ℤ c
-distrib (pos n) b c = distrib-pos n b c
+distrib (pos n) b c = distrib_pos n b c
 distrib (negsuc n) b c =
-    neg-negsuc n (b +ℤ c)
-    ∙ ap neg_ℤ (distrib-pos (suc n) b c)
+    neg_negsuc n (b +ℤ c)
+    ∙ ap neg_ℤ (distrib_pos (suc n) b c)
     ∙ neg_ℤ-+ℤ (pos (suc n) *ℤ b) (pos (suc n) *ℤ c)
-    ∙ sym (ap₂ (λ (x y : ℤ). x +ℤ y) (neg-negsuc n b) (neg-negsuc n c))
+    ∙ sym (ap₂ (λ (x y : ℤ). x +ℤ y) (neg_negsuc n b) (neg_negsuc n c))
 
-pub distrib-r : (a b c : ℤ) → (a +ℤ b) *ℤ c ≡ a *ℤ c +ℤ b *ℤ c
-distrib-r a b c = *ℤ_comm (a +ℤ b) c ∙ distrib c a b ∙ ap₂ (λ (x y : ℤ). x +ℤ y) (*ℤ_comm c a) (*ℤ_comm c b)
+pub distrib_r : (a b c : ℤ) → (a +ℤ b) *ℤ c ≡ a *ℤ c +ℤ b *ℤ c
+distrib_r a b c = *ℤ_comm (a +ℤ b) c ∙ distrib c a b ∙ ap₂ (λ (x y : ℤ). x +ℤ y) (*ℤ_comm c a) (*ℤ_comm c b)
 
 -- ---- differences
 
@@ -70,32 +70,32 @@ unfolding ◌⊖◌
 parts (pos a) = (a, 0, sym (+ℤ_idr (pos a)))
 parts (negsuc b) = (0, suc b, sym (+ℤ_idl (negsuc b)))
 
-sum-of-differences : (a b c d : ℤ) → (a -ℤ b) +ℤ (c -ℤ d) ≡ (a +ℤ c) -ℤ (b +ℤ d)
-sum-of-differences a b c d = pair-sum a (neg_ℤ b) c (neg_ℤ d) ∙ ap (λ (z : ℤ). (a +ℤ c) +ℤ z) (sym (neg_ℤ-+ℤ b d))
+sum_of_differences : (a b c d : ℤ) → (a -ℤ b) +ℤ (c -ℤ d) ≡ (a +ℤ c) -ℤ (b +ℤ d)
+sum_of_differences a b c d = pair_sum a (neg_ℤ b) c (neg_ℤ d) ∙ ap (λ (z : ℤ). (a +ℤ c) +ℤ z) (sym (neg_ℤ-+ℤ b d))
 
 pub ⊖-add : (a b c d : ℕ) → (a ⊖ b) +ℤ (c ⊖ d) ≡ (a + c) ⊖ (b + d)
 unfolding ◌⊖◌
-⊖-add a b c d = sum-of-differences (pos a) (pos b) (pos c) (pos d)
+⊖-add a b c d = sum_of_differences (pos a) (pos b) (pos c) (pos d)
 
-product-of-differences : (a b c d : ℤ) → (a -ℤ b) *ℤ (c -ℤ d) ≡ (a *ℤ c +ℤ b *ℤ d) -ℤ (a *ℤ d +ℤ b *ℤ c)
-product-of-differences a b c d =
-    distrib-r a (neg_ℤ b) (c -ℤ d)
+product_of_differences : (a b c d : ℤ) → (a -ℤ b) *ℤ (c -ℤ d) ≡ (a *ℤ c +ℤ b *ℤ d) -ℤ (a *ℤ d +ℤ b *ℤ c)
+product_of_differences a b c d =
+    distrib_r a (neg_ℤ b) (c -ℤ d)
     ∙ ap₂ (λ (x y : ℤ). x +ℤ y)
     (distrib a c (neg_ℤ d) ∙ ap (λ (z : ℤ). a *ℤ c +ℤ z) (*ℤ-neg a d))
     (neg-*ℤ b (c -ℤ d) ∙ ap neg_ℤ (distrib b c (neg_ℤ d) ∙ ap (λ (z : ℤ). b *ℤ c +ℤ z) (*ℤ-neg b d))
     ∙ neg_ℤ-+ℤ (b *ℤ c) (neg_ℤ (b *ℤ d)) ∙ ap (λ (z : ℤ). neg_ℤ (b *ℤ c) +ℤ z) (neg_ℤ-neg_ℤ (b *ℤ d)) ∙ +ℤ_comm (neg_ℤ (b *ℤ c)) (b *ℤ d))
-    ∙ sum-of-differences (a *ℤ c) (a *ℤ d) (b *ℤ d) (b *ℤ c)
+    ∙ sum_of_differences (a *ℤ c) (a *ℤ d) (b *ℤ d) (b *ℤ c)
 
 pub ⊖-mul : (a b c d : ℕ) → (a ⊖ b) *ℤ (c ⊖ d) ≡ (a * c + b * d) ⊖ (a * d + b * c)
 unfolding ◌⊖◌
-⊖-mul a b c d = product-of-differences (pos a) (pos b) (pos c) (pos d)
+⊖-mul a b c d = product_of_differences (pos a) (pos b) (pos c) (pos d)
 
 -- what turns an expression over differences into one difference
 pub ruleset differences = (pos-⊖, neg-pos-⊖, ⊖-add, ⊖-mul, ⊖-neg)
 
 -- a - b = c - d where a + d = c + b
 cancelled : (a b c : ℤ) → a -ℤ b ≡ (a +ℤ c) -ℤ (b +ℤ c)
-cancelled a b c = sym (sym (sum-of-differences a b c c) ∙ ap (λ (z : ℤ). (a -ℤ b) +ℤ z) (+ℤ_invr c) ∙ +ℤ_idr (a -ℤ b))
+cancelled a b c = sym (sym (sum_of_differences a b c c) ∙ ap (λ (z : ℤ). (a -ℤ b) +ℤ z) (+ℤ_invr c) ∙ +ℤ_idr (a -ℤ b))
 
 pub ⊖-eq : (a b c d : ℕ) → a + d ≡ c + b → a ⊖ b ≡ c ⊖ d
 unfolding ◌⊖◌
@@ -126,11 +126,11 @@ abs-negℤ (pos n) = abs_neg n
 abs-negℤ (negsuc n) = refl
 
 -- |a b| = |a| |b|
-pub abs-mul : (x y : ℤ) → nat_abs (x *ℤ y) ≡ nat_abs x * nat_abs y
-abs-mul (pos a) (pos b) = refl
-abs-mul (pos a) (negsuc b) = abs_neg (a * suc b)
-abs-mul (negsuc a) (pos b) = abs_neg (suc a * b)
-abs-mul (negsuc a) (negsuc b) = refl
+pub abs_mul : (x y : ℤ) → nat_abs (x *ℤ y) ≡ nat_abs x * nat_abs y
+abs_mul (pos a) (pos b) = refl
+abs_mul (pos a) (negsuc b) = abs_neg (a * suc b)
+abs_mul (negsuc a) (pos b) = abs_neg (suc a * b)
+abs_mul (negsuc a) (negsuc b) = refl
 
 -- |a - b|, for two naturals
 pub abs-⊖ : (a b : ℕ) → nat_abs (a ⊖ b) ≡ (a - b) + (b - a)
@@ -155,8 +155,8 @@ abs-⊖ a b = go (dec_le b a)
         ∙ abs_neg (b - a) ∙ below a b h
 
 -- |x + y| ≤ |x| + |y|
-pub abs-add : (x y : ℤ) → nat_abs (x +ℤ y) ≤ nat_abs x + nat_abs y
-abs-add x y =
+pub abs_add : (x y : ℤ) → nat_abs (x +ℤ y) ≤ nat_abs x + nat_abs y
+abs_add x y =
     let p = parts x in
     let q = parts y in
     rw (p.2, q.2, ⊖-add) (simp abs-⊖ (triangle p.0 p.1 q.0 q.1))
@@ -175,16 +175,16 @@ pub dist-⊖ : (a b c d : ℕ) → dist (a ⊖ b) (c ⊖ d) ≡ (a + d - (b + c)
 unfolding dist
 dist-⊖ a b c d = rw (⊖-neg, ⊖-add, abs-⊖)
 
-pub dist-self : (x : ℤ) → dist x x ≡ 0
+pub dist_self : (x : ℤ) → dist x x ≡ 0
 unfolding dist
-dist-self x = ap nat_abs (+ℤ_invr x)
+dist_self x = ap nat_abs (+ℤ_invr x)
 
-pub dist-comm : (x y : ℤ) → dist x y ≡ dist y x
+pub dist_comm : (x y : ℤ) → dist x y ≡ dist y x
 unfolding dist
-dist-comm x y = sym (abs-negℤ (x -ℤ y)) ∙ ap nat_abs (neg_ℤ-+ℤ x (neg_ℤ y) ∙ ap (λ (z : ℤ). neg_ℤ x +ℤ z) (neg_ℤ-neg_ℤ y) ∙ +ℤ_comm (neg_ℤ x) y)
+dist_comm x y = sym (abs-negℤ (x -ℤ y)) ∙ ap nat_abs (neg_ℤ-+ℤ x (neg_ℤ y) ∙ ap (λ (z : ℤ). neg_ℤ x +ℤ z) (neg_ℤ-neg_ℤ y) ∙ +ℤ_comm (neg_ℤ x) y)
 
-pub dist-trans : (x y z : ℤ) → dist x z ≤ dist x y + dist y z
-dist-trans x y z =
+pub dist_trans : (x y z : ℤ) → dist x z ≤ dist x y + dist y z
+dist_trans x y z =
     let p = parts x in
     let q = parts y in
     let r = parts z in
@@ -194,18 +194,18 @@ dist-trans x y z =
     triangle a b c d e f = omega arith
 
 -- |x| ≤ |y| + |x - y|
-pub size-near : (x y : ℤ) → nat_abs x ≤ nat_abs y + dist x y
+pub size_near : (x y : ℤ) → nat_abs x ≤ nat_abs y + dist x y
 unfolding dist
-size-near x y = subst (λ (z : ℤ). nat_abs z ≤ nat_abs y + nat_abs (x -ℤ y)) (regroup x y) (abs-add y (x -ℤ y))
+size_near x y = subst (λ (z : ℤ). nat_abs z ≤ nat_abs y + nat_abs (x -ℤ y)) (regroup x y) (abs_add y (x -ℤ y))
   where
     regroup : (x y : ℤ) → y +ℤ (x -ℤ y) ≡ x
     regroup x y = +ℤ-left-comm y x (neg_ℤ y) ∙ ap (λ (z : ℤ). x +ℤ z) (+ℤ_invr y) ∙ +ℤ_idr x
 
-pub dist-neg : (x y : ℤ) → dist (neg_ℤ x) (neg_ℤ y) ≡ dist x y
+pub dist_neg : (x y : ℤ) → dist (neg_ℤ x) (neg_ℤ y) ≡ dist x y
 unfolding dist
-dist-neg x y = ap nat_abs (sym (neg_ℤ-+ℤ x (neg_ℤ y))) ∙ abs-negℤ (x -ℤ y)
+dist_neg x y = ap nat_abs (sym (neg_ℤ-+ℤ x (neg_ℤ y))) ∙ abs-negℤ (x -ℤ y)
 
 -- a common factor
-pub dist-scale : (n : ℕ) (x y : ℤ) → dist (pos n *ℤ x) (pos n *ℤ y) ≡ n * dist x y
+pub dist_scale : (n : ℕ) (x y : ℤ) → dist (pos n *ℤ x) (pos n *ℤ y) ≡ n * dist x y
 unfolding dist
-dist-scale n x y = ap nat_abs (ap (λ (z : ℤ). pos n *ℤ x +ℤ z) (sym (*ℤ-neg (pos n) y)) ∙ sym (distrib (pos n) x (neg_ℤ y))) ∙ abs-mul (pos n) (x -ℤ y)
+dist_scale n x y = ap nat_abs (ap (λ (z : ℤ). pos n *ℤ x +ℤ z) (sym (*ℤ-neg (pos n) y)) ∙ sym (distrib (pos n) x (neg_ℤ y))) ∙ abs_mul (pos n) (x -ℤ y)

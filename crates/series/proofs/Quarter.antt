@@ -9,33 +9,33 @@ use native.Mathlib.Omega.{arith}
 use lib.ListN.{length}
 use lib.Dec.{T, eqb, leb→le, eqb→eq}
 use lib.IntN.{ℤ, pos, neg_ℤ-neg_ℤ}
-use Rattle.series.specs.Kernel.{quarter, rawSine, quarterSine, reduced, halfTurned}
+use Rattle.series.specs.Kernel.{quarter, raw_sine, quarter_sine, reduced, half_turned}
 use Rattle.series.specs.Fraction.{signed}
-use Rattle.series.proofs.Integers.{neg-pos-⊖, pos-⊖, dist, dist-⊖, dist-trans}
+use Rattle.series.proofs.Integers.{neg-pos-⊖, pos-⊖, dist, dist-⊖, dist_trans}
 use Rattle.series.proofs.Polynomial.{hval}
 use Rattle.series.proofs.Alternating.{Stands}
 use Rattle.series.proofs.Tests.{unit}
-use Rattle.series.proofs.Exact.{exactSine, raw-stands}
+use Rattle.series.proofs.Exact.{exact_sine, raw_stands}
 use Rattle.series.proofs.Turns.{flip, beyond, short, Waves}
-use Rattle.series.proofs.Cap.{raw-cap}
+use Rattle.series.proofs.Cap.{raw_cap}
 
 -- ---- the recipe's angle
 
 -- plus or minus, by the number of half turns
-flip-signed : (j v : ℕ) → flip j (pos v) ≡ signed (eqb (j % 2) 1) v
+flip_signed : (j v : ℕ) → flip j (pos v) ≡ signed (eqb (j % 2) 1) v
 unfolding flip
-flip-signed zero v = refl
-flip-signed (suc zero) v = refl
-flip-signed (suc (suc j)) v = neg_ℤ-neg_ℤ (flip j (pos v)) ∙ flip-signed j v ∙ ap (λ (m : ℕ). signed (eqb m 1) v) (two-less j)
+flip_signed zero v = refl
+flip_signed (suc zero) v = refl
+flip_signed (suc (suc j)) v = neg_ℤ-neg_ℤ (flip j (pos v)) ∙ flip_signed j v ∙ ap (λ (m : ℕ). signed (eqb m 1) v) (two_less j)
   where
-    two-less : (j : ℕ) → j % 2 ≡ suc (suc j) % 2
-    two-less j = omega arith
+    two_less : (j : ℕ) → j % 2 ≡ suc (suc j) % 2
+    two_less j = omega arith
 
 module _ (p : List ℤ) (p-length : length p ≡ 80) (o : ℕ) (waves : Waves p o) (w f y : ℕ) (w-small : w ≤ 2 ^ 63) (f-small : f ≤ y) where
   -- k quarter turns and r more, with o added
-  by-parity : (k r : ℕ) → w + o * quarter ≡ k * quarter + r → r < quarter → (even : Bool) → eqb (k % 2) 0 ≡ even →
-      dist (hval p (pos (w * y + f)) y) (flip (k / 2) (pos (y ^ 80 * exactSine (cond even r (quarter - r))))) ≤ y ^ 80 * (144 * unit)
-  by-parity k r e l true t =
+  by_parity : (k r : ℕ) → w + o * quarter ≡ k * quarter + r → r < quarter → (even : Bool) → eqb (k % 2) 0 ≡ even →
+      dist (hval p (pos (w * y + f)) y) (flip (k / 2) (pos (y ^ 80 * exact_sine (cond even r (quarter - r))))) ≤ y ^ 80 * (144 * unit)
+  by_parity k r e l true t =
       beyond p p-length (k - o) r w f y f-small (k / 2) (waves (k - o) (k / 2) (base k o r w (eqb→eq (k % 2) 0 (subst T (sym t) tt)) e l) (few k o r w e w-small)) (rest k o r w e l) l
     where
       base : (k o r w : ℕ) → k % 2 ≡ 0 → w + o * quarter ≡ k * quarter + r → r < quarter → k - o + o ≡ 2 * (k / 2)
@@ -46,7 +46,7 @@ module _ (p : List ℤ) (p-length : length p ≡ 80) (o : ℕ) (waves : Waves p 
 
       rest : (k o r w : ℕ) → w + o * quarter ≡ k * quarter + r → r < quarter → w ≡ (k - o) * quarter + r
       rest k o r w e l = omega arith
-  by-parity k r e l false t =
+  by_parity k r e l false t =
       short p p-length (suc k - o) (quarter - r) w f y f-small (k / 2)
       (waves (suc k - o) (suc (k / 2)) (base k o r w (odd k t) e l) (few k o r w e w-small)) (rest k o r w e l) (above r l) (sub-le quarter r)
     where
@@ -71,22 +71,22 @@ module _ (p : List ℤ) (p-length : length p ≡ 80) (o : ℕ) (waves : Waves p 
       above r l = omega arith
 
   -- what the recipe reduces the angle to, and its sign
-  angle-near : dist (hval p (pos (w * y + f)) y) (signed (halfTurned (w + o * quarter)) (y ^ 80 * exactSine (reduced (w + o * quarter)))) ≤ y ^ 80 * (144 * unit)
-  unfolding halfTurned reduced
-  angle-near =
+  angle_near : dist (hval p (pos (w * y + f)) y) (signed (half_turned (w + o * quarter)) (y ^ 80 * exact_sine (reduced (w + o * quarter)))) ≤ y ^ 80 * (144 * unit)
+  unfolding half_turned reduced
+  angle_near =
       subst (λ (z : ℤ). dist (hval p (pos (w * y + f)) y) z ≤ y ^ 80 * (144 * unit))
-      (flip-signed (W / quarter / 2) (y ^ 80 * exactSine (cond (eqb (W / quarter % 2) 0) (W % quarter) (quarter - W % quarter))))
-      (by-parity (W / quarter) (W % quarter) (sym (div-add-mod' W quarter)) (mod-lt W (leb→le 1 quarter tt)) (eqb (W / quarter % 2) 0) refl)
+      (flip_signed (W / quarter / 2) (y ^ 80 * exact_sine (cond (eqb (W / quarter % 2) 0) (W % quarter) (quarter - W % quarter))))
+      (by_parity (W / quarter) (W % quarter) (sym (div-add-mod' W quarter)) (mod-lt W (leb→le 1 quarter tt)) (eqb (W / quarter % 2) 0) refl)
     where
       W : ℕ
       W = w + o * quarter
 
 -- the capped sine, against the exact polynomial: 298 units
-capped-stands : (n : ℕ) → n ≤ quarter → Stands (quarterSine n) (exactSine n) unit 298
-unfolding quarterSine
-capped-stands n l = record {
-  above = le_trans (mul-le-mul_right unit (less (rawSine n))) (up (rawSine n * unit) (exactSine n) unit (raw-stands n l).above);
-  below = down (rawSine n) (min (rawSine n) (2 ^ 61)) (exactSine n) unit (raw-stands n l).below (mul-le-mul_right unit (more (rawSine n) (raw-cap n l)));
+capped_stands : (n : ℕ) → n ≤ quarter → Stands (quarter_sine n) (exact_sine n) unit 298
+unfolding quarter_sine
+capped_stands n l = record {
+  above = le_trans (mul-le-mul_right unit (less (raw_sine n))) (up (raw_sine n * unit) (exact_sine n) unit (raw_stands n l).above);
+  below = down (raw_sine n) (min (raw_sine n) (2 ^ 61)) (exact_sine n) unit (raw_stands n l).below (mul-le-mul_right unit (more (raw_sine n) (raw_cap n l)));
 }
   where
     less : (r : ℕ) → min r (2 ^ 61) ≤ r
@@ -101,36 +101,36 @@ capped-stands n l = record {
     down : (r c E U : ℕ) → E ≤ r * U + 21 * U → r * U ≤ (c + 277) * U → E ≤ c * U + 298 * U
     down r c E U h k = omega arith
 
-reduced-small : (w : ℕ) → reduced w ≤ quarter
+reduced_small : (w : ℕ) → reduced w ≤ quarter
 unfolding reduced
-reduced-small w = go (eqb (w / quarter % 2) 0) (w % quarter) (mod-lt w (leb→le 1 quarter tt))
+reduced_small w = go (eqb (w / quarter % 2) 0) (w % quarter) (mod-lt w (leb→le 1 quarter tt))
   where
     go : (t : Bool) (r : ℕ) → r < quarter → cond t r (quarter - r) ≤ quarter
     go true r l = le_of_lt l
     go false r l = sub-le quarter r
 
 -- signed numbers are as far apart as the numbers
-pub dist-signed : (s : Bool) (a b e : ℕ) → a ≤ b + e → b ≤ a + e → dist (signed s a) (signed s b) ≤ e
-dist-signed true a b e h k = simp (neg-pos-⊖, dist-⊖) (omega arith)
-dist-signed false a b e h k = simp (pos-⊖, dist-⊖) (omega arith)
+pub dist_signed : (s : Bool) (a b e : ℕ) → a ≤ b + e → b ≤ a + e → dist (signed s a) (signed s b) ≤ e
+dist_signed true a b e h k = simp (neg-pos-⊖, dist-⊖) (omega arith)
+dist_signed false a b e h k = simp (pos-⊖, dist-⊖) (omega arith)
 
 -- The recipe's fixed-point sine at the angle X / y, in units of 2^-59, against the polynomial: 442 units of 2^-61.
-pub recipe-near : (p : List ℤ) → length p ≡ 80 → (o : ℕ) → Waves p o → (w f y : ℕ) → w ≤ 2 ^ 63 → f ≤ y →
-    dist (hval p (pos (w * y + f)) y) (signed (halfTurned (w + o * quarter)) (y ^ 80 * (quarterSine (reduced (w + o * quarter)) * unit))) ≤ y ^ 80 * (442 * unit)
-recipe-near p p-length o waves w f y h k =
-    le_trans (dist-trans (hval p (pos (w * y + f)) y) (signed s (y ^ 80 * exactSine n)) (signed s (y ^ 80 * (quarterSine n * unit))))
-    (both (y ^ 80) unit (angle-near p p-length o waves w f y h k)
-    (dist-signed s (y ^ 80 * exactSine n) (y ^ 80 * (quarterSine n * unit)) (y ^ 80 * (298 * unit))
-    (spread (y ^ 80) (exactSine n) (quarterSine n * unit) (298 * unit) stands.below) (spread (y ^ 80) (quarterSine n * unit) (exactSine n) (298 * unit) stands.above)))
+pub recipe_near : (p : List ℤ) → length p ≡ 80 → (o : ℕ) → Waves p o → (w f y : ℕ) → w ≤ 2 ^ 63 → f ≤ y →
+    dist (hval p (pos (w * y + f)) y) (signed (half_turned (w + o * quarter)) (y ^ 80 * (quarter_sine (reduced (w + o * quarter)) * unit))) ≤ y ^ 80 * (442 * unit)
+recipe_near p p-length o waves w f y h k =
+    le_trans (dist_trans (hval p (pos (w * y + f)) y) (signed s (y ^ 80 * exact_sine n)) (signed s (y ^ 80 * (quarter_sine n * unit))))
+    (both (y ^ 80) unit (angle_near p p-length o waves w f y h k)
+    (dist_signed s (y ^ 80 * exact_sine n) (y ^ 80 * (quarter_sine n * unit)) (y ^ 80 * (298 * unit))
+    (spread (y ^ 80) (exact_sine n) (quarter_sine n * unit) (298 * unit) stands.below) (spread (y ^ 80) (quarter_sine n * unit) (exact_sine n) (298 * unit) stands.above)))
   where
     n : ℕ
     n = reduced (w + o * quarter)
 
     s : Bool
-    s = halfTurned (w + o * quarter)
+    s = half_turned (w + o * quarter)
 
-    stands : Stands (quarterSine n) (exactSine n) unit 298
-    stands = capped-stands n (reduced-small (w + o * quarter))
+    stands : Stands (quarter_sine n) (exact_sine n) unit 298
+    stands = capped_stands n (reduced_small (w + o * quarter))
 
     both : {d e : ℕ} (Y U : ℕ) → d ≤ Y * (144 * U) → e ≤ Y * (298 * U) → d + e ≤ Y * (442 * U)
     both Y U h k = omega arith

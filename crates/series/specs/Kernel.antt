@@ -12,8 +12,8 @@ abbrev pub mulhi : ℕ → ℕ → ℕ
 mulhi a b = a * b / 2 ^ 64
 
 -- 4^i / (2i+1)! in units of 2^-62, rounded, for i = 0 and for i from 1 to 10.
-abbrev pub firstCoefficient : ℕ
-firstCoefficient = 4611686018427387904
+abbrev pub first_coefficient : ℕ
+first_coefficient = 4611686018427387904
 
 abbrev pub coefficients : List ℕ
 coefficients =
@@ -26,19 +26,19 @@ horner c [] z = c
 horner c (d ∷ cs) z = c - mulhi z (horner d cs z)
 
 -- The sine of an angle n of the first quarter turn, before the cap; z is n² in units of 2^-62.
-unfoldable pub rawSine : ℕ → ℕ
+unfoldable pub raw_sine : ℕ → ℕ
 unfolding horner
-rawSine n = mulhi (16 * n) (horner firstCoefficient coefficients (mulhi (16 * n) (16 * n)))
+raw_sine n = mulhi (16 * n) (horner first_coefficient coefficients (mulhi (16 * n) (16 * n)))
 
 -- No sine exceeds 1.
-unfoldable pub quarterSine : ℕ → ℕ
-unfolding rawSine
-quarterSine n = min (rawSine n) (2 ^ 61)
+unfoldable pub quarter_sine : ℕ → ℕ
+unfolding raw_sine
+quarter_sine n = min (raw_sine n) (2 ^ 61)
 
 -- The angle of the first quarter turn that has the sine of w up to sign: what w has beyond its quarter turns, taken backward in every other one.
 unfoldable pub reduced : ℕ → ℕ
 reduced w = cond (eqb (w / quarter % 2) 0) (w % quarter) (quarter - w % quarter)
 
 -- The sine of w is negative in every other half turn.
-unfoldable pub halfTurned : ℕ → Bool
-halfTurned w = eqb (w / quarter / 2 % 2) 1
+unfoldable pub half_turned : ℕ → Bool
+half_turned w = eqb (w / quarter / 2 % 2) 1

@@ -10,15 +10,15 @@ use lib.Dec.{eqb, leb, ltb}
 use lib.ListN.{length, take, get_or, set}
 use Rattle.masks.specs.Mask.{in_set}
 use Rattle.intersections.specs.declared.points.IntersectionPoint.{IntersectionPoint}
-use Rattle.intersections.specs.Members.{noPoint}
+use Rattle.intersections.specs.Members.{no_point}
 use Rattle.sets.specs.Marked.{marked}
 use Rattle.lists.specs.Some.{some, any}
-use Rattle.sets.specs.Sets.{isPart, withParts}
-use Rattle.sets.specs.Regions.{isAdoptersOf}
+use Rattle.sets.specs.Sets.{is_part, with_parts}
+use Rattle.sets.specs.Regions.{is_adopters_of}
 use Rattle.sets.specs.Steps.{part_of, adopted}
-use Rattle.lists.proofs.Somes.{some-none, any_next}
-use Rattle.sets.proofs.Marks.{marked-none, marked-same, marked-again, mark-one}
-use Rattle.sets.proofs.Taken.{and-or, or_swap, and_no, part-agree, part-or, part-of-is, part-past, part-of-past}
+use Rattle.lists.proofs.Somes.{some_none, any_next}
+use Rattle.sets.proofs.Marks.{marked_none, marked_same, marked_again, mark_one}
+use Rattle.sets.proofs.Taken.{and_or, or_swap, and_no, part_agree, part_or, part_of_is, part_past, part_of_past}
 
 -- ---- one mask
 
@@ -26,61 +26,61 @@ module _ (n v : ℕ) (l : List ℕ) where
   abbrev one : ℕ → Bool
   one = adopted n (λ T. eqb T v)
 
-  one-is : v < 2 ^ n → (S : ℕ) → (eqb S v || (leb 3 (ones v) && part_of n v S)) ≡ one S
-  one-is h S = go (ltb S (2 ^ n)) refl
+  one_is : v < 2 ^ n → (S : ℕ) → (eqb S v || (leb 3 (ones v) && part_of n v S)) ≡ one S
+  one_is h S = go (ltb S (2 ^ n)) refl
     where
-      go : (b : Bool) → ltb S (2 ^ n) ≡ b → (eqb S v || (leb 3 (ones v) && part_of n v S)) ≡ (b && withParts n (λ T. eqb T v) S)
-      go true e = ap (λ (b : Bool). eqb S v || b) (sym (part-of-is n S v (ltb-true S (2 ^ n) e) h))
+      go : (b : Bool) → ltb S (2 ^ n) ≡ b → (eqb S v || (leb 3 (ones v) && part_of n v S)) ≡ (b && with_parts n (λ T. eqb T v) S)
+      go true e = ap (λ (b : Bool). eqb S v || b) (sym (part_of_is n S v (ltb-true S (2 ^ n) e) h))
       go false e =
           let beyond = ltb-false S (2 ^ n) e in
-          ap₂ ◌||◌ (ne_eqb S v (λ f. omega arith)) (and_no (leb 3 (ones v)) (part_of n v S) (part-of-past n S v beyond))
+          ap₂ ◌||◌ (ne_eqb S v (λ f. omega arith)) (and_no (leb 3 (ones v)) (part_of n v S) (part_of_past n S v beyond))
 
   -- with its parts, where it has three heads or more
-  pub one-many : v < 2 ^ n → leb 3 (ones v) ≡ true → marked (part_of n v) (set l v 1) ≡ marked one l
-  one-many h e =
-      ap (marked (part_of n v)) (mark-one l v) ∙ marked-again (λ S. eqb S v) (part_of n v) l
-      ∙ marked-same (λ S. eqb S v || part_of n v S) one l (λ S k. ap (λ (b : Bool). eqb S v || (b && part_of n v S)) (sym e) ∙ one-is h S)
+  pub one_many : v < 2 ^ n → leb 3 (ones v) ≡ true → marked (part_of n v) (set l v 1) ≡ marked one l
+  one_many h e =
+      ap (marked (part_of n v)) (mark_one l v) ∙ marked_again (λ S. eqb S v) (part_of n v) l
+      ∙ marked_same (λ S. eqb S v || part_of n v S) one l (λ S k. ap (λ (b : Bool). eqb S v || (b && part_of n v S)) (sym e) ∙ one_is h S)
 
-  pub one-few : v < 2 ^ n → leb 3 (ones v) ≡ false → set l v 1 ≡ marked one l
-  one-few h e =
-      mark-one l v
-      ∙ marked-same (λ S. eqb S v) one l
-      (λ S k. sym (or-false (eqb S v)) ∙ ap (λ (b : Bool). eqb S v || (b && part_of n v S)) (sym e) ∙ one-is h S)
+  pub one_few : v < 2 ^ n → leb 3 (ones v) ≡ false → set l v 1 ≡ marked one l
+  one_few h e =
+      mark_one l v
+      ∙ marked_same (λ S. eqb S v) one l
+      (λ S k. sym (or-false (eqb S v)) ∙ ap (λ (b : Bool). eqb S v || (b && part_of n v S)) (sym e) ∙ one_is h S)
 
-  pub one-past : 2 ^ n ≤ v → l ≡ marked one l
-  one-past h = marked-none one l (λ S k. go S (ltb S (2 ^ n)) refl)
+  pub one_past : 2 ^ n ≤ v → l ≡ marked one l
+  one_past h = marked_none one l (λ S k. go S (ltb S (2 ^ n)) refl)
     where
-      go : (S : ℕ) (b : Bool) → ltb S (2 ^ n) ≡ b → (b && withParts n (λ T. eqb T v) S) ≡ false
-      go S true e = let below = ltb-true S (2 ^ n) e in ap₂ ◌||◌ (ne_eqb S v (λ f. omega arith)) (part-past n S v h)
+      go : (S : ℕ) (b : Bool) → ltb S (2 ^ n) ≡ b → (b && with_parts n (λ T. eqb T v) S) ≡ false
+      go S true e = let below = ltb-true S (2 ^ n) e in ap₂ ◌||◌ (ne_eqb S v (λ f. omega arith)) (part_past n S v h)
       go S false e = refl
 
 -- ---- no point, and one point more
 
-pub adopted-none : (n : ℕ) (all : List IntersectionPoint) (found : List ℕ) → found ≡ marked (adopted n (isAdoptersOf (take 0 all))) found
-unfolding any isPart
-adopted-none n all found =
-    marked-none (adopted n (isAdoptersOf (take 0 all))) found
-    (λ S h. and_no (ltb S (2 ^ n)) (withParts n (λ T. false) S) (and_no (leb 2 (ones S)) (some n (λ i. not (in_set S i) && false))
-    (some-none n (λ i. not (in_set S i) && false) (λ i k. and_no (not (in_set S i)) false refl))))
+pub adopted_none : (n : ℕ) (all : List IntersectionPoint) (found : List ℕ) → found ≡ marked (adopted n (is_adopters_of (take 0 all))) found
+unfolding any is_part
+adopted_none n all found =
+    marked_none (adopted n (is_adopters_of (take 0 all))) found
+    (λ S h. and_no (ltb S (2 ^ n)) (with_parts n (λ T. false) S) (and_no (leb 2 (ones S)) (some n (λ i. not (in_set S i) && false))
+    (some_none n (λ i. not (in_set S i) && false) (λ i k. and_no (not (in_set S i)) false refl))))
 
-pub adopted-next : (n : ℕ) (all : List IntersectionPoint) (k : ℕ) (found : List ℕ) → k < length all
-    → marked (adopted n (λ S. eqb S (get_or all k noPoint).adopters)) (marked (adopted n (isAdoptersOf (take k all))) found)
-    ≡ marked (adopted n (isAdoptersOf (take (k + 1) all))) found
-adopted-next n all k found h =
-    marked-again (adopted n (isAdoptersOf (take k all))) (adopted n (λ S. eqb S v)) found
-    ∙ marked-same (λ S. adopted n (isAdoptersOf (take k all)) S || adopted n (λ T. eqb T v) S) (adopted n (isAdoptersOf (take (k + 1) all))) found
-    (λ S l. sym (ap (λ (b : Bool). ltb S (2 ^ n) && b) (with-more S)
-    ∙ and-or (ltb S (2 ^ n)) (withParts n (isAdoptersOf (take k all)) S) (withParts n (λ T. eqb T v) S)))
+pub adopted_next : (n : ℕ) (all : List IntersectionPoint) (k : ℕ) (found : List ℕ) → k < length all
+    → marked (adopted n (λ S. eqb S (get_or all k no_point).adopters)) (marked (adopted n (is_adopters_of (take k all))) found)
+    ≡ marked (adopted n (is_adopters_of (take (k + 1) all))) found
+adopted_next n all k found h =
+    marked_again (adopted n (is_adopters_of (take k all))) (adopted n (λ S. eqb S v)) found
+    ∙ marked_same (λ S. adopted n (is_adopters_of (take k all)) S || adopted n (λ T. eqb T v) S) (adopted n (is_adopters_of (take (k + 1) all))) found
+    (λ S l. sym (ap (λ (b : Bool). ltb S (2 ^ n) && b) (with_more S)
+    ∙ and_or (ltb S (2 ^ n)) (with_parts n (is_adopters_of (take k all)) S) (with_parts n (λ T. eqb T v) S)))
   where
     v : ℕ
-    v = (get_or all k noPoint).adopters
+    v = (get_or all k no_point).adopters
 
-    more : (S : ℕ) → isAdoptersOf (take (k + 1) all) S ≡ (isAdoptersOf (take k all) S || eqb S v)
-    more S = any_next (λ q. eqb S q.adopters) all k noPoint h
+    more : (S : ℕ) → is_adopters_of (take (k + 1) all) S ≡ (is_adopters_of (take k all) S || eqb S v)
+    more S = any_next (λ q. eqb S q.adopters) all k no_point h
 
-    with-more : (S : ℕ) → withParts n (isAdoptersOf (take (k + 1) all)) S ≡ (withParts n (isAdoptersOf (take k all)) S || withParts n (λ T. eqb T v) S)
-    with-more S =
+    with_more : (S : ℕ) → with_parts n (is_adopters_of (take (k + 1) all)) S ≡ (with_parts n (is_adopters_of (take k all)) S || with_parts n (λ T. eqb T v) S)
+    with_more S =
         ap₂ ◌||◌ (more S)
-        (part-agree n (isAdoptersOf (take (k + 1) all)) (λ T. isAdoptersOf (take k all) T || eqb T v) S (λ T l. more T)
-        ∙ part-or n (isAdoptersOf (take k all)) (λ T. eqb T v) S)
-        ∙ or_swap (isAdoptersOf (take k all) S) (eqb S v) (isPart n (isAdoptersOf (take k all)) S) (isPart n (λ T. eqb T v) S)
+        (part_agree n (is_adopters_of (take (k + 1) all)) (λ T. is_adopters_of (take k all) T || eqb T v) S (λ T l. more T)
+        ∙ part_or n (is_adopters_of (take k all)) (λ T. eqb T v) S)
+        ∙ or_swap (is_adopters_of (take k all) S) (eqb S v) (is_part n (is_adopters_of (take k all)) S) (is_part n (λ T. eqb T v) S)

@@ -10,111 +10,111 @@ use lib.Dec.{eqb, leb, ltb}
 use lib.ListN.{get_or, length, replicate}
 use Rattle.masks.specs.Mask.{in_set, gather, single, with_head}
 use Rattle.masks.specs.Presence.{byte}
-use Rattle.masks.specs.Operations.{in-of-zero, bit-of-zero}
-use Rattle.masks.specs.Gather.{in-gather}
+use Rattle.masks.specs.Operations.{in_of_zero, bit_of_zero}
+use Rattle.masks.specs.Gather.{in_gather}
 use Rattle.masks.specs.Size.{ones_of_zero}
 use Rattle.lists.specs.Some.{some, any}
 use Rattle.lists.specs.Lists.{up_to}
-use Rattle.lists.proofs.Somes.{some-none, any_append}
-use Rattle.lists.proofs.Writing.{written-before, written-past}
-use Rattle.geometry.specs.Circle.{intersectionPoints}
+use Rattle.lists.proofs.Somes.{some_none, any_append}
+use Rattle.lists.proofs.Writing.{written_before, written_past}
+use Rattle.geometry.specs.Circle.{intersection_points}
 use Rattle.geometry.specs.declared.point.Point.{Point}
 use Rattle.geometry.specs.declared.circle.Circle.{Circle}
 use Rattle.intersections.specs.declared.points.IntersectionPoint.{IntersectionPoint}
-use Rattle.intersections.specs.Members.{circleAt}
-use Rattle.intersections.specs.Points.{adopts, withAdopters, pairPoints, laterPoints, collected}
-use Rattle.sets.specs.Sets.{pair, paired, pairsOf, isPair, witnessed, isPart, withParts, inLevel, overlapping, containing, is_set}
-use Rattle.sets.specs.Regions.{isOneHead, isAdoptersOf, meetsAt, containsAt, inRegions, setBytes}
+use Rattle.intersections.specs.Members.{circle_at}
+use Rattle.intersections.specs.Points.{adopts, with_adopters, pair_points, later_points, collected}
+use Rattle.sets.specs.Sets.{pair, paired, pairs_of, is_pair, witnessed, is_part, with_parts, in_level, overlapping, containing, is_set}
+use Rattle.sets.specs.Regions.{is_one_head, is_adopters_of, meets_at, contains_at, in_regions, set_bytes}
 use Rattle.sets.specs.Bytes.{ByteSays, EmptyIsNoSet}
 
 -- a list of zeros reads 0 everywhere
-zeros-at : (m S : ℕ) → ◌≡◌ {A = ℕ} (get_or (replicate m 0) S 0) 0
-zeros-at zero S = refl
-zeros-at (suc m) zero = refl
-zeros-at (suc m) (suc S) = zeros-at m S
+zeros_at : (m S : ℕ) → ◌≡◌ {A = ℕ} (get_or (replicate m 0) S 0) 0
+zeros_at zero S = refl
+zeros_at (suc m) zero = refl
+zeros_at (suc m) (suc S) = zeros_at m S
 
-pub byte-says : ByteSays
-byte-says circles points S = go (ltb S (2 ^ length circles)) refl
+pub byte_says : ByteSays
+byte_says circles points S = go (ltb S (2 ^ length circles)) refl
   where
     there : ℕ → ℕ
-    there T = byte (inRegions circles points T)
+    there T = byte (in_regions circles points T)
 
-    go : (b : Bool) → ltb S (2 ^ length circles) ≡ b → get_or (setBytes circles points) S 0 ≡ byte (b && inRegions circles points S)
-    go true e = written-before there (2 ^ length circles) S (replicate 1024 0) 0 (ltb-true S (2 ^ length circles) e)
-    go false e = written-past there (2 ^ length circles) S (replicate 1024 0) 0 (ltb-false S (2 ^ length circles) e) ∙ zeros-at 1024 S
+    go : (b : Bool) → ltb S (2 ^ length circles) ≡ b → get_or (set_bytes circles points) S 0 ≡ byte (b && in_regions circles points S)
+    go true e = written_before there (2 ^ length circles) S (replicate 1024 0) 0 (ltb-true S (2 ^ length circles) e)
+    go false e = written_past there (2 ^ length circles) S (replicate 1024 0) 0 (ltb-false S (2 ^ length circles) e) ∙ zeros_at 1024 S
 
 -- ---- the empty mask
 
 -- a mask with a head is not empty
-not-empty : (S i : ℕ) → in_set S i ≡ true → eqb 0 S ≡ false
-not-empty S i h = ne_eqb 0 S (λ e. false≢true (sym (in-of-zero 0 i (bit-of-zero i)) ∙ ap (λ (T : ℕ). in_set T i) e ∙ h))
+not_empty : (S i : ℕ) → in_set S i ≡ true → eqb 0 S ≡ false
+not_empty S i h = ne_eqb 0 S (λ e. false≢true (sym (in_of_zero 0 i (bit_of_zero i)) ∙ ap (λ (T : ℕ). in_set T i) e ∙ h))
 
-module _ (n : ℕ) (isSingle isAdopters : ℕ → Bool) (meets contains : ℕ → ℕ → Bool) (single-not : isSingle 0 ≡ false) (adopters-not : isAdopters 0 ≡ false) where
-  pair-not : isPair n meets contains 0 ≡ false
-  unfolding isPair
-  pair-not =
-      some-none n (λ i. pairsOf n meets contains i 0)
-      (λ i k. some-none i (λ j. eqb 0 (pair n i j) && paired meets contains i j)
+module _ (n : ℕ) (is_single is_adopters : ℕ → Bool) (meets contains : ℕ → ℕ → Bool) (single-not : is_single 0 ≡ false) (adopters-not : is_adopters 0 ≡ false) where
+  pair_not : is_pair n meets contains 0 ≡ false
+  unfolding is_pair
+  pair_not =
+      some_none n (λ i. pairs_of n meets contains i 0)
+      (λ i k. some_none i (λ j. eqb 0 (pair n i j) && paired meets contains i j)
       (λ j l. ap (λ (b : Bool). b && paired meets contains i j)
-      (not-empty (pair n i j) j (in-gather n (λ m. in_set (single n i) m || eqb m j) j (omega arith) ∙ has (in_set (single n i) j) (eq-eqb j j refl)))))
+      (not_empty (pair n i j) j (in_gather n (λ m. in_set (single n i) m || eqb m j) j (omega arith) ∙ has (in_set (single n i) j) (eq-eqb j j refl)))))
     where
       has : (a : Bool) {b : Bool} → b ≡ true → (a || b) ≡ true
       has true e = refl
       has false e = e
 
   abbrev found : ℕ → Bool
-  found = withParts n (witnessed n isSingle isAdopters meets contains)
+  found = with_parts n (witnessed n is_single is_adopters meets contains)
 
-  found-not : found 0 ≡ false
-  unfolding witnessed isPart
-  found-not =
-      ap₂ ◌||◌ (ap₂ ◌||◌ single-not (ap₂ ◌||◌ adopters-not pair-not))
-      (ap (λ (m : ℕ). leb 2 m && some n (λ i. not (in_set 0 i) && witnessed n isSingle isAdopters meets contains (with_head n 0 i))) ones_of_zero)
+  found_not : found 0 ≡ false
+  unfolding witnessed is_part
+  found_not =
+      ap₂ ◌||◌ (ap₂ ◌||◌ single-not (ap₂ ◌||◌ adopters-not pair_not))
+      (ap (λ (m : ℕ). leb 2 m && some n (λ i. not (in_set 0 i) && witnessed n is_single is_adopters meets contains (with_head n 0 i))) ones_of_zero)
 
-  level-not : (over cont : ℕ → ℕ) (d : ℕ) → d ≡ 0 → inLevel n found over cont d 0 ≡ false
-  unfolding inLevel
-  level-not over cont d e =
-      ap (λ (k : ℕ). inLevel n found over cont k 0) e ∙ ap (λ (m : ℕ). eqb m 2 && found 0) ones_of_zero
+  level_not : (over cont : ℕ → ℕ) (d : ℕ) → d ≡ 0 → in_level n found over cont d 0 ≡ false
+  unfolding in_level
+  level_not over cont d e =
+      ap (λ (k : ℕ). in_level n found over cont k 0) e ∙ ap (λ (m : ℕ). eqb m 2 && found 0) ones_of_zero
 
-  pub empty-not : is_set n isSingle isAdopters meets contains 0 ≡ false
+  pub empty_not : is_set n is_single is_adopters meets contains 0 ≡ false
   unfolding is_set
-  empty-not =
-      ap₂ ◌||◌ found-not (level-not (overlapping n found) (containing n contains) (ones 0 - 2) (ap (λ (m : ℕ). m - 2) ones_of_zero))
+  empty_not =
+      ap₂ ◌||◌ found_not (level_not (overlapping n found) (containing n contains) (ones 0 - 2) (ap (λ (m : ℕ). m - 2) ones_of_zero))
 
 -- ---- the meeting points of circles are adopted by their first parent
 
 module _ (cs : List Circle) where
-  parent-adopts : (i j : ℕ) (p : Point) → adopts cs i j p i ≡ true
+  parent_adopts : (i j : ℕ) (p : Point) → adopts cs i j p i ≡ true
   unfolding adopts
-  parent-adopts i j p = rw (eq-eqb i i refl)
+  parent_adopts i j p = rw (eq-eqb i i refl)
 
-  adopters-of : (i j : ℕ) → i < length cs → (l : List Point) → isAdoptersOf (map (withAdopters cs i j) l) 0 ≡ false
-  unfolding any withAdopters
-  adopters-of i j h [] = refl
-  adopters-of i j h (p ∷ l) =
+  adopters_of : (i j : ℕ) → i < length cs → (l : List Point) → is_adopters_of (map (with_adopters cs i j) l) 0 ≡ false
+  unfolding any with_adopters
+  adopters_of i j h [] = refl
+  adopters_of i j h (p ∷ l) =
       ap₂ ◌||◌
-      (not-empty (gather (length cs) (adopts cs i j p)) i (in-gather (length cs) (adopts cs i j p) i h ∙ parent-adopts i j p))
-      (adopters-of i j h l)
+      (not_empty (gather (length cs) (adopts cs i j p)) i (in_gather (length cs) (adopts cs i j p) i h ∙ parent_adopts i j p))
+      (adopters_of i j h l)
 
-  none_of : (f : ℕ → List IntersectionPoint) (m : ℕ) → ((k : ℕ) → k < m → isAdoptersOf (f k) 0 ≡ false) → isAdoptersOf (up_to f m) 0 ≡ false
+  none_of : (f : ℕ → List IntersectionPoint) (m : ℕ) → ((k : ℕ) → k < m → is_adopters_of (f k) 0 ≡ false) → is_adopters_of (up_to f m) 0 ≡ false
   unfolding up_to any
   none_of f zero h = refl
   none_of f (suc m) h =
       any_append (λ q. eqb 0 q.adopters) (up_to f m) (f m) ∙ ap₂ ◌||◌ (none_of f m (λ k l. h k (omega arith))) (h m (omega arith))
 
-  collected-adopted : isAdoptersOf (collected cs) 0 ≡ false
-  unfolding collected laterPoints pairPoints
-  collected-adopted =
-      none_of (laterPoints cs) (length cs)
-      (λ i h. none_of (λ d. pairPoints cs i (i + 1 + d)) (length cs - (i + 1))
-      (λ d k. adopters-of i (i + 1 + d) h (intersectionPoints (circleAt cs i) (circleAt cs (i + 1 + d)))))
+  collected_adopted : is_adopters_of (collected cs) 0 ≡ false
+  unfolding collected later_points pair_points
+  collected_adopted =
+      none_of (later_points cs) (length cs)
+      (λ i h. none_of (λ d. pair_points cs i (i + 1 + d)) (length cs - (i + 1))
+      (λ d k. adopters_of i (i + 1 + d) h (intersection_points (circle_at cs i) (circle_at cs (i + 1 + d)))))
 
-one-head-not : (n : ℕ) → isOneHead n 0 ≡ false
-unfolding isOneHead
-one-head-not n =
-    some-none n (λ i. eqb 0 (single n i)) (λ i k. not-empty (single n i) i (in-gather n (λ j. eqb j i) i k ∙ eq-eqb i i refl))
+one_head_not : (n : ℕ) → is_one_head n 0 ≡ false
+unfolding is_one_head
+one_head_not n =
+    some_none n (λ i. eqb 0 (single n i)) (λ i k. not_empty (single n i) i (in_gather n (λ j. eqb j i) i k ∙ eq-eqb i i refl))
 
-pub empty-is-no-set : EmptyIsNoSet
-empty-is-no-set cs =
-    empty-not (length cs) (isOneHead (length cs)) (isAdoptersOf (collected cs)) (meetsAt (collected cs)) (containsAt cs)
-    (one-head-not (length cs)) (collected-adopted cs)
+pub empty_is_no_set : EmptyIsNoSet
+empty_is_no_set cs =
+    empty_not (length cs) (is_one_head (length cs)) (is_adopters_of (collected cs)) (meets_at (collected cs)) (contains_at cs)
+    (one_head_not (length cs)) (collected_adopted cs)

@@ -7,74 +7,74 @@ use borrow.Author.Tests.{ne_eqb, leb-true}
 use lib.Count.{ones}
 use lib.Dec.{eqb, leb}
 use Rattle.masks.specs.Mask.{in_set, single, with_head, shifted}
-use Rattle.masks.specs.Gather.{gather-lt, shifted-single, or-withHead}
-use Rattle.masks.specs.Size.{ones-shifted, ones-or-and}
+use Rattle.masks.specs.Gather.{gather_lt, shifted_single, or_with_head}
+use Rattle.masks.specs.Size.{ones_shifted, ones_or_and}
 use Rattle.lists.specs.Some.{some}
-use Rattle.lists.proofs.Somes.{some-none, some-cong}
-use Rattle.sets.specs.Sets.{pair, paired, pairsOf, isPair, witnessed, isPart}
-use Rattle.sets.specs.Regions.{isOneHead}
-use Rattle.sets.proofs.Masks.{ones-more}
+use Rattle.lists.proofs.Somes.{some_none, some_cong}
+use Rattle.sets.specs.Sets.{pair, paired, pairs_of, is_pair, witnessed, is_part}
+use Rattle.sets.specs.Regions.{is_one_head}
+use Rattle.sets.proofs.Masks.{ones_more}
 
 -- ---- singles
 
-pub one-head-beyond : (n S : ℕ) → 2 ^ n ≤ S → isOneHead n S ≡ false
-unfolding isOneHead
-one-head-beyond n S h =
-    some-none n (λ i. eqb S (single n i)) (λ i k. ne_eqb S (single n i) (λ e. omega (arith, gather-lt n (λ j. eqb j i))))
+pub one_head_beyond : (n S : ℕ) → 2 ^ n ≤ S → is_one_head n S ≡ false
+unfolding is_one_head
+one_head_beyond n S h =
+    some_none n (λ i. eqb S (single n i)) (λ i k. ne_eqb S (single n i) (λ e. omega (arith, gather_lt n (λ j. eqb j i))))
 
-pub ones-single : (n i : ℕ) → i < n → ones (single n i) ≡ 1
-ones-single n i h = ap ones (sym (shifted-single n i h)) ∙ ones-shifted n i h
+pub ones_single : (n i : ℕ) → i < n → ones (single n i) ≡ 1
+ones_single n i h = ap ones (sym (shifted_single n i h)) ∙ ones_shifted n i h
 
-pub one-head-few : (n S : ℕ) → 3 ≤ ones S → isOneHead n S ≡ false
-unfolding isOneHead
-one-head-few n S h =
-    some-none n (λ i. eqb S (single n i)) (λ i k. ne_eqb S (single n i) (λ e. omega (arith, ap ones e, ones-single n i k)))
+pub one_head_few : (n S : ℕ) → 3 ≤ ones S → is_one_head n S ≡ false
+unfolding is_one_head
+one_head_few n S h =
+    some_none n (λ i. eqb S (single n i)) (λ i k. ne_eqb S (single n i) (λ e. omega (arith, ap ones e, ones_single n i k)))
 
 -- ---- pairs
 
 module _ (n : ℕ) (meets contains : ℕ → ℕ → Bool) (S : ℕ) where
   -- S is no pair
-  no-pair : ((i j : ℕ) → i < n → j < n → S ≡ pair n i j → ⊥) → isPair n meets contains S ≡ false
-  unfolding isPair
-  no-pair not-it =
-      some-none n (λ i. pairsOf n meets contains i S)
-      (λ i k. some-none i (λ j. eqb S (pair n i j) && paired meets contains i j)
+  no_pair : ((i j : ℕ) → i < n → j < n → S ≡ pair n i j → ⊥) → is_pair n meets contains S ≡ false
+  unfolding is_pair
+  no_pair not-it =
+      some_none n (λ i. pairs_of n meets contains i S)
+      (λ i k. some_none i (λ j. eqb S (pair n i j) && paired meets contains i j)
       (λ j l. ap (λ (b : Bool). b && paired meets contains i j) (ne_eqb S (pair n i j) (not-it i j k (omega arith)))))
 
-  pub pair-beyond : 2 ^ n ≤ S → isPair n meets contains S ≡ false
-  pair-beyond h = no-pair (λ i j k l e. omega (arith, e, gather-lt n (λ m. in_set (single n i) m || eqb m j)))
+  pub pair_beyond : 2 ^ n ≤ S → is_pair n meets contains S ≡ false
+  pair_beyond h = no_pair (λ i j k l e. omega (arith, e, gather_lt n (λ m. in_set (single n i) m || eqb m j)))
 
-  pub pair-few : 3 ≤ ones S → isPair n meets contains S ≡ false
-  pair-few h =
-      no-pair (λ i j k l e. omega (
+  pub pair_few : 3 ≤ ones S → is_pair n meets contains S ≡ false
+  pair_few h =
+      no_pair (λ i j k l e. omega (
         arith,
         ap ones e,
-        ap ones (or-withHead n (single n i) j (gather-lt n (λ m. eqb m i)) l),
-        ones-or-and (single n i) (shifted n j),
-        ones-single n i k,
-        ones-shifted n j l,
+        ap ones (or_with_head n (single n i) j (gather_lt n (λ m. eqb m i)) l),
+        ones_or_and (single n i) (shifted n j),
+        ones_single n i k,
+        ones_shifted n j l,
       ))
 
 -- ---- with one head more than two
 
-module _ (n : ℕ) (isSingle isAdopters : ℕ → Bool) (meets contains : ℕ → ℕ → Bool) (few : (S : ℕ) → 3 ≤ ones S → isSingle S ≡ false) where
-  pub adopter-parts : (S : ℕ) → S < 2 ^ n → isPart n (witnessed n isSingle isAdopters meets contains) S ≡ isPart n isAdopters S
-  unfolding isPart witnessed
-  adopter-parts S hs = go (leb 2 (ones S)) refl
+module _ (n : ℕ) (is_single is_adopters : ℕ → Bool) (meets contains : ℕ → ℕ → Bool) (few : (S : ℕ) → 3 ≤ ones S → is_single S ≡ false) where
+  pub adopter_parts : (S : ℕ) → S < 2 ^ n → is_part n (witnessed n is_single is_adopters meets contains) S ≡ is_part n is_adopters S
+  unfolding is_part witnessed
+  adopter_parts S hs = go (leb 2 (ones S)) refl
     where
       w : ℕ → Bool
-      w T = isSingle T || (isAdopters T || isPair n meets contains T)
+      w T = is_single T || (is_adopters T || is_pair n meets contains T)
 
-      only : (T : ℕ) → 3 ≤ ones T → w T ≡ isAdopters T
-      only T h = ap₂ (λ (a b : Bool). a || (isAdopters T || b)) (few T h) (pair-few n meets contains T h) ∙ or-false (isAdopters T)
+      only : (T : ℕ) → 3 ≤ ones T → w T ≡ is_adopters T
+      only T h = ap₂ (λ (a b : Bool). a || (is_adopters T || b)) (few T h) (pair_few n meets contains T h) ∙ or-false (is_adopters T)
 
-      at : 2 ≤ ones S → (i : ℕ) → i < n → (b : Bool) → in_set S i ≡ b → (not b && w (with_head n S i)) ≡ (not b && isAdopters (with_head n S i))
+      at : 2 ≤ ones S → (i : ℕ) → i < n → (b : Bool) → in_set S i ≡ b → (not b && w (with_head n S i)) ≡ (not b && is_adopters (with_head n S i))
       at two i h true e = refl
-      at two i h false e = only (with_head n S i) (omega (arith, two, ones-more n S i hs h e))
+      at two i h false e = only (with_head n S i) (omega (arith, two, ones_more n S i hs h e))
 
       go : (b : Bool) → leb 2 (ones S) ≡ b
-          → (b && some n (λ i. not (in_set S i) && w (with_head n S i))) ≡ (b && some n (λ i. not (in_set S i) && isAdopters (with_head n S i)))
+          → (b && some n (λ i. not (in_set S i) && w (with_head n S i))) ≡ (b && some n (λ i. not (in_set S i) && is_adopters (with_head n S i)))
       go true e =
-          some-cong n (λ i. not (in_set S i) && w (with_head n S i)) (λ i. not (in_set S i) && isAdopters (with_head n S i))
+          some_cong n (λ i. not (in_set S i) && w (with_head n S i)) (λ i. not (in_set S i) && is_adopters (with_head n S i))
           (λ i h. at (leb-true 2 (ones S) e) i h (in_set S i) refl)
       go false e = refl

@@ -5,8 +5,8 @@ use Rattle.std.specs.Prelude.{ℕ, suc, Bool, true, false, ◌&&◌, ◌||◌, L
 use Rattle.std.specs.Int.Count.{ones}
 use Rattle.lists.specs.Some.{some, any}
 use Rattle.masks.specs.Mask.{bit, in_set, gather, every}
-use Rattle.sets.specs.Sets.{isPair, witnessed, isPart, allPairs, oneInAll, inLevel, is_set}
-use Rattle.sets.specs.Regions.{isOneHead}
+use Rattle.sets.specs.Sets.{is_pair, witnessed, is_part, all_pairs, one_in_all, in_level, is_set}
+use Rattle.sets.specs.Regions.{is_one_head}
 
 -- the mask is one of these
 abbrev pub one_of : List ℕ → ℕ → Bool
@@ -20,16 +20,16 @@ abbrev pub everybody : ℕ → ℕ → Bool
 everybody i j = true
 
 -- all contain head 0
-abbrev pub containingHead0 : ℕ → ℕ → Bool
-containingHead0 i j = eqb j 0
+abbrev pub containing_head0 : ℕ → ℕ → Bool
+containing_head0 i j = eqb j 0
 
 -- heads 0 and 1 meet, and heads 0 and 2
-abbrev pub withHead0 : ℕ → ℕ → Bool
-withHead0 i j = eqb i 0 || eqb j 0
+abbrev pub with_head0 : ℕ → ℕ → Bool
+with_head0 i j = eqb i 0 || eqb j 0
 
 -- S is among the sets of n heads with these adopter masks, pairs that meet and heads that contain others
 abbrev pub set : ℕ → List ℕ → (ℕ → ℕ → Bool) → (ℕ → ℕ → Bool) → ℕ → Bool
-set n adopters meets contains S = is_set n (isOneHead n) (one_of adopters) meets contains S
+set n adopters meets contains S = is_set n (is_one_head n) (one_of adopters) meets contains S
 
 -- all propositions of a list hold
 abbrev pub All : List (Type 0) → Type 0
@@ -41,7 +41,7 @@ examples =
     -- a single, a pair that meets, one of which one head contains the other, one that does neither; not the empty mask
     (set 2 [] nobody nobody 2 ≡ true)
     ∷ (set 2 [] everybody nobody 3 ≡ true)
-    ∷ (set 2 [] nobody containingHead0 3 ≡ true)
+    ∷ (set 2 [] nobody containing_head0 3 ≡ true)
     ∷ (set 2 [] nobody nobody 3 ≡ false)
     ∷ (set 2 [] everybody everybody 0 ≡ false)
     -- adopters of three heads: a pair is left when one is taken away, but no more than one is taken away
@@ -49,14 +49,14 @@ examples =
     ∷ (set 4 (15 ∷ []) nobody nobody 13 ≡ true)
     ∷ (set 4 (15 ∷ []) nobody nobody 5 ≡ false)
     -- level by level: all pairs, and head 0 in all others; not where heads 1 and 2 are no pair; not where no head is in all others
-    ∷ (set 3 [] everybody containingHead0 7 ≡ true)
-    ∷ (set 3 [] withHead0 containingHead0 7 ≡ false)
+    ∷ (set 3 [] everybody containing_head0 7 ≡ true)
+    ∷ (set 3 [] with_head0 containing_head0 7 ≡ false)
     ∷ (set 3 [] everybody nobody 7 ≡ false)
     -- four heads come from three that are new; from three that were found before, the Rust does not go on
-    ∷ (set 4 [] everybody containingHead0 15 ≡ true)
-    ∷ (set 4 (7 ∷ 11 ∷ 13 ∷ 14 ∷ []) everybody containingHead0 15 ≡ false)
+    ∷ (set 4 [] everybody containing_head0 15 ≡ true)
+    ∷ (set 4 (7 ∷ 11 ∷ 13 ∷ 14 ∷ []) everybody containing_head0 15 ≡ false)
     ∷ []
 
 pub worked : All examples
-unfolding any some ones bit in_set gather every isOneHead isPair witnessed isPart allPairs oneInAll inLevel is_set
+unfolding any some ones bit in_set gather every is_one_head is_pair witnessed is_part all_pairs one_in_all in_level is_set
 worked = (refl, (refl, (refl, (refl, (refl, (refl, (refl, (refl, (refl, (refl, (refl, (refl, (refl, tt)))))))))))))

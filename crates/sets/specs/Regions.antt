@@ -4,7 +4,7 @@ use Rattle.std.specs.Prelude.{ℕ, ◌^◌, Bool, ◌&&◌, ◌||◌, List, eqb,
 use Rattle.geometry.specs.Circle.{contains}
 use Rattle.geometry.specs.declared.circle.Circle.{Circle}
 use Rattle.intersections.specs.declared.points.IntersectionPoint.{IntersectionPoint}
-use Rattle.intersections.specs.Members.{circleAt}
+use Rattle.intersections.specs.Members.{circle_at}
 use Rattle.lists.specs.Some.{some, any}
 use Rattle.lists.specs.Written.{written}
 use Rattle.masks.specs.Mask.{single}
@@ -12,30 +12,30 @@ use Rattle.masks.specs.Presence.{byte}
 use Rattle.sets.specs.Sets.{is_set}
 
 -- S is the single of a head below n
-unfoldable pub isOneHead : ℕ → ℕ → Bool
+unfoldable pub is_one_head : ℕ → ℕ → Bool
 unfolding some
-isOneHead n S = some n (λ i. eqb S (single n i))
+is_one_head n S = some n (λ i. eqb S (single n i))
 
 -- S has just the adopters of a meeting point
-abbrev pub isAdoptersOf : List IntersectionPoint → ℕ → Bool
-isAdoptersOf points S = any (λ q. eqb S q.adopters) points
+abbrev pub is_adopters_of : List IntersectionPoint → ℕ → Bool
+is_adopters_of points S = any (λ q. eqb S q.adopters) points
 
 -- heads i and j are the parents of the point
 abbrev pub parents : ℕ → ℕ → IntersectionPoint → Bool
 parents i j q = (eqb q.first i && eqb q.second j) || (eqb q.first j && eqb q.second i)
 
 -- heads i and j meet: they are the parents of a meeting point
-abbrev pub meetsAt : List IntersectionPoint → ℕ → ℕ → Bool
-meetsAt points i j = any (parents i j) points
+abbrev pub meets_at : List IntersectionPoint → ℕ → ℕ → Bool
+meets_at points i j = any (parents i j) points
 
 -- head i contains head j
-abbrev pub containsAt : List Circle → ℕ → ℕ → Bool
-containsAt circles i j = contains (circleAt circles i) (circleAt circles j)
+abbrev pub contains_at : List Circle → ℕ → ℕ → Bool
+contains_at circles i j = contains (circle_at circles i) (circle_at circles j)
 
 -- The mask S is among the sets of these circles.
-abbrev pub inRegions : List Circle → List IntersectionPoint → ℕ → Bool
-inRegions circles points S = is_set (length circles) (isOneHead (length circles)) (isAdoptersOf points) (meetsAt points) (containsAt circles) S
+abbrev pub in_regions : List Circle → List IntersectionPoint → ℕ → Bool
+in_regions circles points S = is_set (length circles) (is_one_head (length circles)) (is_adopters_of points) (meets_at points) (contains_at circles) S
 
 -- The presence bytes: byte S for each mask S of the heads, and 0 beyond.
-abbrev pub setBytes : List Circle → List IntersectionPoint → List ℕ
-setBytes circles points = written (λ S. byte (inRegions circles points S)) (2 ^ length circles) (replicate 1024 0)
+abbrev pub set_bytes : List Circle → List IntersectionPoint → List ℕ
+set_bytes circles points = written (λ S. byte (in_regions circles points S)) (2 ^ length circles) (replicate 1024 0)

@@ -3,38 +3,38 @@
 use Rattle.std.specs.Prelude.{ℕ, ◌^◌, Bool, not, ◌&&◌, List, eqb, leb, ltb, get_or}
 use Rattle.std.specs.Int.Count.{ones}
 use Rattle.lists.specs.Some.{some}
-use Rattle.masks.specs.Mask.{in_set, gather, with_head, withoutHead}
-use Rattle.sets.specs.Sets.{withParts, allPairs, oneInAll, joined}
+use Rattle.masks.specs.Mask.{in_set, gather, with_head, without_head}
+use Rattle.sets.specs.Sets.{with_parts, all_pairs, one_in_all, joined}
 
 -- head j is in the mask of head i, of a list of one mask a head
-abbrev pub inMaskOf : List ℕ → ℕ → ℕ → Bool
-inMaskOf masks i j = in_set (get_or masks i 0) j
+abbrev pub in_mask_of : List ℕ → ℕ → ℕ → Bool
+in_mask_of masks i j = in_set (get_or masks i 0) j
 
 -- S is M without one of its heads
 abbrev pub part_of : ℕ → ℕ → ℕ → Bool
-part_of n M S = some n (λ i. eqb S (withoutHead n M i) && in_set M i)
+part_of n M S = some n (λ i. eqb S (without_head n M i) && in_set M i)
 
 -- S is a mask of n heads that is found, or one of three heads or more that is found without a head
 abbrev pub adopted : ℕ → (ℕ → Bool) → ℕ → Bool
-adopted n found S = ltb S (2 ^ n) && withParts n found S
+adopted n found S = ltb S (2 ^ n) && with_parts n found S
 
 -- the heads that two others or more contain
-abbrev pub twiceContained : ℕ → (ℕ → ℕ) → ℕ
-twiceContained n containing = gather n (λ i. leb 2 (ones (withoutHead n (containing i) i)))
+abbrev pub twice_contained : ℕ → (ℕ → ℕ) → ℕ
+twice_contained n containing = gather n (λ i. leb 2 (ones (without_head n (containing i) i)))
 
 module _ (n : ℕ) (found : ℕ → Bool) (overlapping containing : ℕ → ℕ) where
   -- S, got from a mask of the level below, is in the next
   abbrev pub joins : ℕ → Bool
-  joins S = not (found S) && (allPairs n overlapping S && oneInAll n containing S)
+  joins S = not (found S) && (all_pairs n overlapping S && one_in_all n containing S)
 
   -- S is M with one head more, and joins the next level
-  abbrev pub joiningOf : ℕ → ℕ → Bool
-  joiningOf M S = some n (λ i. eqb S (with_head n M i) && (not (in_set M i) && joins (with_head n M i)))
+  abbrev pub joining_of : ℕ → ℕ → Bool
+  joining_of M S = some n (λ i. eqb S (with_head n M i) && (not (in_set M i) && joins (with_head n M i)))
 
   -- S joins from a mask below m
-  abbrev pub joiningBelow : ℕ → ℕ → Bool
-  joiningBelow m S = some m (λ M. joined n found overlapping containing M && joiningOf M S)
+  abbrev pub joining_below : ℕ → ℕ → Bool
+  joining_below m S = some m (λ M. joined n found overlapping containing M && joining_of M S)
 
   -- S is a mask below m of its level
-  abbrev pub joinedBelow : ℕ → ℕ → Bool
-  joinedBelow m S = ltb S m && joined n found overlapping containing S
+  abbrev pub joined_below : ℕ → ℕ → Bool
+  joined_below m S = ltb S m && joined n found overlapping containing S

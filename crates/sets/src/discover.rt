@@ -1,8 +1,8 @@
 // Which masks are among the sets of circles (the Rust's discover_regions), as presence bytes: the byte of mask S stands at index S.
 // Rests on specs/Sets.antt and specs/Regions.antt.
 ghost use Rattle.std.specs.Prelude.{◌≡◌, take};
-ghost use Rattle.intersections.specs.Counted.{pointList};
-ghost use Rattle.sets.specs.Regions.{setBytes};
+ghost use Rattle.intersections.specs.Counted.{point_list};
+ghost use Rattle.sets.specs.Regions.{set_bytes};
 
 use crate::levels::{add_levels, containing_heads, overlapping_heads, twice_contained};
 use crate::witnessed::{add_pairs, add_points, add_singles};
@@ -12,7 +12,7 @@ use intersections::points::Intersections;
 
 // The sets of the first n_sets circles, of which these are the meeting points.
 pub fn discover_regions(circles: [Circle; 10], points: Intersections, n_sets: usize) -> [u8; 1024]
-    ensures { result ≡ setBytes (take n_sets circles) (pointList points) }
+    ensures { result ≡ set_bytes (take n_sets circles) (point_list points) }
 {
     let n = at_most_ten(n_sets);
     let mut pairs = [0u8; 1024];

@@ -1,16 +1,16 @@
-// Masks found level by level, each from one of the level below and one head more. Rests on `inLevel` of specs/Sets.antt and on specs/Steps.antt.
+// Masks found level by level, each from one of the level below and one head more. Rests on `in_level` of specs/Sets.antt and on specs/Steps.antt.
 ghost use Rattle.std.specs.Prelude.{◌≡◌, true, not, ◌&&◌, ℕ, ◌≤◌, ◌<◌, ◌^◌, get_or, replicate, take};
 ghost use Rattle.std.specs.Int.Count.{ones};
 ghost use Rattle.geometry.specs.Circle as spec;
-ghost use Rattle.masks.specs.Mask.{in_set, withoutHead, subset};
+ghost use Rattle.masks.specs.Mask.{in_set, without_head, subset};
 ghost use Rattle.masks.specs.Presence.{stands};
 ghost use Rattle.lists.specs.Some.{some};
 ghost use Rattle.lists.specs.Written.{written};
 ghost use Rattle.sets.specs.Sets as rule;
-ghost use Rattle.sets.specs.Sets.{overlapping, containing, allPairs, oneInAll};
-ghost use Rattle.sets.specs.Regions.{containsAt};
+ghost use Rattle.sets.specs.Sets.{overlapping, containing, all_pairs, one_in_all};
+ghost use Rattle.sets.specs.Regions.{contains_at};
 ghost use Rattle.sets.specs.Marked.{marked};
-ghost use Rattle.sets.specs.Steps.{inMaskOf, twiceContained, joiningOf, joinedBelow};
+ghost use Rattle.sets.specs.Steps.{in_mask_of, twice_contained, joining_of, joined_below};
 
 use crate::witnessed::add_pairs;
 use geometry::circle::Circle;
@@ -59,7 +59,7 @@ fn contains(circle: Circle, other: Circle) -> bool
 // For each head the heads that contain it.
 pub(crate) fn containing_heads(circles: [Circle; 10], n: usize) -> [usize; 10]
     requires { n ≤ 10 }
-    ensures { result ≡ written (containing n (containsAt (take n circles))) n (replicate 10 0) }
+    ensures { result ≡ written (containing n (contains_at (take n circles))) n (replicate 10 0) }
 {
     let mut heads = [0usize; 10];
     let mut k: usize = 0;
@@ -81,7 +81,7 @@ pub(crate) fn containing_heads(circles: [Circle; 10], n: usize) -> [usize; 10]
 // The heads that two others or more contain. A mask of three heads or more has one of them if one of its heads is contained in all others.
 pub(crate) fn twice_contained(containing: &[usize; 10], n: usize) -> usize
     requires { (n ≤ 10) × ((i : ℕ) → i < n → get_or containing.now i 0 < 2 ^ n) }
-    ensures { result ≡ twiceContained n (λ i. get_or containing.now i 0) }
+    ensures { result ≡ twice_contained n (λ i. get_or containing.now i 0) }
 {
     let mut mask: usize = 0;
     let mut i: usize = 0;
@@ -97,7 +97,7 @@ pub(crate) fn twice_contained(containing: &[usize; 10], n: usize) -> usize
 // Whether head i is a head of s, and the other heads of s are all in `heads`.
 fn others_in(s: usize, i: usize, heads: usize, n: usize) -> bool
     requires { (n ≤ 10) × ((s < 2 ^ n) × (i < n)) }
-    ensures { result ≡ (in_set s i && subset n (withoutHead n s i) heads) }
+    ensures { result ≡ (in_set s i && subset n (without_head n s i) heads) }
 {
     if s & 1 << i == 0 {
         return false;
@@ -109,7 +109,7 @@ fn others_in(s: usize, i: usize, heads: usize, n: usize) -> bool
 // Whether one head of s is contained in all others.
 fn one_in_all(containing: &[usize; 10], s: usize, n: usize) -> bool
     requires { (n ≤ 10) × (s < 2 ^ n) }
-    ensures { result ≡ some n (λ i. in_set s i && subset n (withoutHead n s i) (get_or containing.now i 0)) }
+    ensures { result ≡ some n (λ i. in_set s i && subset n (without_head n s i) (get_or containing.now i 0)) }
 {
     let mut i: usize = 0;
     while i < n {
@@ -132,8 +132,8 @@ fn joins(
     t: usize,
     n: usize,
 ) -> bool
-    requires { (n ≤ 10) × (s < 2 ^ n) × (t < 2 ^ n) × (3 ≤ ones t) × (twice ≡ twiceContained n (λ i. get_or containing.now i 0)) }
-    ensures { result ≡ (not (stands found.now t) && (subset n s heads && oneInAll n (λ i. get_or containing.now i 0) t)) }
+    requires { (n ≤ 10) × (s < 2 ^ n) × (t < 2 ^ n) × (3 ≤ ones t) × (twice ≡ twice_contained n (λ i. get_or containing.now i 0)) }
+    ensures { result ≡ (not (stands found.now t) && (subset n s heads && one_in_all n (λ i. get_or containing.now i 0) t)) }
 {
     if found[t] == 1 {
         return false;
@@ -158,10 +158,10 @@ fn add_joining(
     s: usize,
     n: usize,
 )
-    requires { (n ≤ 10) × (s < 2 ^ n) × (2 ≤ ones s) × (twice ≡ twiceContained n (λ i. get_or containing.now i 0))
-        × (allPairs n (λ i. get_or overlapping.now i 0) s ≡ true)
-        × ((i j : ℕ) → i < n → j < n → inMaskOf overlapping.now i j ≡ inMaskOf overlapping.now j i) }
-    ensures { level.new ≡ marked (joiningOf n (stands found.now) (λ i. get_or overlapping.now i 0)
+    requires { (n ≤ 10) × (s < 2 ^ n) × (2 ≤ ones s) × (twice ≡ twice_contained n (λ i. get_or containing.now i 0))
+        × (all_pairs n (λ i. get_or overlapping.now i 0) s ≡ true)
+        × ((i j : ℕ) → i < n → j < n → in_mask_of overlapping.now i j ≡ in_mask_of overlapping.now j i) }
+    ensures { level.new ≡ marked (joining_of n (stands found.now) (λ i. get_or overlapping.now i 0)
         (λ i. get_or containing.now i 0) s) level.old }
 {
     let mut i: usize = 0;
@@ -188,9 +188,9 @@ pub(crate) fn add_levels(
     twice: usize,
     n: usize,
 )
-    requires { (n ≤ 10) × (twice ≡ twiceContained n (λ i. get_or containing.now i 0))
+    requires { (n ≤ 10) × (twice ≡ twice_contained n (λ i. get_or containing.now i 0))
         × (overlapping.now ≡ written (rule.overlapping n (stands found.old)) n (replicate 10 0)) }
-    ensures { found.new ≡ marked (joinedBelow n (stands found.old) (λ i. get_or overlapping.now i 0)
+    ensures { found.new ≡ marked (joined_below n (stands found.old) (λ i. get_or overlapping.now i 0)
         (λ i. get_or containing.now i 0) (2 ^ n)) found.old }
 {
     let mut level = [0u8; 1024];

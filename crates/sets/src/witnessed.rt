@@ -1,17 +1,17 @@
 // Singles, adopter masks and pairs: the first masks found. Rests on specs/Regions.antt and specs/Steps.antt.
 ghost use Rattle.std.specs.Prelude.{◌≡◌, ℕ, ◌≤◌, ◌<◌, ◌^◌, eqb};
-ghost use Rattle.intersections.specs.Counted.{pointList};
+ghost use Rattle.intersections.specs.Counted.{point_list};
 ghost use Rattle.sets.specs.Marked.{marked};
-ghost use Rattle.sets.specs.Sets.{paired, pairsOf, isPair};
-ghost use Rattle.sets.specs.Regions.{isOneHead, isAdoptersOf, meetsAt};
-ghost use Rattle.sets.specs.Steps.{inMaskOf, part_of, adopted};
+ghost use Rattle.sets.specs.Sets.{paired, pairs_of, is_pair};
+ghost use Rattle.sets.specs.Regions.{is_one_head, is_adopters_of, meets_at};
+ghost use Rattle.sets.specs.Steps.{in_mask_of, part_of, adopted};
 
 use intersections::points::Intersections;
 
 // 1. Singles.
 pub(crate) fn add_singles(found: [u8; 1024], n: usize) -> [u8; 1024]
     requires { n ≤ 10 }
-    ensures { result ≡ marked (isOneHead n) found }
+    ensures { result ≡ marked (is_one_head n) found }
 {
     let mut bytes = found;
     let mut i: usize = 0;
@@ -53,8 +53,8 @@ fn add_adopters_of(found: &mut [u8; 1024], mask: usize, n: usize)
 // each head the heads that it shares a meeting point with: a copy of the points is long, so that they are read here alone.
 pub(crate) fn add_points(found: &mut [u8; 1024], points: Intersections, n: usize) -> [usize; 10]
     requires { n ≤ 10 }
-    ensures { (found.new ≡ marked (adopted n (isAdoptersOf (pointList points))) found.old)
-        × ((i j : ℕ) → i < 10 → j < 10 → inMaskOf result i j ≡ meetsAt (pointList points) i j) }
+    ensures { (found.new ≡ marked (adopted n (is_adopters_of (point_list points))) found.old)
+        × ((i j : ℕ) → i < 10 → j < 10 → in_mask_of result i j ≡ meets_at (point_list points) i j) }
 {
     let mut heads = [0usize; 10];
     let count = points.n;
@@ -82,7 +82,7 @@ pub(crate) fn add_points(found: &mut [u8; 1024], points: Intersections, n: usize
 // Whether heads i and j meet or one contains the other.
 fn is_pair(meeting: &[usize; 10], containing: &[usize; 10], i: usize, j: usize) -> bool
     requires { (i < 10) × (j < 10) }
-    ensures { result ≡ paired (inMaskOf meeting.now) (λ a b. inMaskOf containing.now b a) i j }
+    ensures { result ≡ paired (in_mask_of meeting.now) (λ a b. in_mask_of containing.now b a) i j }
 {
     if meeting[i] & 1 << j != 0 {
         return true;
@@ -103,7 +103,7 @@ fn add_pairs_of(
 )
     requires { (n ≤ 10) × (i < n) }
     ensures { found.new ≡
-        marked (pairsOf n (inMaskOf meeting.now) (λ a b. inMaskOf containing.now b a) i) found.old }
+        marked (pairs_of n (in_mask_of meeting.now) (λ a b. in_mask_of containing.now b a) i) found.old }
 {
     let mut j: usize = 0;
     while j < i {
@@ -123,7 +123,7 @@ pub(crate) fn add_pairs(
 )
     requires { n ≤ 10 }
     ensures { found.new ≡
-        marked (isPair n (inMaskOf meeting.now) (λ a b. inMaskOf containing.now b a)) found.old }
+        marked (is_pair n (in_mask_of meeting.now) (λ a b. in_mask_of containing.now b a)) found.old }
 {
     let mut i: usize = 0;
     while i < n {

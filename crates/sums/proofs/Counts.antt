@@ -16,8 +16,8 @@ rows_all n places few h =
     omega (arith, r)
 
 -- of at most ten circles no more rows are counted than they have, nor than there are places
-pub count-few : (n count places : ℕ) → n ≤ 10 → count ≡ min (rows_of n) places → (count ≤ 1024) × ((count ≤ 2 ^ n) × (count ≤ places))
-count-few n count places few e =
+pub count_few : (n count places : ℕ) → n ≤ 10 → count ≡ min (rows_of n) places → (count ≤ 1024) × ((count ≤ 2 ^ n) × (count ≤ places))
+count_few n count places few e =
     let most = pow_mono {i = n} {j = 10} few in
     let same : min n 10 ≡ n = omega arith in
     let r = ap (λ (m : ℕ). 2 ^ m) same in

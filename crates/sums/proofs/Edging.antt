@@ -7,25 +7,25 @@ use lib.ListN.{length}
 use lib.Ieee.{Float}
 use Rattle.geometry.specs.declared.bounds.Bounds.{Bounds}
 use Rattle.geometry.specs.declared.circle.Circle.{Circle}
-use Rattle.intersections.specs.Members.{headsOf, circleAt}
-use Rattle.clip.specs.Area.{addEdges}
-use Rattle.clip.specs.Gradient.{WithGradient, addEdgesWithGradient}
+use Rattle.intersections.specs.Members.{heads_of, circle_at}
+use Rattle.clip.specs.Area.{add_edges}
+use Rattle.clip.specs.Gradient.{WithGradient, add_edges_with_gradient}
 use Rattle.chords.specs.Chords.{Chorded}
 use Rattle.chords.proofs.Spanning as spans
-use Rattle.sums.specs.Edges.{edgesFrom, edgesWithGradientFrom}
+use Rattle.sums.specs.Edges.{edges_from, edges_with_gradient_from}
 
 module _ (box : Bounds) (circles : List Circle) (n S : ℕ) (reach : List ℕ) (low high : List Float)
     (many : length circles ≡ n) (few : n ≤ 10) (below : S < 2 ^ n) (held : Chorded box circles S reach low high) where
   abbrev own : List Circle
-  own = map (circleAt circles) (headsOf (length circles) S)
+  own = map (circle_at circles) (heads_of (length circles) S)
 
   -- all of the n heads count
   count : min n 10 ≡ length circles
   count = omega (arith, many, few)
 
   -- the four spans added one after another, and with a gradient
-  pub edges_are : (total : Float) → edgesFrom box (min n 10) reach low high S total ≡ addEdges box own total
-  unfolding edgesFrom addEdges
+  pub edges_are : (total : Float) → edges_from box (min n 10) reach low high S total ≡ add_edges box own total
+  unfolding edges_from add_edges
   edges_are total =
       rw (
         count,
@@ -35,9 +35,9 @@ module _ (box : Bounds) (circles : List Circle) (n S : ℕ) (reach : List ℕ) (
         spans.left box circles n S reach low high many few below held,
       )
 
-  pub edges-with-are : (s : WithGradient) → edgesWithGradientFrom box (min n 10) reach low high S s ≡ addEdgesWithGradient box own (n * 3) s
-  unfolding edgesWithGradientFrom addEdgesWithGradient
-  edges-with-are s =
+  pub edges_with_are : (s : WithGradient) → edges_with_gradient_from box (min n 10) reach low high S s ≡ add_edges_with_gradient box own (n * 3) s
+  unfolding edges_with_gradient_from add_edges_with_gradient
+  edges_with_are s =
       rw (
         count,
         spans.bottom box circles n S reach low high many few below held,

@@ -27,16 +27,16 @@ module _ {A : Type 0} {Asked : ℕ → Type 0} {f : ℕ → A} {d : A} where
       new : (i : ℕ) → i ≡ p → Asked i → get_or l i d ≡ f i
       new i e a = rw e (here (rw e at a))
 
-  pub held-put : {l : List A} {p : ℕ} (x : A) → p < length l → x ≡ f p → HeldTo Asked f d l p → HeldTo Asked f d (set l p x) (p + 1)
-  held-put {l} {p} x h e held =
+  pub held_put : {l : List A} {p : ℕ} (x : A) → p < length l → x ≡ f p → HeldTo Asked f d l p → HeldTo Asked f d (set l p x) (p + 1)
+  held_put {l} {p} x h e held =
       next (set l p x) p (λ i k a. get_or-set_other l p i x d (λ s. less i s k) ∙ held.at i k a) (λ a. get_or-set_same l p x d h ∙ e)
     where
       less : (i : ℕ) → i ≡ p → i < p → ⊥
       less i s k = omega arith
 
   -- no place up to q is asked for
-  pub held-jump : {l : List A} {p q : ℕ} → ((i : ℕ) → p ≤ i → i < q → Asked i → ⊥) → HeldTo Asked f d l p → HeldTo Asked f d l q
-  held-jump {l} {p} {q} none held = record { at = λ i h a. by i (ltb i p) refl h a }
+  pub held_jump : {l : List A} {p q : ℕ} → ((i : ℕ) → p ≤ i → i < q → Asked i → ⊥) → HeldTo Asked f d l p → HeldTo Asked f d l q
+  held_jump {l} {p} {q} none held = record { at = λ i h a. by i (ltb i p) refl h a }
     where
       by : (i : ℕ) (b : Bool) → ltb i p ≡ b → i < q → Asked i → get_or l i d ≡ f i
       by i true e h a = held.at i (ltb-true i p e) a

@@ -13,24 +13,24 @@ use lib.ListN.{length, get_or, set, take, drop, replicate, length-take, length-d
 use lib.Seq.{get_or-take, get_or-drop, ext_get_or}
 use lib.Ieee.{Float, nan}
 use Rattle.lists.specs.Written.{tab, written}
-use Rattle.lists.proofs.Writing.{written_none, length-written, written-before, write-next, written-keep, written_on}
-use Rattle.exclusive.proofs.TableRows.{byRow, row_written}
-use Rattle.clip.specs.Gradient.{WithGradient, with-gradient}
+use Rattle.lists.proofs.Writing.{written_none, length_written, written_before, write_next, written_keep, written_on}
+use Rattle.exclusive.proofs.TableRows.{by_row, row_written}
+use Rattle.clip.specs.Gradient.{WithGradient, with_gradient}
 use Rattle.sums.specs.Rows.{rows_of, number_at}
-use Rattle.sums.specs.Gradients.{rowsHeld, rowsIn, row_at, rowAfter, areasTo, rows_to}
+use Rattle.sums.specs.Gradients.{rows_held, rows_in, row_at, row_after, areas_to, rows_to}
 use Rattle.sums.proofs.Counts.{rows_all}
 
 module _ (wanted : ℕ → Bool) (row : ℕ → WithGradient) (width : ℕ) (areas gradients : List Float) (S : ℕ) where
   abbrev after : ℕ → List Float
-  after = rowAfter wanted row width gradients
+  after = row_after wanted row width gradients
 
   -- it is not wanted
-  pub area-kept : S < length areas → wanted S ≡ false → areasTo wanted row S areas ≡ areasTo wanted row (S + 1) areas
-  area-kept room none =
-      written-keep (number_at wanted (λ T. (row T).sum) areas) S areas nan room
+  pub area_kept : S < length areas → wanted S ≡ false → areas_to wanted row S areas ≡ areas_to wanted row (S + 1) areas
+  area_kept room none =
+      written_keep (number_at wanted (λ T. (row T).sum) areas) S areas nan room
       (ap (λ (b : Bool). cond b (row S).sum (get_or areas S nan)) none)
 
-  same_number : wanted S ≡ false → (r : ℕ) → r < width → byRow width nan after (S * width + r) ≡ get_or gradients (S * width + r) nan
+  same_number : wanted S ≡ false → (r : ℕ) → r < width → by_row width nan after (S * width + r) ≡ get_or gradients (S * width + r) nan
   same_number none r h =
       ap₂ (λ (q m : ℕ). get_or (after q) m nan) (digits_div S h) (digits_mod S h)
       ∙ ap (λ (b : Bool). get_or (cond b (row S).grad (row_at width gradients S)) r nan) none
@@ -40,19 +40,19 @@ module _ (wanted : ℕ → Bool) (row : ℕ → WithGradient) (width : ℕ) (are
   pub row_kept : suc S * width ≤ length gradients → wanted S ≡ false
       → rows_to wanted row width S gradients ≡ rows_to wanted row width (S + 1) gradients
   row_kept room none =
-      written_on (byRow width nan after) (S * width) ((S + 1) * width) gradients nan (omega arith) (omega (arith, room)) number
+      written_on (by_row width nan after) (S * width) ((S + 1) * width) gradients nan (omega arith) (omega (arith, room)) number
     where
-      number : (i : ℕ) → S * width ≤ i → i < (S + 1) * width → byRow width nan after i ≡ get_or gradients i nan
+      number : (i : ℕ) → S * width ≤ i → i < (S + 1) * width → by_row width nan after i ≡ get_or gradients i nan
       number i h k =
           let e : S * width + (i - S * width) ≡ i = omega arith in
-          ap (byRow width nan after) (sym e) ∙ same_number none (i - S * width) (omega arith) ∙ ap (λ (j : ℕ). get_or gradients j nan) e
+          ap (by_row width nan after) (sym e) ∙ same_number none (i - S * width) (omega arith) ∙ ap (λ (j : ℕ). get_or gradients j nan) e
 
   -- it is worked out
-  module _ {area : Float} {grad : List Float} (er : with-gradient area grad ≡ row S) (is : wanted S ≡ true) where
-    pub area-put : S < length areas → (l : List Float) → l ≡ areasTo wanted row S areas → set l S area ≡ areasTo wanted row (S + 1) areas
-    area-put room l el =
+  module _ {area : Float} {grad : List Float} (er : with_gradient area grad ≡ row S) (is : wanted S ≡ true) where
+    pub area_put : S < length areas → (l : List Float) → l ≡ areas_to wanted row S areas → set l S area ≡ areas_to wanted row (S + 1) areas
+    area_put room l el =
         ap (λ (t : List Float). set t S area) el
-        ∙ write-next (number_at wanted (λ T. (row T).sum) areas) S areas area nan room
+        ∙ write_next (number_at wanted (λ T. (row T).sum) areas) S areas area nan room
         (ap (λ (w : WithGradient). w.sum) er ∙ sym (ap (λ (b : Bool). cond b (row S).sum (get_or areas S nan)) is))
 
     -- it comes back in the place of the part that was lent
@@ -67,23 +67,23 @@ module _ (wanted : ℕ → Bool) (row : ℕ → WithGradient) (width : ℕ) (are
         own = ap (λ (w : WithGradient). w.grad) er ∙ sym (ap (λ (b : Bool). cond b (row S).grad (row_at width gradients S)) is)
 
 -- the part of a slice that is row S has width numbers
-pub part-many : (S width : ℕ) (l : List Float) → suc S * width ≤ length l
+pub part_many : (S width : ℕ) (l : List Float) → suc S * width ≤ length l
     → length (mid_of (S * width) ((S * width + width) - S * width) l) ≡ width
-part-many S width l room = mid_len (S * width) (S * width + width) l (omega (arith, room)) ∙ omega arith
+part_many S width l room = mid_len (S * width) (S * width + width) l (omega (arith, room)) ∙ omega arith
 
 -- no row yet
-pub none-laid : (wanted : ℕ → Bool) (row : ℕ → WithGradient) (width : ℕ) (areas gradients : List Float)
-    → (areas ≡ areasTo wanted row 0 areas) × (gradients ≡ rows_to wanted row width 0 gradients)
-none-laid wanted row width areas gradients =
+pub none_laid : (wanted : ℕ → Bool) (row : ℕ → WithGradient) (width : ℕ) (areas gradients : List Float)
+    → (areas ≡ areas_to wanted row 0 areas) × (gradients ≡ rows_to wanted row width 0 gradients)
+none_laid wanted row width areas gradients =
     let z : 0 ≡ 0 * width = omega arith in
-    let F = byRow width nan (rowAfter wanted row width gradients) in
+    let F = by_row width nan (row_after wanted row width gradients) in
     (written_none _ areas, written_none F gradients ∙ ap (λ (m : ℕ). written F m gradients) z)
 
 -- ---- a row read again
 
 -- row S of rows written up to m is the one that was written
 pub row_read : (width : ℕ) (row : ℕ → List Float) (m : ℕ) (l : List Float) (S : ℕ) → S < m → m * width ≤ length l → length (row S) ≡ width
-    → take width (drop (S * width) (written (byRow width nan row) (m * width) l)) ≡ row S
+    → take width (drop (S * width) (written (by_row width nan row) (m * width) l)) ≡ row S
 row_read width row m l S h room many =
     let end = mul-le-mul_right {m = suc S} {n = m} width h in
     ext_get_or nan (take width (drop (S * width) now)) (row S)
@@ -91,7 +91,7 @@ row_read width row m l S h room many =
       arith,
       length-take width (drop (S * width) now),
       length-drop (S * width) now,
-      length-written (byRow width nan row) (m * width) l room,
+      length_written (by_row width nan row) (m * width) l room,
       end,
       room,
       many,
@@ -99,58 +99,58 @@ row_read width row m l S h room many =
     (λ i k. number i (omega (arith, k, length-take width (drop (S * width) now))))
   where
     now : List Float
-    now = written (byRow width nan row) (m * width) l
+    now = written (by_row width nan row) (m * width) l
 
     number : (i : ℕ) → i < width → get_or (take width (drop (S * width) now)) i nan ≡ get_or (row S) i nan
     number i k =
         let end = mul-le-mul_right {m = suc S} {n = m} width h in
         get_or-take width (drop (S * width) now) i nan k ∙ get_or-drop (S * width) now i nan
-        ∙ written-before (byRow width nan row) (m * width) (S * width + i) l nan (omega (arith, end, k))
+        ∙ written_before (by_row width nan row) (m * width) (S * width + i) l nan (omega (arith, end, k))
         ∙ ap₂ (λ (q r : ℕ). get_or (row q) r nan) (digits_div S k) (digits_mod S k)
 
 -- ---- rows counted in two slices
 
 -- a row of some numbers: as many as they divide
-held-some : (w places : ℕ) → rowsHeld (suc w) places ≡ places / suc w
-held-some w places = ap (λ (b : Bool). cond b 1024 (places / suc w)) (eqb-suc-zero w)
+held_some : (w places : ℕ) → rows_held (suc w) places ≡ places / suc w
+held_some w places = ap (λ (b : Bool). cond b 1024 (places / suc w)) (eqb-suc-zero w)
 
-held-room : (width places count : ℕ) → count ≤ rowsHeld width places → count * width ≤ places
-held-room zero places count h = nothing count places
+held_room : (width places count : ℕ) → count ≤ rows_held width places → count * width ≤ places
+held_room zero places count h = nothing count places
   where
     nothing : (count places : ℕ) → count * 0 ≤ places
     nothing count places = omega arith
-held-room (suc w) places count h =
-    le_trans (mul-le-mul_right {m = count} {n = places / suc w} (suc w) (subst (λ (m : ℕ). count ≤ m) (held-some w places) h))
+held_room (suc w) places count h =
+    le_trans (mul-le-mul_right {m = count} {n = places / suc w} (suc w) (subst (λ (m : ℕ). count ≤ m) (held_some w places) h))
     (div-mul-le_self places (suc w))
 
 -- a counted row is one of 1024 and has its place in both
-pub rows-room : (n width : ℕ) (areas gradients : List Float) {count : ℕ} → count ≡ rowsIn n width areas gradients
+pub rows_room : (n width : ℕ) (areas gradients : List Float) {count : ℕ} → count ≡ rows_in n width areas gradients
     → (count ≤ rows_of n) × ((count ≤ length areas) × (count * width ≤ length gradients))
-rows-room n width areas gradients {count} e = (
+rows_room n width areas gradients {count} e = (
   omega (arith, e),
-  (omega (arith, e), held-room width (length gradients) count (omega (arith, e))),
+  (omega (arith, e), held_room width (length gradients) count (omega (arith, e))),
 )
 
 -- where there is room, all rows are counted
-held_all : (width places count : ℕ) → count ≤ 1024 → count * width ≤ places → count ≤ rowsHeld width places
+held_all : (width places count : ℕ) → count ≤ 1024 → count * width ≤ places → count ≤ rows_held width places
 held_all zero places count most h = most
 held_all (suc w) places count most h =
-    subst (λ (m : ℕ). count ≤ m) (sym (held-some w places)) ((le-div_iff_mul-le {k = suc w} {x = count} {y = places} (omega arith)).1 h)
+    subst (λ (m : ℕ). count ≤ m) (sym (held_some w places)) ((le-div_iff_mul-le {k = suc w} {x = count} {y = places} (omega arith)).1 h)
 
-pub rows-in-all : (n width : ℕ) (areas gradients : List Float) → n ≤ 10 → 2 ^ n ≤ length areas → 2 ^ n * width ≤ length gradients
-    → rowsIn n width areas gradients ≡ 2 ^ n
-rows-in-all n width areas gradients few ha hg =
+pub rows_in_all : (n width : ℕ) (areas gradients : List Float) → n ≤ 10 → 2 ^ n ≤ length areas → 2 ^ n * width ≤ length gradients
+    → rows_in n width areas gradients ≡ 2 ^ n
+rows_in_all n width areas gradients few ha hg =
     let most = pow_mono {i = n} {j = 10} few in
     let held = held_all width (length gradients) (2 ^ n) (omega (arith, most)) hg in
     omega (arith, rows_all n (length areas) few ha, held)
 
 -- ---- numbers all alike
 
-pub tab-alike : {A : Type 0} (x : A) (m : ℕ) → tab (λ i. x) m ≡ replicate m x
+pub tab_alike : {A : Type 0} (x : A) (m : ℕ) → tab (λ i. x) m ≡ replicate m x
 unfolding tab
-tab-alike x zero = refl
-tab-alike x (suc m) = ap (λ l. l ++ (x ∷ [])) (tab-alike x m) ∙ at-end x m
+tab_alike x zero = refl
+tab_alike x (suc m) = ap (λ l. l ++ (x ∷ [])) (tab_alike x m) ∙ at_end x m
   where
-    at-end : {A : Type 0} (x : A) (m : ℕ) → replicate m x ++ (x ∷ []) ≡ x ∷ replicate m x
-    at-end x zero = refl
-    at-end x (suc m) = ap (λ l. x ∷ l) (at-end x m)
+    at_end : {A : Type 0} (x : A) (m : ℕ) → replicate m x ++ (x ∷ []) ≡ x ∷ replicate m x
+    at_end x zero = refl
+    at_end x (suc m) = ap (λ l. x ∷ l) (at_end x m)

@@ -11,17 +11,17 @@ use lib.ListN.{length, get_or, set, length-set}
 use lib.Seq.{get_or-set_same, get_or-set_other}
 use lib.Ieee.{Float, nan}
 use Rattle.masks.specs.Mask.{in_set}
-use Rattle.lists.proofs.Writing.{tab-cong}
+use Rattle.lists.proofs.Writing.{tab_cong}
 use Rattle.geometry.specs.declared.circle.Circle.{Circle}
 use Rattle.intersections.specs.declared.points.IntersectionPoint.{IntersectionPoint}
-use Rattle.intersections.specs.Members.{circleAt}
+use Rattle.intersections.specs.Members.{circle_at}
 use Rattle.boundary.specs.Outline.{probe}
-use Rattle.boundary.proofs.Gaps.{next-below}
+use Rattle.boundary.proofs.Gaps.{next_below}
 use Rattle.boundary.proofs.Sorting.{kept_self, kept_set}
-use Rattle.boundary.specs.Marks.{mark, marksFrom, Kept}
-use Rattle.gaps.proofs.Owning.{lt-or-eq}
-use Rattle.sums.specs.Marks.{marksAt}
-use Rattle.sums.specs.Walk.{marksIn, letters, gapLetters, HeadReady, Marked}
+use Rattle.boundary.specs.Marks.{mark, marks_from, Kept}
+use Rattle.gaps.proofs.Owning.{lt_or_eq}
+use Rattle.sums.specs.Marks.{marks_at}
+use Rattle.sums.specs.Walk.{marks_in, letters, gap_letters, HeadReady, Marked}
 use Rattle.sums.specs.Filled.{Filled, Long}
 
 -- ---- place by place
@@ -37,37 +37,37 @@ module _ {A : Type 0} (at : ℕ) (f : ℕ → A) (d : A) (before : List A) where
         here = λ i k. ⊎_elim
             (λ q. get_or-set_other l (at + n) (at + i) x d (λ s. omega (arith, s, q)) ∙ g.here i q)
             (λ q. ap (λ m. get_or (set l (at + n) x) (at + m) d) q ∙ get_or-set_same l (at + n) x d h ∙ e ∙ ap f (sym q))
-            (lt-or-eq i n (rw (add-one n) at k));
+            (lt_or_eq i n (rw (add-one n) at k));
       }
 
 -- ---- head by head
 
 module _ (counts owners : List ℕ) (phi : List Float) (adopters lets : List ℕ) (l : Long counts owners phi adopters lets) (j n : ℕ) where
-  pub long-in : (o : ℕ) (phi' : List Float) (adopters' lets' : List ℕ) → Kept (j * 32) nan phi phi' → Kept (j * 32) 0 adopters adopters'
+  pub long_in : (o : ℕ) (phi' : List Float) (adopters' lets' : List ℕ) → Kept (j * 32) nan phi phi' → Kept (j * 32) 0 adopters adopters'
       → Kept (j * 32) 0 lets lets'
       → Long (set counts j n) (set owners j o) phi' adopters' lets'
-  long-in o phi' adopters' lets' kp ka kl =
+  long_in o phi' adopters' lets' kp ka kl =
       record {
-        counts-long = length-set counts j n ∙ l.counts-long;
-        owners-long = length-set owners j o ∙ l.owners-long;
-        phi-long = kp.many ∙ l.phi-long;
-        adopters-long = ka.many ∙ l.adopters-long;
-        lets-long = kl.many ∙ l.lets-long;
+        counts_long = length-set counts j n ∙ l.counts_long;
+        owners_long = length-set owners j o ∙ l.owners_long;
+        phi_long = kp.many ∙ l.phi_long;
+        adopters_long = ka.many ∙ l.adopters_long;
+        lets_long = kl.many ∙ l.lets_long;
       }
 
-  pub long-out : Long (set counts j n) owners phi adopters lets
-  long-out =
+  pub long_out : Long (set counts j n) owners phi adopters lets
+  long_out =
       record {
-        counts-long = length-set counts j n ∙ l.counts-long;
-        owners-long = l.owners-long;
-        phi-long = l.phi-long;
-        adopters-long = l.adopters-long;
-        lets-long = l.lets-long;
+        counts_long = length-set counts j n ∙ l.counts_long;
+        owners_long = l.owners_long;
+        phi_long = l.phi_long;
+        adopters_long = l.adopters_long;
+        lets_long = l.lets_long;
       }
 
-pub marked-none : (circles : List Circle) (points : List IntersectionPoint) (needed : ℕ) (counts owners : List ℕ) (phi : List Float) (adopters lets : List ℕ)
+pub marked_none : (circles : List Circle) (points : List IntersectionPoint) (needed : ℕ) (counts owners : List ℕ) (phi : List Float) (adopters lets : List ℕ)
     → Marked circles points needed 0 counts owners phi adopters lets
-marked-none circles points needed counts owners phi adopters lets =
+marked_none circles points needed counts owners phi adopters lets =
     record { ready = λ k h. absurd (omega arith); marks = λ k h. absurd (omega arith); left = λ k h. absurd (omega arith) }
 
 clash : {b : Bool} → b ≡ true → b ≡ false → ⊥
@@ -75,7 +75,7 @@ clash e i = subst T (sym e ∙ i) tt
 
 -- each head below j + 1: one below j, or j
 each_below : (P : ℕ → Type 0) (j : ℕ) → ((k : ℕ) → k < j → P k) → P j → (k : ℕ) → k < j + 1 → P k
-each_below P j old new k h = ⊎_elim (λ b. old k b) (λ e. subst P (sym e) new) (lt-or-eq k j (rw (add-one j) at h))
+each_below P j old new k h = ⊎_elim (λ b. old k b) (λ e. subst P (sym e) new) (lt_or_eq k j (rw (add-one j) at h))
 
 module _ (circles : List Circle) (points : List IntersectionPoint) (needed j : ℕ) (counts owners : List ℕ) (phi : List Float) (adopters lets : List ℕ)
     (n o : ℕ) (phi' : List Float) (adopters' lets' : List ℕ) (hc : j < length counts)
@@ -92,13 +92,13 @@ module _ (circles : List Circle) (points : List IntersectionPoint) (needed j : �
     low : (i : ℕ) → i < 32 → k * 32 + i < j * 32
     low i h = omega (arith, b, h)
 
-    old-gaps : get_or counts k 0 ≤ 32
+    old_gaps : get_or counts k 0 ≤ 32
         → ((i : ℕ) → i < get_or counts k 0
-        → get_or lets (k * 32 + i) 0 ≡ gapLetters circles k (get_or phi (k * 32 + i) nan) (get_or phi (k * 32 + (i + 1) % get_or counts k 0) nan))
+        → get_or lets (k * 32 + i) 0 ≡ gap_letters circles k (get_or phi (k * 32 + i) nan) (get_or phi (k * 32 + (i + 1) % get_or counts k 0) nan))
         → (i : ℕ) → i < get_or counts k 0
-        → get_or lets' (k * 32 + i) 0 ≡ gapLetters circles k (get_or phi' (k * 32 + i) nan) (get_or phi' (k * 32 + (i + 1) % get_or counts k 0) nan)
-    old-gaps f g i h =
-        let t = next-below i (get_or counts k 0) h in
+        → get_or lets' (k * 32 + i) 0 ≡ gap_letters circles k (get_or phi' (k * 32 + i) nan) (get_or phi' (k * 32 + (i + 1) % get_or counts k 0) nan)
+    old_gaps f g i h =
+        let t = next_below i (get_or counts k 0) h in
         rw (
           kp.low (k * 32 + i) (low i (omega arith)),
           kp.low (k * 32 + (i + 1) % get_or counts k 0) (low ((i + 1) % get_or counts k 0) (omega arith)),
@@ -106,48 +106,48 @@ module _ (circles : List Circle) (points : List IntersectionPoint) (needed j : �
         )
         (g i h)
 
-    old-ready : (owners' : List ℕ) → get_or owners' k 0 ≡ get_or owners k 0 → HeadReady circles counts owners phi lets k
+    old_ready : (owners' : List ℕ) → get_or owners' k 0 ≡ get_or owners k 0 → HeadReady circles counts owners phi lets k
         → HeadReady circles (set counts j n) owners' phi' lets' k
-    old-ready owners' eo x =
+    old_ready owners' eo x =
         record {
           few = rw count x.few;
-          gaps = rw count (old-gaps x.few x.gaps);
+          gaps = rw count (old_gaps x.few x.gaps);
           probed = eo ∙ x.probed;
         }
 
-    old-marks : get_or counts k 0 ≤ 32 → marksIn counts phi adopters k ≡ marksAt (circleAt circles k) k points
-        → marksIn (set counts j n) phi' adopters' k ≡ marksAt (circleAt circles k) k points
-    unfolding marksFrom
-    old-marks f e =
+    old_marks : get_or counts k 0 ≤ 32 → marks_in counts phi adopters k ≡ marks_at (circle_at circles k) k points
+        → marks_in (set counts j n) phi' adopters' k ≡ marks_at (circle_at circles k) k points
+    unfolding marks_from
+    old_marks f e =
         rw count
-        (tab-cong _ _ (get_or counts k 0) (λ i h. ap₂ mark (kp.low (k * 32 + i) (low i (omega arith))) (ka.low (k * 32 + i) (low i (omega arith)))) ∙ e)
+        (tab_cong _ _ (get_or counts k 0) (λ i h. ap₂ mark (kp.low (k * 32 + i) (low i (omega arith))) (ka.low (k * 32 + i) (low i (omega arith)))) ∙ e)
 
   here : get_or (set counts j n) j 0 ≡ n
   here = get_or-set_same counts j n 0 hc
 
   -- a head that is needed
-  pub marked-in : in_set needed j ≡ true → j < length owners → n ≤ 32 → marksFrom phi' adopters' (j * 32) n ≡ marksAt (circleAt circles j) j points
-      → ((i : ℕ) → i < n → get_or lets' (j * 32 + i) 0 ≡ gapLetters circles j (get_or phi' (j * 32 + i) nan) (get_or phi' (j * 32 + (i + 1) % n) nan))
-      → o ≡ letters circles j (probe (circleAt circles j))
+  pub marked_in : in_set needed j ≡ true → j < length owners → n ≤ 32 → marks_from phi' adopters' (j * 32) n ≡ marks_at (circle_at circles j) j points
+      → ((i : ℕ) → i < n → get_or lets' (j * 32 + i) 0 ≡ gap_letters circles j (get_or phi' (j * 32 + i) nan) (get_or phi' (j * 32 + (i + 1) % n) nan))
+      → o ≡ letters circles j (probe (circle_at circles j))
       → Marked circles points needed (j + 1) (set counts j n) (set owners j o) phi' adopters' lets'
-  marked-in e ho few em eg eo =
+  marked_in e ho few em eg eo =
       record {
         ready = each_below (λ k. in_set needed k ≡ true → HeadReady circles (set counts j n) (set owners j o) phi' lets' k) j
-            (λ k b i. old-ready k b (set owners j o) (get_or-set_other owners j k o 0 (other k b)) (r.ready k b i))
+            (λ k b i. old_ready k b (set owners j o) (get_or-set_other owners j k o 0 (other k b)) (r.ready k b i))
             (λ i. record { few = rw here few; gaps = rw here eg; probed = get_or-set_same owners j o 0 ho ∙ eo });
-        marks = each_below (λ k. in_set needed k ≡ true → marksIn (set counts j n) phi' adopters' k ≡ marksAt (circleAt circles k) k points) j
-            (λ k b i. old-marks k b (r.ready k b i).few (r.marks k b i)) (λ i. rw here em);
+        marks = each_below (λ k. in_set needed k ≡ true → marks_in (set counts j n) phi' adopters' k ≡ marks_at (circle_at circles k) k points) j
+            (λ k b i. old_marks k b (r.ready k b i).few (r.marks k b i)) (λ i. rw here em);
         left = each_below (λ k. in_set needed k ≡ false → get_or (set counts j n) k 0 ≡ 0) j (λ k b i. count k b ∙ r.left k b i)
             (λ i. absurd (clash e i));
       }
 
   -- one that is not
-  pub marked-out : in_set needed j ≡ false → n ≡ 0 → Marked circles points needed (j + 1) (set counts j n) owners phi' adopters' lets'
-  marked-out e en =
+  pub marked_out : in_set needed j ≡ false → n ≡ 0 → Marked circles points needed (j + 1) (set counts j n) owners phi' adopters' lets'
+  marked_out e en =
       record {
         ready = each_below (λ k. in_set needed k ≡ true → HeadReady circles (set counts j n) owners phi' lets' k) j
-            (λ k b i. old-ready k b owners refl (r.ready k b i)) (λ i. absurd (clash i e));
-        marks = each_below (λ k. in_set needed k ≡ true → marksIn (set counts j n) phi' adopters' k ≡ marksAt (circleAt circles k) k points) j
-            (λ k b i. old-marks k b (r.ready k b i).few (r.marks k b i)) (λ i. absurd (clash i e));
+            (λ k b i. old_ready k b owners refl (r.ready k b i)) (λ i. absurd (clash i e));
+        marks = each_below (λ k. in_set needed k ≡ true → marks_in (set counts j n) phi' adopters' k ≡ marks_at (circle_at circles k) k points) j
+            (λ k b i. old_marks k b (r.ready k b i).few (r.marks k b i)) (λ i. absurd (clash i e));
         left = each_below (λ k. in_set needed k ≡ false → get_or (set counts j n) k 0 ≡ 0) j (λ k b i. count k b ∙ r.left k b i) (λ i. here ∙ en);
       }

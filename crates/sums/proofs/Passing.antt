@@ -11,85 +11,85 @@ use lib.Bits.{bit_or}
 use lib.ListN.{length, get_or, take}
 use lib.Ieee.{Float, nan}
 use Rattle.lists.specs.Written.{tab, written}
-use Rattle.lists.proofs.Writing.{tab-map, tab-cong}
+use Rattle.lists.proofs.Writing.{tab_map, tab_cong}
 use Rattle.masks.specs.Mask.{in_set, Subset}
-use Rattle.masks.specs.Operations.{bit-or, bit-beyond, below-pow}
+use Rattle.masks.specs.Operations.{bit-or, bit_beyond, below_pow}
 use Rattle.masks.specs.Presence.{stands}
-use Rattle.masks.specs.Subset.{subset-head, subset-trans, or-subset-left, or-subset-right}
+use Rattle.masks.specs.Subset.{subset_head, subset_trans, or_subset_left, or_subset_right}
 use Rattle.geometry.specs.declared.bounds.Bounds.{Bounds}
 use Rattle.geometry.specs.declared.circle.Circle.{Circle}
-use Rattle.intersections.specs.Members.{noCircle}
-use Rattle.gaps.specs.Gaps.{circleIn, circlesIn}
+use Rattle.intersections.specs.Members.{no_circle}
+use Rattle.gaps.specs.Gaps.{circle_in, circles_in}
 use Rattle.sums.specs.Walk.{Ready}
 use Rattle.sums.specs.Rows.{number_at}
 use Rattle.sums.specs.Fast.{number_of, OfWanted, Worth}
 use Rattle.sums.proofs.Filling.{HeldTo}
-use Rattle.chords.proofs.Spanning.{chorded-less}
-use Rattle.sums.proofs.Valuing.{valued-less, three-less}
+use Rattle.chords.proofs.Spanning.{chorded_less}
+use Rattle.sums.proofs.Valuing.{valued_less, three_less}
 
 -- ---- three numbers a circle
 
-module _ (c : List Float) (circles : List Circle) (held : HeldTo (λ p. Unit) (λ p. number_of (get_or circles (p / 3) noCircle) (p % 3)) nan c 30) where
-  number-at : (i k : ℕ) → i < 10 → k < 3 → get_or c (i * 3 + k) nan ≡ number_of (get_or circles i noCircle) k
+module _ (c : List Float) (circles : List Circle) (held : HeldTo (λ p. Unit) (λ p. number_of (get_or circles (p / 3) no_circle) (p % 3)) nan c 30) where
+  number-at : (i k : ℕ) → i < 10 → k < 3 → get_or c (i * 3 + k) nan ≡ number_of (get_or circles i no_circle) k
   number-at i k h l =
       let e : (i * 3 + k) / 3 ≡ i = omega arith in
       let f : (i * 3 + k) % 3 ≡ k = omega arith in
       rw (e, f) at (held.at (i * 3 + k) (omega arith) tt)
 
-  circle-is : (i : ℕ) → i < 10 → circleIn c i ≡ get_or circles i noCircle
+  circle_is : (i : ℕ) → i < 10 → circle_in c i ≡ get_or circles i no_circle
   unfolding number_of
-  circle-is i h =
+  circle_is i h =
       let zero_more : i * 3 + 0 ≡ i * 3 = omega arith in
       let first = rw zero_more at (number-at i 0 h (omega arith)) in
       rw (first, number-at i 1 h (omega arith), number-at i 2 h (omega arith))
 
-  pub numbers-are : (n : ℕ) → n ≤ 10 → length circles ≡ 10 → circlesIn c n ≡ take n circles
-  unfolding circlesIn
-  numbers-are n h e =
-      tab-cong (circleIn c) (λ i. get_or circles i noCircle) n (λ i k. circle-is i (omega arith))
-      ∙ tab-map (λ q. q) circles noCircle n (omega arith) ∙ map-id (take n circles)
+  pub numbers_are : (n : ℕ) → n ≤ 10 → length circles ≡ 10 → circles_in c n ≡ take n circles
+  unfolding circles_in
+  numbers_are n h e =
+      tab_cong (circle_in c) (λ i. get_or circles i no_circle) n (λ i k. circle_is i (omega arith))
+      ∙ tab_map (λ q. q) circles no_circle n (omega arith) ∙ map-id (take n circles)
 
 -- ---- the heads of the wanted rows
 
 -- the next row too
-pub wanted-next : (wanted : List ℕ) (P : ℕ → Type 0) (m : ℕ) → OfWanted wanted m P → (stands wanted m ≡ true → P m) → OfWanted wanted (m + 1) P
-wanted-next wanted P m held here S h is =
+pub wanted_next : (wanted : List ℕ) (P : ℕ → Type 0) (m : ℕ) → OfWanted wanted m P → (stands wanted m ≡ true → P m) → OfWanted wanted (m + 1) P
+wanted_next wanted P m held here S h is =
     ⊎_elim (λ (e : S ≡ m). new S e is) (λ k. held S k is) (eq-or-lt_of_le (le_of_suc-le-suc (rw (add-one m) at h)))
   where
     new : (S : ℕ) → S ≡ m → stands wanted S ≡ true → P S
     new S e is = rw e (here (rw e at is))
 
 -- its heads are added
-pub wanted-with : (wanted : List ℕ) (heads m : ℕ) → OfWanted wanted m (λ S. Subset S heads) → OfWanted wanted (m + 1) (λ S. Subset S (bit_or heads m))
-wanted-with wanted heads m held =
-    wanted-next wanted (λ S. Subset S (bit_or heads m)) m (λ S h is. subset-trans S heads (bit_or heads m) (held S h is) (or-subset-left heads m)) (λ is. or-subset-right heads m)
+pub wanted_with : (wanted : List ℕ) (heads m : ℕ) → OfWanted wanted m (λ S. Subset S heads) → OfWanted wanted (m + 1) (λ S. Subset S (bit_or heads m))
+wanted_with wanted heads m held =
+    wanted_next wanted (λ S. Subset S (bit_or heads m)) m (λ S h is. subset_trans S heads (bit_or heads m) (held S h is) (or_subset_left heads m)) (λ is. or_subset_right heads m)
 
 -- it is not wanted
-pub wanted-without : (wanted : List ℕ) (heads m : ℕ) → stands wanted m ≡ false → OfWanted wanted m (λ S. Subset S heads) → OfWanted wanted (m + 1) (λ S. Subset S heads)
-wanted-without wanted heads m none held = wanted-next wanted (λ S. Subset S heads) m held (λ is. absurd (true≢false (sym is ∙ none)))
+pub wanted_without : (wanted : List ℕ) (heads m : ℕ) → stands wanted m ≡ false → OfWanted wanted m (λ S. Subset S heads) → OfWanted wanted (m + 1) (λ S. Subset S heads)
+wanted_without wanted heads m none held = wanted_next wanted (λ S. Subset S heads) m held (λ is. absurd (true≢false (sym is ∙ none)))
 
 -- heads below n stay so
-pub or-below : (n S T : ℕ) → S < 2 ^ n → T < 2 ^ n → bit_or S T < 2 ^ n
-or-below n S T h k = below-pow n (bit_or S T) (λ i l. omega (arith, bit-or S T i, bit-beyond n S i h l, bit-beyond n T i k l))
+pub or_below : (n S T : ℕ) → S < 2 ^ n → T < 2 ^ n → bit_or S T < 2 ^ n
+or_below n S T h k = below_pow n (bit_or S T) (λ i l. omega (arith, bit-or S T i, bit_beyond n S i h l, bit_beyond n T i k l))
 
 -- ---- what is held for more heads serves fewer
 
-pub ready-less : (circles : List Circle) (needed : ℕ) (counts owners : List ℕ) (phi : List Float) (lets : List ℕ) (S : ℕ) → Subset S needed
+pub ready_less : (circles : List Circle) (needed : ℕ) (counts owners : List ℕ) (phi : List Float) (lets : List ℕ) (S : ℕ) → Subset S needed
     → Ready circles needed counts owners phi lets → Ready circles S counts owners phi lets
-ready-less circles needed counts owners phi lets S within held j h i = held j h (subset-head S needed within j i)
+ready_less circles needed counts owners phi lets S within held j h i = held j h (subset_head S needed within j i)
 
-pub worth-less : {clipped : Bool} {box : Bounds} {circles : List Circle} {needed : ℕ} {counts : List ℕ} {phi xs ys rs : List Float} {reach : List ℕ} {low high : List Float}
+pub worth_less : {clipped : Bool} {box : Bounds} {circles : List Circle} {needed : ℕ} {counts : List ℕ} {phi xs ys rs : List Float} {reach : List ℕ} {low high : List Float}
     (S : ℕ) → Subset S needed → Worth clipped box circles needed counts phi xs ys rs reach low high → Worth clipped box circles S counts phi xs ys rs reach low high
-worth-less S within held =
+worth_less S within held =
     record {
-      integrals = λ e. valued-less S within (held.integrals e);
-      chords = λ e. chorded-less S within (held.chords e);
-      terms = λ e. three-less S within (held.terms e);
+      integrals = λ e. valued_less S within (held.integrals e);
+      chords = λ e. chorded_less S within (held.chords e);
+      terms = λ e. three_less S within (held.terms e);
     }
 
 -- ---- what is left, by equal circles and an equal count
 
-pub written-alike : (area : List Circle → ℕ → Float) (wanted : ℕ → Bool) (l : List Float) {cs cs' : List Circle} {k k' : ℕ} {r : List Float}
+pub written_alike : (area : List Circle → ℕ → Float) (wanted : ℕ → Bool) (l : List Float) {cs cs' : List Circle} {k k' : ℕ} {r : List Float}
     → r ≡ written (number_at wanted (area cs) l) k l → cs ≡ cs' → k ≡ k' → r ≡ written (number_at wanted (area cs') l) k' l
-written-alike area wanted l {cs} {cs'} {k} {k'} e ec ek =
+written_alike area wanted l {cs} {cs'} {k} {k'} e ec ek =
     e ∙ ap (λ c. written (number_at wanted (area c) l) k l) ec ∙ ap (λ (m : ℕ). written (number_at wanted (area cs') l) m l) ek

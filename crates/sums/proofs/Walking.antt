@@ -16,37 +16,37 @@ use lib.Seq.{drop-cons, take-suc-set}
 use lib.Ieee.{Float, nan}
 use lib.Pow.{pow_mono}
 use Rattle.masks.specs.Mask.{bit, in_set, subset}
-use Rattle.masks.specs.Lowest.{trailing-in, trailing_lt}
-use Rattle.masks.specs.Operations.{in-of-one, bit-beyond}
+use Rattle.masks.specs.Lowest.{trailing_in, trailing_lt}
+use Rattle.masks.specs.Operations.{in_of_one, bit_beyond}
 use Rattle.masks.specs.Size.{ones_of_zero}
-use Rattle.masks.specs.Subset.{and-test}
+use Rattle.masks.specs.Subset.{and_test}
 use Rattle.lists.specs.Every.{every_append}
 use Rattle.lists.specs.Lists.{up_to, keep}
-use Rattle.lists.proofs.Writing.{length-tab, getD-tab}
+use Rattle.lists.proofs.Writing.{length_tab, get_d_tab}
 use Rattle.geometry.specs.declared.circle.Circle.{Circle}
-use Rattle.intersections.specs.Members.{circleAt}
+use Rattle.intersections.specs.Members.{circle_at}
 use Rattle.boundary.specs.declared.arcs.BoundaryArc.{BoundaryArc}
-use Rattle.boundary.specs.Outline.{gap, between, fullCircle, probe}
-use Rattle.boundary.specs.Marks.{Mark, mark, noMark, marksFrom}
-use Rattle.gaps.specs.Gaps.{ownedIn, isArc, next_of, noArc, gapNumber}
-use Rattle.gaps.proofs.Circles.{next-is}
+use Rattle.boundary.specs.Outline.{gap, between, full_circle, probe}
+use Rattle.boundary.specs.Marks.{Mark, mark, no_mark, marks_from}
+use Rattle.gaps.specs.Gaps.{owned_in, is_arc, next_of, no_arc, gap_number}
+use Rattle.gaps.proofs.Circles.{next_is}
 use Rattle.gaps.proofs.Numbering.{by_cases}
-use Rattle.gaps.proofs.Owning.{lt-or-eq}
-use Rattle.sums.specs.Marks.{adoptedBy, anglesIn}
-use Rattle.sums.specs.Walk.{letters, gapLetters, gapIn, wholeIn, gapsIn, headIn, partIn, headsIn, arcsBy}
-use Rattle.sums.specs.Walk.{marksIn, NextIn, nextPlace, gapArc, arcAt, arcsOf, Angled, Placed, Listing}
-use Rattle.sums.proofs.Ranks.{owned-by-mask}
-use Rattle.sums.proofs.Owning.{arc-by-mask}
+use Rattle.gaps.proofs.Owning.{lt_or_eq}
+use Rattle.sums.specs.Marks.{adopted_by, angles_in}
+use Rattle.sums.specs.Walk.{letters, gap_letters, gap_in, whole_in, gaps_in, head_in, part_in, heads_in, arcs_by}
+use Rattle.sums.specs.Walk.{marks_in, NextIn, next_place, gap_arc, arc_at, arcs_of, Angled, Placed, Listing}
+use Rattle.sums.proofs.Ranks.{owned_by_mask}
+use Rattle.sums.proofs.Owning.{arc_by_mask}
 
 -- ---- the search for the next place
 
 pub next_start : (S : ℕ) (adopters : List ℕ) (at from i : ℕ) → from ≡ i → (k : ℕ) → from ≤ k → k < i → subset 64 S (get_or adopters (at + k) 0) ≡ false
 next_start S adopters at from i e k a b = absurd (omega arith)
 
-pub next-on : (S : ℕ) (adopters : List ℕ) (at from i : ℕ) → ((k : ℕ) → from ≤ k → k < i → subset 64 S (get_or adopters (at + k) 0) ≡ false)
+pub next_on : (S : ℕ) (adopters : List ℕ) (at from i : ℕ) → ((k : ℕ) → from ≤ k → k < i → subset 64 S (get_or adopters (at + k) 0) ≡ false)
     → subset 64 S (get_or adopters (at + i) 0) ≡ false → (k : ℕ) → from ≤ k → k < i + 1 → subset 64 S (get_or adopters (at + k) 0) ≡ false
-next-on S adopters at from i h e k a b =
-    ⊎_elim (λ q. h k a q) (λ q. ap (λ t. subset 64 S (get_or adopters (at + t) 0)) q ∙ e) (lt-or-eq k i (rw (add-one i) at b))
+next_on S adopters at from i h e k a b =
+    ⊎_elim (λ q. h k a q) (λ q. ap (λ t. subset 64 S (get_or adopters (at + t) 0)) q ∙ e) (lt_or_eq k i (rw (add-one i) at b))
 
 -- ---- the arc of a place
 
@@ -57,26 +57,26 @@ module _ (circles : List Circle) (counts : List ℕ) (phi : List Float) (j a : �
   index_of : (j * 32 + a) % 32 ≡ a
   index_of = omega (arith, small)
 
-  next-of : nextPlace counts (j * 32 + a) ≡ j * 32 + (a + 1) % get_or counts j 0
-  unfolding nextPlace
+  next-of : next_place counts (j * 32 + a) ≡ j * 32 + (a + 1) % get_or counts j 0
+  unfolding next_place
   next-of = rw (head_of, index_of)
 
-  gap-arc : (b : ℕ) → gapArc circles phi (j * 32 + a) b
-      ≡ between j (circleAt circles j) (get_or phi (j * 32 + a) nan) (gap (get_or phi (j * 32 + a) nan) (get_or phi b nan))
-  unfolding gapArc
+  gap-arc : (b : ℕ) → gap_arc circles phi (j * 32 + a) b
+      ≡ between j (circle_at circles j) (get_or phi (j * 32 + a) nan) (gap (get_or phi (j * 32 + a) nan) (get_or phi b nan))
+  unfolding gap_arc
   gap-arc b = rw head_of
 
-  pub neighbour-arc : j < 10
-      → arcAt circles counts phi (j * 32 + a)
-      ≡ between j (circleAt circles j) (get_or phi (j * 32 + a) nan) (gap (get_or phi (j * 32 + a) nan) (get_or phi (j * 32 + (a + 1) % get_or counts j 0) nan))
-  unfolding arcAt
-  neighbour-arc h = rw (lt-ltb (j * 32 + a) 320 (omega (arith, small, h)), next-of) (gap-arc (j * 32 + (a + 1) % get_or counts j 0))
+  pub neighbour_arc : j < 10
+      → arc_at circles counts phi (j * 32 + a)
+      ≡ between j (circle_at circles j) (get_or phi (j * 32 + a) nan) (gap (get_or phi (j * 32 + a) nan) (get_or phi (j * 32 + (a + 1) % get_or counts j 0) nan))
+  unfolding arc_at
+  neighbour_arc h = rw (lt-ltb (j * 32 + a) 320 (omega (arith, small, h)), next-of) (gap-arc (j * 32 + (a + 1) % get_or counts j 0))
 
-  pub other-arc : (b : ℕ) → j < 10 → b < 32
-      → arcAt circles counts phi (330 + (j * 32 + a) * 320 + (j * 32 + b))
-      ≡ between j (circleAt circles j) (get_or phi (j * 32 + a) nan) (gap (get_or phi (j * 32 + a) nan) (get_or phi (j * 32 + b) nan))
-  unfolding arcAt
-  other-arc b h k =
+  pub other_arc : (b : ℕ) → j < 10 → b < 32
+      → arc_at circles counts phi (330 + (j * 32 + a) * 320 + (j * 32 + b))
+      ≡ between j (circle_at circles j) (get_or phi (j * 32 + a) nan) (gap (get_or phi (j * 32 + a) nan) (get_or phi (j * 32 + b) nan))
+  unfolding arc_at
+  other_arc b h k =
       let p : ℕ = 330 + (j * 32 + a) * 320 + (j * 32 + b) in
       let from : (330 + (j * 32 + a) * 320 + (j * 32 + b) - 330) / 320 ≡ j * 32 + a = omega (arith, h, k) in
       let to : (330 + (j * 32 + a) * 320 + (j * 32 + b) - 330) % 320 ≡ j * 32 + b = omega (arith, h, k) in
@@ -91,8 +91,8 @@ module _ (circles : List Circle) (counts : List ℕ) (phi : List Float) (j a : �
         held = rw (head_of, index_of) k;
       }
 
-  pub neighbour-placed : (n S : ℕ) → n ≤ 10 → j < n → in_set S j ≡ true → a < get_or counts j 0 → Placed n S counts (j * 32 + a)
-  neighbour-placed n S m h e k =
+  pub neighbour_placed : (n S : ℕ) → n ≤ 10 → j < n → in_set S j ≡ true → a < get_or counts j 0 → Placed n S counts (j * 32 + a)
+  neighbour_placed n S m h e k =
       let less : j * 32 + a < 320 = omega (arith, m, h, small) in
       record {
         neighbours = λ _. angled n S h e k;
@@ -102,14 +102,14 @@ module _ (circles : List Circle) (counts : List ℕ) (phi : List Float) (j a : �
         same = λ g. absurd (omega (arith, less, g));
       }
 
-pub whole-arc : (circles : List Circle) (counts : List ℕ) (phi : List Float) (j : ℕ) → j < 10 → arcAt circles counts phi (320 + j)
-    ≡ fullCircle j (circleAt circles j)
-unfolding arcAt
-whole-arc circles counts phi j h =
+pub whole_arc : (circles : List Circle) (counts : List ℕ) (phi : List Float) (j : ℕ) → j < 10 → arc_at circles counts phi (320 + j)
+    ≡ full_circle j (circle_at circles j)
+unfolding arc_at
+whole_arc circles counts phi j h =
     let e : 320 + j - 320 ≡ j = omega arith in rw (le-ltb (320 + j) 320 (omega arith), lt-ltb (320 + j) 330 (omega arith), e)
 
-pub whole-placed : (counts : List ℕ) (n S j : ℕ) → n ≤ 10 → j < n → in_set S j ≡ true → Placed n S counts (320 + j)
-whole-placed counts n S j m h e =
+pub whole_placed : (counts : List ℕ) (n S j : ℕ) → n ≤ 10 → j < n → in_set S j ≡ true → Placed n S counts (320 + j)
+whole_placed counts n S j m h e =
     let same : 320 + j - 320 ≡ j = omega arith in
     record {
       neighbours = λ g. absurd (omega (arith, g));
@@ -119,9 +119,9 @@ whole-placed counts n S j m h e =
       same = λ g. absurd (omega (arith, m, h, g));
     }
 
-pub other-placed : (counts : List ℕ) (n S j a b : ℕ) → n ≤ 10 → j < n → in_set S j ≡ true → get_or counts j 0 ≤ 32 → a < get_or counts j 0 → b < get_or counts j 0
+pub other_placed : (counts : List ℕ) (n S j a b : ℕ) → n ≤ 10 → j < n → in_set S j ≡ true → get_or counts j 0 ≤ 32 → a < get_or counts j 0 → b < get_or counts j 0
     → Placed n S counts (330 + (j * 32 + a) * 320 + (j * 32 + b))
-other-placed counts n S j a b m h e few ha hb =
+other_placed counts n S j a b m h e few ha hb =
     let from : (330 + (j * 32 + a) * 320 + (j * 32 + b) - 330) / 320 ≡ j * 32 + a = omega (arith, m, h, few, hb) in
     let to : (330 + (j * 32 + a) * 320 + (j * 32 + b) - 330) % 320 ≡ j * 32 + b = omega (arith, m, h, few, hb) in
     record {
@@ -136,14 +136,14 @@ other-placed counts n S j a b m h e few ha hb =
 
 module _ (circles : List Circle) (counts : List ℕ) (phi : List Float) (n S : ℕ) (arcs : List BoundaryArc) (k : ℕ) (list : List ℕ)
     (l : Listing circles counts phi n S arcs k list) where
-  pub list-more : (p : ℕ) (arc : BoundaryArc) (more : List BoundaryArc) → k < 320 → arcAt circles counts phi p ≡ arc → Placed n S counts p → more ≡ arc ∷ []
+  pub list_more : (p : ℕ) (arc : BoundaryArc) (more : List BoundaryArc) → k < 320 → arc_at circles counts phi p ≡ arc → Placed n S counts p → more ≡ arc ∷ []
       → Listing circles counts phi n S (arcs ++ more) (k + 1) (set list k p)
-  list-more p arc more room is placed e =
+  list_more p arc more room is placed e =
       let cut : take (k + 1) (set list k p) ≡ take k list ++ (p ∷ []) = rw (add-one k) (take-suc-set list k p (omega (arith, l.long))) in
       record {
         long = length-set list k p ∙ l.long;
         said =
-            ap (map (arcAt circles counts phi)) cut ∙ map-append (arcAt circles counts phi) (take k list) (p ∷ [])
+            ap (map (arc_at circles counts phi)) cut ∙ map-append (arc_at circles counts phi) (take k list) (p ∷ [])
             ∙ ap₂ ◌++◌ l.said (ap (λ x. x ∷ []) is ∙ sym e);
         placed = rw cut (every_append (Placed n S counts) (take k list) (p ∷ []) l.placed (placed, tt));
       }
@@ -154,270 +154,270 @@ module _ (circles : List Circle) (counts : List ℕ) (phi : List Float) (n S : �
 -- ---- one gap
 
 module _ (circles : List Circle) (S j : ℕ) (a b : Float) where
-  pub gap-yes : isArc circles S j a b ≡ true → gapIn circles S j a b ≡ between j (circleAt circles j) a (gap a b) ∷ []
-  unfolding gapIn
-  gap-yes e = rw e
+  pub gap_yes : is_arc circles S j a b ≡ true → gap_in circles S j a b ≡ between j (circle_at circles j) a (gap a b) ∷ []
+  unfolding gap_in
+  gap_yes e = rw e
 
-  pub gap-no : isArc circles S j a b ≡ false → gapIn circles S j a b ≡ []
-  unfolding gapIn
-  gap-no e = rw e
+  pub gap_no : is_arc circles S j a b ≡ false → gap_in circles S j a b ≡ []
+  unfolding gap_in
+  gap_no e = rw e
 
 module _ (circles : List Circle) (counts : List ℕ) (phi : List Float) (lets : List ℕ) (n S j a b : ℕ) (arcs : List BoundaryArc) (k : ℕ) (list : List ℕ)
     (most : n ≤ 10) (many : length circles ≡ n) (head : j < n) (below : S < 2 ^ n) (in-S : in_set S j ≡ true)
     (few : get_or counts j 0 ≤ 32) (ha : a < get_or counts j 0) (hb : b < get_or counts j 0) (room : k < 320)
-    (held : get_or lets (j * 32 + a) 0 ≡ gapLetters circles j (get_or phi (j * 32 + a) nan) (get_or phi (j * 32 + (a + 1) % get_or counts j 0) nan))
+    (held : get_or lets (j * 32 + a) 0 ≡ gap_letters circles j (get_or phi (j * 32 + a) nan) (get_or phi (j * 32 + (a + 1) % get_or counts j 0) nan))
     (l : Listing circles counts phi n S arcs k list) where
-  abbrev phi-a : Float
-  phi-a = get_or phi (j * 32 + a) nan
+  abbrev phi_a : Float
+  phi_a = get_or phi (j * 32 + a) nan
 
-  abbrev phi-b : Float
-  phi-b = get_or phi (j * 32 + b) nan
+  abbrev phi_b : Float
+  phi_b = get_or phi (j * 32 + b) nan
 
   -- the number p is no arc's and the list stays, or it is put on the list
   abbrev Numbered : ℕ → Type 0
   Numbered p =
-      (p ≡ noArc → Listing circles counts phi n S (arcs ++ gapIn circles S j phi-a phi-b) k list)
-      × ((p ≡ noArc → ⊥) → Listing circles counts phi n S (arcs ++ gapIn circles S j phi-a phi-b) (k + 1) (set list k p))
+      (p ≡ no_arc → Listing circles counts phi n S (arcs ++ gap_in circles S j phi_a phi_b) k list)
+      × ((p ≡ no_arc → ⊥) → Listing circles counts phi n S (arcs ++ gap_in circles S j phi_a phi_b) (k + 1) (set list k p))
 
-  left_out : isArc circles S j phi-a phi-b ≡ false → Numbered noArc
-  left_out e = (λ _. list_same circles counts phi n S arcs k list l _ (gap-no circles S j phi-a phi-b e), λ f. absurd (f refl))
+  left_out : is_arc circles S j phi_a phi_b ≡ false → Numbered no_arc
+  left_out e = (λ _. list_same circles counts phi n S arcs k list l _ (gap_no circles S j phi_a phi_b e), λ f. absurd (f refl))
 
-  put_on : (p : ℕ) → p < noArc → arcAt circles counts phi p ≡ between j (circleAt circles j) phi-a (gap phi-a phi-b) → Placed n S counts p
-      → isArc circles S j phi-a phi-b ≡ true → Numbered p
+  put_on : (p : ℕ) → p < no_arc → arc_at circles counts phi p ≡ between j (circle_at circles j) phi_a (gap phi_a phi_b) → Placed n S counts p
+      → is_arc circles S j phi_a phi_b ≡ true → Numbered p
   put_on p h is placed e =
-      (λ f. absurd (omega (arith, f, h)), λ _. list-more circles counts phi n S arcs k list l p _ _ room is placed (gap-yes circles S j phi-a phi-b e))
+      (λ f. absurd (omega (arith, f, h)), λ _. list_more circles counts phi n S arcs k list l p _ _ room is placed (gap_yes circles S j phi_a phi_b e))
 
   -- between neighbours, by who lets the head have it
   module _ (next : b ≡ next_of a (get_or counts j 0)) where
     after : b ≡ (a + 1) % get_or counts j 0
-    after = next ∙ next-is a (get_or counts j 0) ha
+    after = next ∙ next_is a (get_or counts j 0) ha
 
-    by_mask : subset 64 S (get_or lets (j * 32 + a) 0) ≡ isArc circles S j phi-a phi-b
+    by_mask : subset 64 S (get_or lets (j * 32 + a) 0) ≡ is_arc circles S j phi_a phi_b
     by_mask =
-        sym (and-test 64 S (get_or lets (j * 32 + a) 0) (le_trans below (pow_mono {i = n} {j = 64} (omega (arith, most)))))
-        ∙ ap (λ m. eqb (bit_and S m) S) held ∙ arc-by-mask circles S j (rw many below) in-S phi-a (get_or phi (j * 32 + (a + 1) % get_or counts j 0) nan)
-        ∙ ap (λ m. isArc circles S j phi-a (get_or phi (j * 32 + m) nan)) (sym after)
+        sym (and_test 64 S (get_or lets (j * 32 + a) 0) (le_trans below (pow_mono {i = n} {j = 64} (omega (arith, most)))))
+        ∙ ap (λ m. eqb (bit_and S m) S) held ∙ arc_by_mask circles S j (rw many below) in-S phi_a (get_or phi (j * 32 + (a + 1) % get_or counts j 0) nan)
+        ∙ ap (λ m. is_arc circles S j phi_a (get_or phi (j * 32 + m) nan)) (sym after)
 
-    neighbour : (s : Bool) → subset 64 S (get_or lets (j * 32 + a) 0) ≡ s → Numbered (cond s (j * 32 + a) noArc)
+    neighbour : (s : Bool) → subset 64 S (get_or lets (j * 32 + a) 0) ≡ s → Numbered (cond s (j * 32 + a) no_arc)
     neighbour true e =
         put_on (j * 32 + a) (omega (arith, most, head, few, ha))
-        (neighbour-arc circles counts phi j a (omega (arith, few, ha)) (omega (arith, most, head))
-        ∙ ap (λ m. between j (circleAt circles j) phi-a (gap phi-a (get_or phi (j * 32 + m) nan))) (sym after))
-        (neighbour-placed circles counts phi j a (omega (arith, few, ha)) n S most head in-S ha)
+        (neighbour_arc circles counts phi j a (omega (arith, few, ha)) (omega (arith, most, head))
+        ∙ ap (λ m. between j (circle_at circles j) phi_a (gap phi_a (get_or phi (j * 32 + m) nan))) (sym after))
+        (neighbour_placed circles counts phi j a (omega (arith, few, ha)) n S most head in-S ha)
         (sym by_mask ∙ e)
     neighbour false e = left_out (sym by_mask ∙ e)
 
   -- any other, worked out
-  other : (s : Bool) → isArc circles S j phi-a phi-b ≡ s → Numbered (cond s (330 + (j * 32 + a) * 320 + (j * 32 + b)) noArc)
+  other : (s : Bool) → is_arc circles S j phi_a phi_b ≡ s → Numbered (cond s (330 + (j * 32 + a) * 320 + (j * 32 + b)) no_arc)
   other true e =
       put_on (330 + (j * 32 + a) * 320 + (j * 32 + b)) (omega (arith, most, head, few, ha, hb))
-      (other-arc circles counts phi j a (omega (arith, few, ha)) b (omega (arith, most, head)) (omega (arith, few, hb)))
-      (other-placed counts n S j a b most head in-S few ha hb)
+      (other_arc circles counts phi j a (omega (arith, few, ha)) b (omega (arith, most, head)) (omega (arith, few, hb)))
+      (other_placed counts n S j a b most head in-S few ha hb)
       e
   other false e = left_out e
 
   -- what the number says of the list
-  pub gap-listed : {p : ℕ} → p ≡ gapNumber circles phi lets S j (get_or counts j 0) a b
-      → (p ≡ noArc → Listing circles counts phi n S (arcs ++ gapIn circles S j (get_or phi (j * 32 + a) nan) (get_or phi (j * 32 + b) nan)) k list)
-      × ((p ≡ noArc → ⊥) → Listing circles counts phi n S (arcs ++ gapIn circles S j (get_or phi (j * 32 + a) nan) (get_or phi (j * 32 + b) nan)) (k + 1) (set list k p))
-  gap-listed e =
+  pub gap_listed : {p : ℕ} → p ≡ gap_number circles phi lets S j (get_or counts j 0) a b
+      → (p ≡ no_arc → Listing circles counts phi n S (arcs ++ gap_in circles S j (get_or phi (j * 32 + a) nan) (get_or phi (j * 32 + b) nan)) k list)
+      × ((p ≡ no_arc → ⊥) → Listing circles counts phi n S (arcs ++ gap_in circles S j (get_or phi (j * 32 + a) nan) (get_or phi (j * 32 + b) nan)) (k + 1) (set list k p))
+  gap_listed e =
       subst Numbered (sym e)
       (by_cases circles phi lets S j (get_or counts j 0) a b (omega (arith, many, head)) (omega (arith, few, ha)) (omega (arith, few, hb)) Numbered neighbour other)
 
 -- ---- the marks of a head that a set adopts, in arrays
 
 module _ (S : ℕ) (phi : List Float) (adopters : List ℕ) (at n : ℕ) where
-  many : length (marksFrom phi adopters at n) ≡ n
-  unfolding marksFrom
-  many = length-tab (λ i. mark (get_or phi (at + i) nan) (get_or adopters (at + i) 0)) n
+  many : length (marks_from phi adopters at n) ≡ n
+  unfolding marks_from
+  many = length_tab (λ i. mark (get_or phi (at + i) nan) (get_or adopters (at + i) 0)) n
 
-  mark-at : (i : ℕ) → i < n → get_or (marksFrom phi adopters at n) i noMark ≡ mark (get_or phi (at + i) nan) (get_or adopters (at + i) 0)
-  unfolding marksFrom
-  mark-at i h = getD-tab (λ i. mark (get_or phi (at + i) nan) (get_or adopters (at + i) 0)) n i noMark h
+  mark_at : (i : ℕ) → i < n → get_or (marks_from phi adopters at n) i no_mark ≡ mark (get_or phi (at + i) nan) (get_or adopters (at + i) 0)
+  unfolding marks_from
+  mark_at i h = get_d_tab (λ i. mark (get_or phi (at + i) nan) (get_or adopters (at + i) 0)) n i no_mark h
 
   -- the angles from place i on
-  abbrev pub anglesBeyond : ℕ → List Float
-  anglesBeyond i = anglesIn S (drop i (marksFrom phi adopters at n))
+  abbrev pub angles_beyond : ℕ → List Float
+  angles_beyond i = angles_in S (drop i (marks_from phi adopters at n))
 
-  cons-is : (i : ℕ) → i < n
-      → drop i (marksFrom phi adopters at n) ≡ mark (get_or phi (at + i) nan) (get_or adopters (at + i) 0) ∷ drop (suc i) (marksFrom phi adopters at n)
-  cons-is i h =
-      drop-cons (marksFrom phi adopters at n) i noMark (omega (arith, many))
-      ∙ ap (λ m. m ∷ drop (suc i) (marksFrom phi adopters at n)) (mark-at i h)
+  cons_is : (i : ℕ) → i < n
+      → drop i (marks_from phi adopters at n) ≡ mark (get_or phi (at + i) nan) (get_or adopters (at + i) 0) ∷ drop (suc i) (marks_from phi adopters at n)
+  cons_is i h =
+      drop-cons (marks_from phi adopters at n) i no_mark (omega (arith, many))
+      ∙ ap (λ m. m ∷ drop (suc i) (marks_from phi adopters at n)) (mark_at i h)
 
-  adopted-here : (i : ℕ) → i < n → subset 64 S (get_or adopters (at + i) 0) ≡ true → anglesBeyond i ≡ get_or phi (at + i) nan ∷ anglesBeyond (suc i)
-  unfolding anglesIn keep adoptedBy
-  adopted-here i h e = rw (cons-is i h, e)
+  adopted_here : (i : ℕ) → i < n → subset 64 S (get_or adopters (at + i) 0) ≡ true → angles_beyond i ≡ get_or phi (at + i) nan ∷ angles_beyond (suc i)
+  unfolding angles_in keep adopted_by
+  adopted_here i h e = rw (cons_is i h, e)
 
-  skipped : (i : ℕ) → i < n → subset 64 S (get_or adopters (at + i) 0) ≡ false → anglesBeyond i ≡ anglesBeyond (suc i)
-  unfolding anglesIn keep adoptedBy
-  skipped i h e = rw (cons-is i h, e)
+  skipped : (i : ℕ) → i < n → subset 64 S (get_or adopters (at + i) 0) ≡ false → angles_beyond i ≡ angles_beyond (suc i)
+  unfolding angles_in keep adopted_by
+  skipped i h e = rw (cons_is i h, e)
 
-  none_left : (i : ℕ) → n ≤ i → anglesBeyond i ≡ []
-  unfolding anglesIn keep
-  none_left i h = rw (drop_of_length-le (marksFrom phi adopters at n) (le_trans (le_of_eq many) h))
+  none_left : (i : ℕ) → n ≤ i → angles_beyond i ≡ []
+  unfolding angles_in keep
+  none_left i h = rw (drop_of_length-le (marks_from phi adopters at n) (le_trans (le_of_eq many) h))
 
-  skip-to : (k from : ℕ) → from + k ≤ n → ((i : ℕ) → from ≤ i → i < from + k → subset 64 S (get_or adopters (at + i) 0) ≡ false)
-      → anglesBeyond from ≡ anglesBeyond (from + k)
-  skip-to zero from h g = let e : from ≡ from + 0 = omega arith in ap anglesBeyond e
-  skip-to (suc k) from h g =
+  skip_to : (k from : ℕ) → from + k ≤ n → ((i : ℕ) → from ≤ i → i < from + k → subset 64 S (get_or adopters (at + i) 0) ≡ false)
+      → angles_beyond from ≡ angles_beyond (from + k)
+  skip_to zero from h g = let e : from ≡ from + 0 = omega arith in ap angles_beyond e
+  skip_to (suc k) from h g =
       let e : suc from + k ≡ from + suc k = omega arith in
       skipped from (omega arith) (g from (omega arith) (omega arith))
-      ∙ skip-to k (suc from) (omega arith) (λ i a b. g i (omega arith) (omega arith))
-      ∙ ap anglesBeyond e
+      ∙ skip_to k (suc from) (omega arith) (λ i a b. g i (omega arith) (omega arith))
+      ∙ ap angles_beyond e
 
   -- up to the next place whose point the set adopts
-  skip : (from r : ℕ) → NextIn S adopters at from n r → anglesBeyond from ≡ anglesBeyond r
+  skip : (from r : ℕ) → NextIn S adopters at from n r → angles_beyond from ≡ angles_beyond r
   skip from r x =
       let e : from + (r - from) ≡ r = omega (arith, x.past) in
-      skip-to (r - from) from (omega (arith, x.within, x.past)) (λ i a b. x.none i a (omega (arith, x.past)))
-      ∙ ap anglesBeyond e
+      skip_to (r - from) from (omega (arith, x.within, x.past)) (λ i a b. x.none i a (omega (arith, x.past)))
+      ∙ ap angles_beyond e
 
-  pub no-angle : (first : ℕ) → NextIn S adopters at 0 n first → n ≤ first → anglesIn S (marksFrom phi adopters at n) ≡ []
-  no-angle first x h = skip 0 first x ∙ none_left first h
+  pub no_angle : (first : ℕ) → NextIn S adopters at 0 n first → n ≤ first → angles_in S (marks_from phi adopters at n) ≡ []
+  no_angle first x h = skip 0 first x ∙ none_left first h
 
   -- the first angle, and any other with those after it
-  first-is : (first b : ℕ) → NextIn S adopters at 0 n first → first < n → NextIn S adopters at (first + 1) n b
-      → anglesIn S (marksFrom phi adopters at n) ≡ get_or phi (at + first) nan ∷ anglesBeyond b
-  first-is first b x h y =
-      skip 0 first x ∙ adopted-here first h (x.here h) ∙ ap (λ l. get_or phi (at + first) nan ∷ l) (skip (suc first) b (rw (add-one first) at y))
+  first_is : (first b : ℕ) → NextIn S adopters at 0 n first → first < n → NextIn S adopters at (first + 1) n b
+      → angles_in S (marks_from phi adopters at n) ≡ get_or phi (at + first) nan ∷ angles_beyond b
+  first_is first b x h y =
+      skip 0 first x ∙ adopted_here first h (x.here h) ∙ ap (λ l. get_or phi (at + first) nan ∷ l) (skip (suc first) b (rw (add-one first) at y))
 
-  next-angle : (b r : ℕ) → b < n → subset 64 S (get_or adopters (at + b) 0) ≡ true → NextIn S adopters at (b + 1) n r
-      → anglesBeyond b ≡ get_or phi (at + b) nan ∷ anglesBeyond r
-  next-angle b r h e x = adopted-here b h e ∙ ap (λ l. get_or phi (at + b) nan ∷ l) (skip (suc b) r (rw (add-one b) at x))
+  next_angle : (b r : ℕ) → b < n → subset 64 S (get_or adopters (at + b) 0) ≡ true → NextIn S adopters at (b + 1) n r
+      → angles_beyond b ≡ get_or phi (at + b) nan ∷ angles_beyond r
+  next_angle b r h e x = adopted_here b h e ∙ ap (λ l. get_or phi (at + b) nan ∷ l) (skip (suc b) r (rw (add-one b) at x))
 
 -- ---- the walk round one head
 
 module _ (circles : List Circle) (S j : ℕ) where
-  gaps-step : (first a b : Float) (rest : List Float) → gapsIn circles S j first (a ∷ (b ∷ rest)) ≡ gapIn circles S j a b ++ gapsIn circles S j first (b ∷ rest)
-  unfolding gapsIn
-  gaps-step first a b rest = refl
+  gaps_step : (first a b : Float) (rest : List Float) → gaps_in circles S j first (a ∷ (b ∷ rest)) ≡ gap_in circles S j a b ++ gaps_in circles S j first (b ∷ rest)
+  unfolding gaps_in
+  gaps_step first a b rest = refl
 
-  gaps-last : (first a : Float) → gapsIn circles S j first (a ∷ []) ≡ gapIn circles S j a first
-  unfolding gapsIn
-  gaps-last first a = refl
+  gaps_last : (first a : Float) → gaps_in circles S j first (a ∷ []) ≡ gap_in circles S j a first
+  unfolding gaps_in
+  gaps_last first a = refl
 
-  head-gaps : (a : Float) (rest : List Float) → headIn circles S j (a ∷ rest) ≡ gapsIn circles S j a (a ∷ rest)
-  unfolding headIn
-  head-gaps a rest = refl
+  head_gaps : (a : Float) (rest : List Float) → head_in circles S j (a ∷ rest) ≡ gaps_in circles S j a (a ∷ rest)
+  unfolding head_in
+  head_gaps a rest = refl
 
   -- no angle: the whole circle, by the mask m of those that let the head have its probe
-  module _ (m : ℕ) (below : S < 2 ^ length circles) (em : m ≡ letters circles j (probe (circleAt circles j))) where
-    whole_by : eqb (bit_and S m) S ≡ ownedIn circles S j (probe (circleAt circles j))
-    whole_by = ap (λ k. eqb (bit_and S k) S) em ∙ owned-by-mask circles S j (probe (circleAt circles j)) below
+  module _ (m : ℕ) (below : S < 2 ^ length circles) (em : m ≡ letters circles j (probe (circle_at circles j))) where
+    whole_by : eqb (bit_and S m) S ≡ owned_in circles S j (probe (circle_at circles j))
+    whole_by = ap (λ k. eqb (bit_and S k) S) em ∙ owned_by_mask circles S j (probe (circle_at circles j)) below
 
-    whole-yes : bit_and S m ≡ S → headIn circles S j [] ≡ fullCircle j (circleAt circles j) ∷ []
-    unfolding headIn wholeIn
-    whole-yes e = rw (sym whole_by ∙ eq-eqb (bit_and S m) S e)
+    whole_yes : bit_and S m ≡ S → head_in circles S j [] ≡ full_circle j (circle_at circles j) ∷ []
+    unfolding head_in whole_in
+    whole_yes e = rw (sym whole_by ∙ eq-eqb (bit_and S m) S e)
 
-    whole-no : (bit_and S m ≡ S → ⊥) → headIn circles S j [] ≡ []
-    unfolding headIn wholeIn
-    whole-no e = rw (sym whole_by ∙ ne_eqb (bit_and S m) S e)
+    whole_no : (bit_and S m ≡ S → ⊥) → head_in circles S j [] ≡ []
+    unfolding head_in whole_in
+    whole_no e = rw (sym whole_by ∙ ne_eqb (bit_and S m) S e)
 
 -- a list as it stands
-pub listing-self : (circles : List Circle) (counts : List ℕ) (phi : List Float) (n S : ℕ) (arcs : List BoundaryArc) (k : ℕ) (list : List ℕ)
-    → Listing circles counts phi n S arcs k list → Listing circles counts phi n S (arcsOf circles counts phi k list) k list
-listing-self circles counts phi n S arcs k list l = record { long = l.long; said = refl; placed = l.placed }
+pub listing_self : (circles : List Circle) (counts : List ℕ) (phi : List Float) (n S : ℕ) (arcs : List BoundaryArc) (k : ℕ) (list : List ℕ)
+    → Listing circles counts phi n S arcs k list → Listing circles counts phi n S (arcs_of circles counts phi k list) k list
+listing_self circles counts phi n S arcs k list l = record { long = l.long; said = refl; placed = l.placed }
 
 -- The gaps up to the angle `last` are listed, and those from it on give the rest; b is the next place that S adopts.
 pub record Round (circles : List Circle) (counts : List ℕ) (phi : List Float) (adopters : List ℕ) (n S j first : ℕ) (whole : List BoundaryArc)
     (list : List ℕ) (r last b : ℕ) : Type 0 where
   pub first_below : first < get_or counts j 0
-  pub last-below : last < get_or counts j 0
+  pub last_below : last < get_or counts j 0
   pub within : b ≤ get_or counts j 0
   pub past : last < b
   pub here : b < get_or counts j 0 → subset 64 S (get_or adopters (j * 32 + b) 0) ≡ true
   pub room : r ≤ j * 32 + last
-  pub kept : Listing circles counts phi n S (arcsOf circles counts phi r list) r list
+  pub kept : Listing circles counts phi n S (arcs_of circles counts phi r list) r list
   pub rest :
-      arcsOf circles counts phi r list
-      ++ gapsIn circles S j (get_or phi (j * 32 + first) nan) (get_or phi (j * 32 + last) nan ∷ anglesBeyond S phi adopters (j * 32) (get_or counts j 0) b)
+      arcs_of circles counts phi r list
+      ++ gaps_in circles S j (get_or phi (j * 32 + first) nan) (get_or phi (j * 32 + last) nan ∷ angles_beyond S phi adopters (j * 32) (get_or counts j 0) b)
       ≡ whole
 
 module _ (circles : List Circle) (counts : List ℕ) (phi : List Float) (adopters : List ℕ) (n S j : ℕ) where
   -- the arcs of the first k of a list and those of head j
   abbrev pub with_head : ℕ → List ℕ → List BoundaryArc
-  with_head k list = arcsOf circles counts phi k list ++ headIn circles S j (anglesIn S (marksIn counts phi adopters j))
+  with_head k list = arcs_of circles counts phi k list ++ head_in circles S j (angles_in S (marks_in counts phi adopters j))
 
   -- no angle
   module _ (first k : ℕ) (list : List ℕ) (x : NextIn S adopters (j * 32) 0 (get_or counts j 0) first) (none : get_or counts j 0 ≤ first)
-      (m : ℕ) (below : S < 2 ^ length circles) (em : m ≡ letters circles j (probe (circleAt circles j)))
-      (l : Listing circles counts phi n S (arcsOf circles counts phi k list) k list) where
-    no-angles : anglesIn S (marksIn counts phi adopters j) ≡ []
-    no-angles = no-angle S phi adopters (j * 32) (get_or counts j 0) first x none
+      (m : ℕ) (below : S < 2 ^ length circles) (em : m ≡ letters circles j (probe (circle_at circles j)))
+      (l : Listing circles counts phi n S (arcs_of circles counts phi k list) k list) where
+    no_angles : angles_in S (marks_in counts phi adopters j) ≡ []
+    no_angles = no_angle S phi adopters (j * 32) (get_or counts j 0) first x none
 
-    pub whole-listed : n ≤ 10 → j < n → in_set S j ≡ true → k < 320 → bit_and S m ≡ S
+    pub whole_listed : n ≤ 10 → j < n → in_set S j ≡ true → k < 320 → bit_and S m ≡ S
         → Listing circles counts phi n S (with_head k list) (k + 1) (set list k (320 + j))
-    whole-listed most h e room s =
-        rw no-angles
-        (list-more circles counts phi n S (arcsOf circles counts phi k list) k list l (320 + j) (fullCircle j (circleAt circles j)) (headIn circles S j []) room
-        (whole-arc circles counts phi j (omega arith))
-        (whole-placed counts n S j most h e)
-        (whole-yes circles S j m below em s))
+    whole_listed most h e room s =
+        rw no_angles
+        (list_more circles counts phi n S (arcs_of circles counts phi k list) k list l (320 + j) (full_circle j (circle_at circles j)) (head_in circles S j []) room
+        (whole_arc circles counts phi j (omega arith))
+        (whole_placed counts n S j most h e)
+        (whole_yes circles S j m below em s))
 
-    pub whole-left : (bit_and S m ≡ S → ⊥) → Listing circles counts phi n S (with_head k list) k list
-    whole-left s =
-        rw no-angles (list_same circles counts phi n S (arcsOf circles counts phi k list) k list l (headIn circles S j []) (whole-no circles S j m below em s))
+    pub whole_left : (bit_and S m ≡ S → ⊥) → Listing circles counts phi n S (with_head k list) k list
+    whole_left s =
+        rw no_angles (list_same circles counts phi n S (arcs_of circles counts phi k list) k list l (head_in circles S j []) (whole_no circles S j m below em s))
 
-  pub round-start : (first b k : ℕ) (list : List ℕ) → NextIn S adopters (j * 32) 0 (get_or counts j 0) first → first < get_or counts j 0
-      → NextIn S adopters (j * 32) (first + 1) (get_or counts j 0) b → k ≤ j * 32 → Listing circles counts phi n S (arcsOf circles counts phi k list) k list
+  pub round_start : (first b k : ℕ) (list : List ℕ) → NextIn S adopters (j * 32) 0 (get_or counts j 0) first → first < get_or counts j 0
+      → NextIn S adopters (j * 32) (first + 1) (get_or counts j 0) b → k ≤ j * 32 → Listing circles counts phi n S (arcs_of circles counts phi k list) k list
       → Round circles counts phi adopters n S j first (with_head k list) list k first b
-  round-start first b k list x h y room l =
+  round_start first b k list x h y room l =
       record {
         first_below = h;
-        last-below = h;
+        last_below = h;
         within = y.within;
         past = omega (arith, y.past);
         here = y.here;
         room = omega (arith, room);
         kept = l;
         rest =
-            ap (λ t. arcsOf circles counts phi k list ++ t)
-            (sym (ap (headIn circles S j) (first-is S phi adopters (j * 32) (get_or counts j 0) first b x h y)
-            ∙ head-gaps circles S j (get_or phi (j * 32 + first) nan) (anglesBeyond S phi adopters (j * 32) (get_or counts j 0) b)));
+            ap (λ t. arcs_of circles counts phi k list ++ t)
+            (sym (ap (head_in circles S j) (first_is S phi adopters (j * 32) (get_or counts j 0) first b x h y)
+            ∙ head_gaps circles S j (get_or phi (j * 32 + first) nan) (angles_beyond S phi adopters (j * 32) (get_or counts j 0) b)));
       }
 
   module _ (first : ℕ) (whole : List BoundaryArc) (list : List ℕ) (r last b : ℕ) (w : Round circles counts phi adopters n S j first whole list r last b) where
-    pub round-next : (list' : List ℕ) (r' b' : ℕ) → b < get_or counts j 0 → r' ≤ r + 1
-        → Listing circles counts phi n S (arcsOf circles counts phi r list ++ gapIn circles S j (get_or phi (j * 32 + last) nan) (get_or phi (j * 32 + b) nan)) r'
+    pub round_next : (list' : List ℕ) (r' b' : ℕ) → b < get_or counts j 0 → r' ≤ r + 1
+        → Listing circles counts phi n S (arcs_of circles counts phi r list ++ gap_in circles S j (get_or phi (j * 32 + last) nan) (get_or phi (j * 32 + b) nan)) r'
         list'
         → NextIn S adopters (j * 32) (b + 1) (get_or counts j 0) b'
         → Round circles counts phi adopters n S j first whole list' r' b b'
-    round-next list' r' b' h few l x =
+    round_next list' r' b' h few l x =
         let f = get_or phi (j * 32 + first) nan in
         let a = get_or phi (j * 32 + last) nan in
         let more = get_or phi (j * 32 + b) nan in
-        let rest = anglesBeyond S phi adopters (j * 32) (get_or counts j 0) b' in
+        let rest = angles_beyond S phi adopters (j * 32) (get_or counts j 0) b' in
         record {
           first_below = w.first_below;
-          last-below = h;
+          last_below = h;
           within = x.within;
           past = omega (arith, x.past);
           here = x.here;
           room = omega (arith, w.room, w.past, few);
-          kept = listing-self circles counts phi n S _ r' list' l;
+          kept = listing_self circles counts phi n S _ r' list' l;
           rest =
-              ap (λ t. t ++ gapsIn circles S j f (more ∷ rest)) l.said
-              ∙ append_assoc (arcsOf circles counts phi r list) (gapIn circles S j a more) (gapsIn circles S j f (more ∷ rest))
-              ∙ ap (λ t. arcsOf circles counts phi r list ++ t)
-              (sym (ap (λ t. gapsIn circles S j f (a ∷ t)) (next-angle S phi adopters (j * 32) (get_or counts j 0) b b' h (w.here h) x)
-              ∙ gaps-step circles S j f a more rest))
+              ap (λ t. t ++ gaps_in circles S j f (more ∷ rest)) l.said
+              ∙ append_assoc (arcs_of circles counts phi r list) (gap_in circles S j a more) (gaps_in circles S j f (more ∷ rest))
+              ∙ ap (λ t. arcs_of circles counts phi r list ++ t)
+              (sym (ap (λ t. gaps_in circles S j f (a ∷ t)) (next_angle S phi adopters (j * 32) (get_or counts j 0) b b' h (w.here h) x)
+              ∙ gaps_step circles S j f a more rest))
               ∙ w.rest;
         }
 
-    pub round-end : (list' : List ℕ) (r' : ℕ) → get_or counts j 0 ≤ b
+    pub round_end : (list' : List ℕ) (r' : ℕ) → get_or counts j 0 ≤ b
         → Listing circles counts phi n S
-        (arcsOf circles counts phi r list ++ gapIn circles S j (get_or phi (j * 32 + last) nan) (get_or phi (j * 32 + first) nan)) r' list'
+        (arcs_of circles counts phi r list ++ gap_in circles S j (get_or phi (j * 32 + last) nan) (get_or phi (j * 32 + first) nan)) r' list'
         → Listing circles counts phi n S whole r' list'
-    round-end list' r' h l =
+    round_end list' r' h l =
         record {
           long = l.long;
           said =
               l.said
-              ∙ ap (λ t. arcsOf circles counts phi r list ++ t)
-              (sym (ap (λ t. gapsIn circles S j (get_or phi (j * 32 + first) nan) (get_or phi (j * 32 + last) nan ∷ t))
+              ∙ ap (λ t. arcs_of circles counts phi r list ++ t)
+              (sym (ap (λ t. gaps_in circles S j (get_or phi (j * 32 + first) nan) (get_or phi (j * 32 + last) nan ∷ t))
               (none_left S phi adopters (j * 32) (get_or counts j 0) b h)
-              ∙ gaps-last circles S j (get_or phi (j * 32 + first) nan) (get_or phi (j * 32 + last) nan)))
+              ∙ gaps_last circles S j (get_or phi (j * 32 + first) nan) (get_or phi (j * 32 + last) nan)))
               ∙ w.rest;
           placed = l.placed;
         }
@@ -426,47 +426,47 @@ module _ (circles : List Circle) (counts : List ℕ) (phi : List Float) (adopter
 
 module _ (circles : List Circle) (counts : List ℕ) (phi : List Float) (adopters : List ℕ) (n S : ℕ) where
   abbrev marks : ℕ → List Mark
-  marks j = marksIn counts phi adopters j
+  marks j = marks_in counts phi adopters j
 
-  pub heads-none : (list : List ℕ) → length list ≡ 320 → Listing circles counts phi n S (headsIn circles (marksIn counts phi adopters) S 0) 0 list
-  unfolding headsIn up_to
-  heads-none list e = record { long = e; said = refl; placed = tt }
+  pub heads_none : (list : List ℕ) → length list ≡ 320 → Listing circles counts phi n S (heads_in circles (marks_in counts phi adopters) S 0) 0 list
+  unfolding heads_in up_to
+  heads_none list e = record { long = e; said = refl; placed = tt }
 
-  module _ (j : ℕ) (r : ℕ) (list : List ℕ) (l : Listing circles counts phi n S (headsIn circles (marksIn counts phi adopters) S j) r list) where
+  module _ (j : ℕ) (r : ℕ) (list : List ℕ) (l : Listing circles counts phi n S (heads_in circles (marks_in counts phi adopters) S j) r list) where
     pub heads-in : (r' : ℕ) (list' : List ℕ) → in_set S j ≡ true
         → Listing circles counts phi n S (with_head circles counts phi adopters n S j r list) r' list'
-        → Listing circles counts phi n S (headsIn circles (marksIn counts phi adopters) S (j + 1)) r' list'
-    unfolding headsIn up_to partIn
+        → Listing circles counts phi n S (heads_in circles (marks_in counts phi adopters) S (j + 1)) r' list'
+    unfolding heads_in up_to part_in
     heads-in r' list' e m =
         record {
           long = m.long;
-          said = m.said ∙ ap (λ t. t ++ headIn circles S j (anglesIn S (marks j))) l.said ∙ rw (add-one j, e);
+          said = m.said ∙ ap (λ t. t ++ head_in circles S j (angles_in S (marks j))) l.said ∙ rw (add-one j, e);
           placed = m.placed;
         }
 
-    pub heads-out : in_set S j ≡ false → Listing circles counts phi n S (headsIn circles (marksIn counts phi adopters) S (j + 1)) r list
-    unfolding headsIn up_to partIn
-    heads-out e =
+    pub heads_out : in_set S j ≡ false → Listing circles counts phi n S (heads_in circles (marks_in counts phi adopters) S (j + 1)) r list
+    unfolding heads_in up_to part_in
+    heads_out e =
         record {
           long = l.long;
-          said = l.said ∙ sym (append-nil (headsIn circles (marksIn counts phi adopters) S j)) ∙ rw (add-one j, e);
+          said = l.said ∙ sym (append-nil (heads_in circles (marks_in counts phi adopters) S j)) ∙ rw (add-one j, e);
           placed = l.placed;
         }
 
-  pub arcs-many : (j r : ℕ) (list : List ℕ) → (ones S ≡ 1 → ⊥) → length circles ≡ j
-      → Listing circles counts phi n S (headsIn circles (marksIn counts phi adopters) S j) r list
-      → Listing circles counts phi n S (arcsBy circles (marksIn counts phi adopters) S) r list
-  unfolding arcsBy
-  arcs-many j r list e h l = rw (ne_eqb (ones S) 1 e, h) l
+  pub arcs_many : (j r : ℕ) (list : List ℕ) → (ones S ≡ 1 → ⊥) → length circles ≡ j
+      → Listing circles counts phi n S (heads_in circles (marks_in counts phi adopters) S j) r list
+      → Listing circles counts phi n S (arcs_by circles (marks_in counts phi adopters) S) r list
+  unfolding arcs_by
+  arcs_many j r list e h l = rw (ne_eqb (ones S) 1 e, h) l
 
-  pub arcs-one : (list : List ℕ) → ones S ≡ 1 → n ≤ 10 → count_trailing_zeros 64 S < n → in_set S (count_trailing_zeros 64 S) ≡ true → length list ≡ 320
-      → Listing circles counts phi n S (arcsBy circles (marksIn counts phi adopters) S) 1 (set list 0 (320 + count_trailing_zeros 64 S))
-  unfolding arcsBy
-  arcs-one list e most h k long =
+  pub arcs_one : (list : List ℕ) → ones S ≡ 1 → n ≤ 10 → count_trailing_zeros 64 S < n → in_set S (count_trailing_zeros 64 S) ≡ true → length list ≡ 320
+      → Listing circles counts phi n S (arcs_by circles (marks_in counts phi adopters) S) 1 (set list 0 (320 + count_trailing_zeros 64 S))
+  unfolding arcs_by
+  arcs_one list e most h k long =
       rw (eq-eqb (ones S) 1 e)
-      (list-more circles counts phi n S [] 0 list (record { long = long; said = refl; placed = tt }) (320 + count_trailing_zeros 64 S) _ _ (omega arith)
-      (whole-arc circles counts phi (count_trailing_zeros 64 S) (omega arith))
-      (whole-placed counts n S (count_trailing_zeros 64 S) most h k)
+      (list_more circles counts phi n S [] 0 list (record { long = long; said = refl; placed = tt }) (320 + count_trailing_zeros 64 S) _ _ (omega arith)
+      (whole_arc circles counts phi (count_trailing_zeros 64 S) (omega arith))
+      (whole_placed counts n S (count_trailing_zeros 64 S) most h k)
       refl)
 
 -- the head of a single
@@ -482,14 +482,14 @@ module _ (n S : ℕ) (most : n ≤ 10) (below : S < 2 ^ n) (one : ones S ≡ 1) 
       go false q = let z : S ≡ 0 = omega (arith, ltb-false 0 S q) in absurd (omega (arith, ap ones z, ones_of_zero, one))
 
   there : bit S (count_trailing_zeros 64 S) ≡ 1
-  there = trailing-in 64 S (trailing_lt 64 S some wide)
+  there = trailing_in 64 S (trailing_lt 64 S some wide)
 
-  pub single-in : in_set S (count_trailing_zeros 64 S) ≡ true
-  single-in = in-of-one S (count_trailing_zeros 64 S) there
+  pub single_in : in_set S (count_trailing_zeros 64 S) ≡ true
+  single_in = in_of_one S (count_trailing_zeros 64 S) there
 
-  pub single-below : count_trailing_zeros 64 S < n
-  single-below = by (ltb (count_trailing_zeros 64 S) n) refl
+  pub single_below : count_trailing_zeros 64 S < n
+  single_below = by (ltb (count_trailing_zeros 64 S) n) refl
     where
       by : (b : Bool) → ltb (count_trailing_zeros 64 S) n ≡ b → count_trailing_zeros 64 S < n
       by true q = ltb-true (count_trailing_zeros 64 S) n q
-      by false q = absurd (omega (arith, bit-beyond n S (count_trailing_zeros 64 S) below (ltb-false (count_trailing_zeros 64 S) n q), there))
+      by false q = absurd (omega (arith, bit_beyond n S (count_trailing_zeros 64 S) below (ltb-false (count_trailing_zeros 64 S) n q), there))

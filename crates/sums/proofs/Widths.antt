@@ -6,27 +6,27 @@ use Prim.Native.Nat.{ℕ, ◌*◌}
 use lib.Dec.{ltb}
 use lib.ListN.{length, get_or, replicate, length-set, length-replicate}
 use lib.Ieee.{Float}
-use Rattle.lists.specs.Lists.{overPairs}
+use Rattle.lists.specs.Lists.{over_pairs}
 use Rattle.elementary.specs.Sine.{sine as sin, cosine as cos}
 use Rattle.binary64.specs.Constants.{zero64, half64}
 use Rattle.binary64.specs.Floats.{◌+ᶠ◌, ◌-ᶠ◌, ◌*ᶠ◌}
 use Rattle.geometry.specs.declared.bounds.Bounds.{Bounds}
 use Rattle.geometry.specs.declared.circle.Circle.{Circle}
 use Rattle.intersections.specs.declared.points.IntersectionPoint.{IntersectionPoint}
-use Rattle.intersections.specs.Members.{headsOf, circleAt, noCircle}
+use Rattle.intersections.specs.Members.{heads_of, circle_at, no_circle}
 use Rattle.boundary.specs.declared.arcs.BoundaryArc.{BoundaryArc}
-use Rattle.boundary.specs.Set.{regionArcs}
+use Rattle.boundary.specs.Set.{region_arcs}
 use Rattle.inside.specs.Breaks.{breaks}
 use Rattle.inside.specs.Parts.{summed}
-use Rattle.inside.specs.Span.{Interval, horizontalSpan, verticalSpan}
-use Rattle.outline.specs.Area.{arcSlopes, addSlopes, addGradient}
+use Rattle.inside.specs.Span.{Interval, horizontal_span, vertical_span}
+use Rattle.outline.specs.Area.{arc_slopes, add_slopes, add_gradient}
 use Rattle.clip.specs.declared.edges.Edge.{Edge}
-use Rattle.clip.specs.Area.{emptyBox}
-use Rattle.clip.specs.Gradient.{WithGradient, with-gradient, onto, clippedWithGradient}
-use Rattle.clip.specs.Gradient.{subArcWithGradient, partSlopes, addPartWithGradient, clippedArcIntegralWithGradient}
-use Rattle.clip.specs.Gradient.{addClippedArcWithGradient, addClippedArcsWithGradient}
-use Rattle.clip.specs.Gradient.{moved, edgeSlopes, addSpanWithGradient, bottomEdge, rightEdge, topEdge, leftEdge, addEdgesWithGradient}
-use Rattle.sums.specs.Gradients.{rowWith}
+use Rattle.clip.specs.Area.{empty_box}
+use Rattle.clip.specs.Gradient.{WithGradient, with_gradient, onto, clipped_with_gradient}
+use Rattle.clip.specs.Gradient.{sub_arc_with_gradient, part_slopes, add_part_with_gradient, clipped_arc_integral_with_gradient}
+use Rattle.clip.specs.Gradient.{add_clipped_arc_with_gradient, add_clipped_arcs_with_gradient}
+use Rattle.clip.specs.Gradient.{moved, edge_slopes, add_span_with_gradient, bottom_edge, right_edge, top_edge, left_edge, add_edges_with_gradient}
+use Rattle.sums.specs.Gradients.{row_with}
 
 abbrev width : WithGradient → ℕ
 width s = length s.grad
@@ -37,60 +37,60 @@ either f n true x y e e' = e
 either f n false x y e e' = e'
 
 -- one step after another, each of which keeps the width
-fold-wide : {S A : Type 0} (f : S → ℕ) (step : S → A → S) → ((s : S) (a : A) → f (step s a) ≡ f s) → (l : List A) (s : S)
+fold_wide : {S A : Type 0} (f : S → ℕ) (step : S → A → S) → ((s : S) (a : A) → f (step s a) ≡ f s) → (l : List A) (s : S)
     → f (foldl step s l) ≡ f s
-fold-wide f step keeps [] s = refl
-fold-wide f step keeps (a ∷ l) s = fold-wide f step keeps l (step s a) ∙ keeps s a
+fold_wide f step keeps [] s = refl
+fold_wide f step keeps (a ∷ l) s = fold_wide f step keeps l (step s a) ∙ keeps s a
 
 -- ---- without a box
 
-slopes : (g : List Float) (c : Circle) (arc : BoundaryArc) → length (arcSlopes g c arc) ≡ length g
-unfolding arcSlopes
+slopes : (g : List Float) (c : Circle) (arc : BoundaryArc) → length (arc_slopes g c arc) ≡ length g
+unfolding arc_slopes
 slopes g c arc = simp length-set
 
-arc-open : (cs : List Circle) (g : List Float) (arc : BoundaryArc) → length (addSlopes cs g arc) ≡ length g
-unfolding addSlopes
-arc-open cs g arc =
-    let c = get_or cs arc.circle noCircle in
-    either length (length g) (ltb arc.circle (length cs)) (arcSlopes g c arc) g (slopes g c arc) refl
+arc_open : (cs : List Circle) (g : List Float) (arc : BoundaryArc) → length (add_slopes cs g arc) ≡ length g
+unfolding add_slopes
+arc_open cs g arc =
+    let c = get_or cs arc.circle no_circle in
+    either length (length g) (ltb arc.circle (length cs)) (arc_slopes g c arc) g (slopes g c arc) refl
 
-arcs-open : (cs : List Circle) (arcs : List BoundaryArc) (g : List Float) → length (addGradient cs g arcs) ≡ length g
-arcs-open cs = fold-wide length (addSlopes cs) (arc-open cs)
+arcs_open : (cs : List Circle) (arcs : List BoundaryArc) (g : List Float) → length (add_gradient cs g arcs) ≡ length g
+arcs_open cs = fold_wide length (add_slopes cs) (arc_open cs)
 
 -- ---- in the box
 
 module _ (box : Bounds) where
   module _ (c : Circle) (off : ℕ) where
-    share : (sa ca sb cb delta : Float) (s : WithGradient) → width (subArcWithGradient c off sa ca sb cb delta s) ≡ width s
-    unfolding subArcWithGradient partSlopes
+    share : (sa ca sb cb delta : Float) (s : WithGradient) → width (sub_arc_with_gradient c off sa ca sb cb delta s) ≡ width s
+    unfolding sub_arc_with_gradient part_slopes
     share sa ca sb cb delta s = simp length-set
 
-    part : (s : WithGradient) (a b : Float) → width (addPartWithGradient box c off s a b) ≡ width s
-    unfolding addPartWithGradient
+    part : (s : WithGradient) (a b : Float) → width (add_part_with_gradient box c off s a b) ≡ width s
+    unfolding add_part_with_gradient
     part s a b =
-        either width (width s) (summed box c a b) (subArcWithGradient c off (sin a) (cos a) (sin b) (cos b) (b -ᶠ a) s) s
+        either width (width s) (summed box c a b) (sub_arc_with_gradient c off (sin a) (cos a) (sin b) (cos b) (b -ᶠ a) s) s
         (share (sin a) (cos a) (sin b) (cos b) (b -ᶠ a) s) refl
 
-    parts : (l : List Float) (s : WithGradient) → width (overPairs (addPartWithGradient box c off) s l) ≡ width s
-    unfolding overPairs
+    parts : (l : List Float) (s : WithGradient) → width (over_pairs (add_part_with_gradient box c off) s l) ≡ width s
+    unfolding over_pairs
     parts [] s = refl
     parts (a ∷ []) s = refl
-    parts (a ∷ (b ∷ l)) s = parts (b ∷ l) (addPartWithGradient box c off s a b) ∙ part s a b
+    parts (a ∷ (b ∷ l)) s = parts (b ∷ l) (add_part_with_gradient box c off s a b) ∙ part s a b
 
-  arc-whole : (c : Circle) (arc : BoundaryArc) (g : List Float) → width (clippedArcIntegralWithGradient box c arc g) ≡ length g
-  unfolding clippedArcIntegralWithGradient
-  arc-whole c arc g = parts c (arc.circle * 3) (breaks box c arc) (with-gradient zero64 g)
+  arc_whole : (c : Circle) (arc : BoundaryArc) (g : List Float) → width (clipped_arc_integral_with_gradient box c arc g) ≡ length g
+  unfolding clipped_arc_integral_with_gradient
+  arc_whole c arc g = parts c (arc.circle * 3) (breaks box c arc) (with_gradient zero64 g)
 
   module _ (cs : List Circle) where
-    arc-clipped : (s : WithGradient) (arc : BoundaryArc) → width (addClippedArcWithGradient box cs s arc) ≡ width s
-    unfolding addClippedArcWithGradient
-    arc-clipped s arc =
-        let c = get_or cs arc.circle noCircle in
-        either width (width s) (ltb arc.circle (length cs)) (onto s.sum (clippedArcIntegralWithGradient box c arc s.grad)) s
-        (arc-whole c arc s.grad) refl
+    arc_clipped : (s : WithGradient) (arc : BoundaryArc) → width (add_clipped_arc_with_gradient box cs s arc) ≡ width s
+    unfolding add_clipped_arc_with_gradient
+    arc_clipped s arc =
+        let c = get_or cs arc.circle no_circle in
+        either width (width s) (ltb arc.circle (length cs)) (onto s.sum (clipped_arc_integral_with_gradient box c arc s.grad)) s
+        (arc_whole c arc s.grad) refl
 
-    arcs-clipped : (arcs : List BoundaryArc) (s : WithGradient) → width (addClippedArcsWithGradient box cs s arcs) ≡ width s
-    arcs-clipped = fold-wide width (addClippedArcWithGradient box cs) arc-clipped
+    arcs_clipped : (arcs : List BoundaryArc) (s : WithGradient) → width (add_clipped_arcs_with_gradient box cs s arcs) ≡ width s
+    arcs_clipped = fold_wide width (add_clipped_arc_with_gradient box cs) arc_clipped
 
 -- ---- edges
 
@@ -98,45 +98,45 @@ shifted : (b : Bool) (g : List Float) (i : ℕ) (x : Float) → length (moved b 
 shifted true g i x = length-set g i _
 shifted false g i x = length-set g i _
 
-edge : (e : Edge) (at : ℕ) (l : Float) (g : List Float) → length (edgeSlopes e at l g) ≡ length g
-unfolding edgeSlopes
+edge : (e : Edge) (at : ℕ) (l : Float) (g : List Float) → length (edge_slopes e at l g) ≡ length g
+unfolding edge_slopes
 edge e at l g = simp (shifted, length-set)
 
-span : (e : Edge) (at : ℕ) (l : List Interval) (s : WithGradient) → width (addSpanWithGradient e at s l) ≡ width s
-unfolding addSpanWithGradient
+span : (e : Edge) (at : ℕ) (l : List Interval) (s : WithGradient) → width (add_span_with_gradient e at s l) ≡ width s
+unfolding add_span_with_gradient
 span e at [] s = refl
 span e at (i ∷ rest) s =
     let l = i.high -ᶠ i.low in
-    span e at rest (with-gradient (s.sum +ᶠ e.factor *ᶠ l) (edgeSlopes e at l s.grad)) ∙ edge e at l s.grad
+    span e at rest (with_gradient (s.sum +ᶠ e.factor *ᶠ l) (edge_slopes e at l s.grad)) ∙ edge e at l s.grad
 
-edges : (box : Bounds) (cs : List Circle) (at : ℕ) (s : WithGradient) → width (addEdgesWithGradient box cs at s) ≡ width s
-unfolding addEdgesWithGradient
+edges : (box : Bounds) (cs : List Circle) (at : ℕ) (s : WithGradient) → width (add_edges_with_gradient box cs at s) ≡ width s
+unfolding add_edges_with_gradient
 edges box cs at s =
-    let bottom = horizontalSpan box.y_min box.x_min box.x_max cs in
-    let right = verticalSpan box.x_max box.y_min box.y_max cs in
-    let top = horizontalSpan box.y_max box.x_min box.x_max cs in
-    let left = verticalSpan box.x_min box.y_min box.y_max cs in
-    let with-bottom = addSpanWithGradient (bottomEdge box) at s bottom in
-    let with-right = addSpanWithGradient (rightEdge box) at with-bottom right in
-    let with-top = addSpanWithGradient (topEdge box) at with-right top in
-    span (leftEdge box) at left with-top ∙ span (topEdge box) at top with-right ∙ span (rightEdge box) at right with-bottom
-    ∙ span (bottomEdge box) at bottom s
+    let bottom = horizontal_span box.y_min box.x_min box.x_max cs in
+    let right = vertical_span box.x_max box.y_min box.y_max cs in
+    let top = horizontal_span box.y_max box.x_min box.x_max cs in
+    let left = vertical_span box.x_min box.y_min box.y_max cs in
+    let with_bottom = add_span_with_gradient (bottom_edge box) at s bottom in
+    let with_right = add_span_with_gradient (right_edge box) at with_bottom right in
+    let with_top = add_span_with_gradient (top_edge box) at with_right top in
+    span (left_edge box) at left with_top ∙ span (top_edge box) at top with_right ∙ span (right_edge box) at right with_bottom
+    ∙ span (bottom_edge box) at bottom s
 
 -- ---- a row
 
 clipped-width : (box : Bounds) (all own : List Circle) (arcs : List BoundaryArc) (g : List Float)
-    → width (clippedWithGradient box all own arcs g) ≡ length g
-unfolding clippedWithGradient
+    → width (clipped_with_gradient box all own arcs g) ≡ length g
+unfolding clipped_with_gradient
 clipped-width box all own arcs g =
-    let t = addClippedArcsWithGradient box all (with-gradient zero64 g) arcs in
-    let s = addEdgesWithGradient box own (length all * 3) t in
-    either width (length g) (emptyBox box) (with-gradient zero64 g) (with-gradient (half64 *ᶠ s.sum) s.grad) refl
-    (edges box own (length all * 3) t ∙ arcs-clipped box all arcs (with-gradient zero64 g))
+    let t = add_clipped_arcs_with_gradient box all (with_gradient zero64 g) arcs in
+    let s = add_edges_with_gradient box own (length all * 3) t in
+    either width (length g) (empty_box box) (with_gradient zero64 g) (with_gradient (half64 *ᶠ s.sum) s.grad) refl
+    (edges box own (length all * 3) t ∙ arcs_clipped box all arcs (with_gradient zero64 g))
 
 pub row-width : (clipped : Bool) (box : Bounds) (circles : List Circle) (points : List IntersectionPoint) (n S : ℕ)
-    → length (rowWith clipped box circles points n S).grad ≡ n
+    → length (row_with clipped box circles points n S).grad ≡ n
 row-width true box circles points n S =
-    let own = map (circleAt circles) (headsOf (length circles) S) in
-    clipped-width box circles own (regionArcs circles points S) (replicate n zero64) ∙ length-replicate n zero64
+    let own = map (circle_at circles) (heads_of (length circles) S) in
+    clipped-width box circles own (region_arcs circles points S) (replicate n zero64) ∙ length-replicate n zero64
 row-width false box circles points n S =
-    arcs-open circles (regionArcs circles points S) (replicate n zero64) ∙ length-replicate n zero64
+    arcs_open circles (region_arcs circles points S) (replicate n zero64) ∙ length-replicate n zero64

@@ -3,9 +3,9 @@ use Rattle.std.specs.Prelude.{ℕ, ◌/◌, ◌%◌, ◌<◌, ◌≡◌, Bool, t
 use Rattle.masks.specs.Presence.{stands}
 use Rattle.geometry.specs.declared.bounds.Bounds.{Bounds}
 use Rattle.geometry.specs.declared.circle.Circle.{Circle}
-use Rattle.inside.specs.Parts.{clippedArcIntegral}
+use Rattle.inside.specs.Parts.{clipped_arc_integral}
 use Rattle.chords.specs.Chords.{Chorded}
-use Rattle.sums.specs.Values.{termOf, Valued, TermsValued}
+use Rattle.sums.specs.Values.{term_of, Valued, TermsValued}
 use Rattle.sums.specs.Walk.{Ready}
 
 -- the centre and the radius of a circle, by number
@@ -19,7 +19,7 @@ OfWanted wanted count P = (S : ℕ) → S < count → stands wanted S ≡ true �
 -- what the arcs of the heads of S add, in the box with the chords of these heads
 pub record Worth (clipped : Bool) (box : Bounds) (circles : List Circle) (S : ℕ) (counts : List ℕ) (phi xs ys rs : List Float) (reach : List ℕ) (low high : List Float)
     : Type 0 where
-  pub integrals : clipped ≡ true → Valued S counts (termOf (clippedArcIntegral box) circles counts phi) xs
+  pub integrals : clipped ≡ true → Valued S counts (term_of (clipped_arc_integral box) circles counts phi) xs
   pub chords : clipped ≡ true → Chorded box circles S reach low high
   pub terms : clipped ≡ false → TermsValued S circles counts phi xs ys rs
 

@@ -9,8 +9,8 @@ pub record Filled {A : Type 0} (at n : ℕ) (f : ℕ → A) (d : A) (before afte
 
 -- ten heads, and 32 places each
 pub record Long (counts owners : List ℕ) (phi : List Float) (adopters lets : List ℕ) : Type 0 where
-  pub counts-long : length counts ≡ 10
-  pub owners-long : length owners ≡ 10
-  pub phi-long : length phi ≡ 320
-  pub adopters-long : length adopters ≡ 320
-  pub lets-long : length lets ≡ 320
+  pub counts_long : length counts ≡ 10
+  pub owners_long : length owners ≡ 10
+  pub phi_long : length phi ≡ 320
+  pub adopters_long : length adopters ≡ 320
+  pub lets_long : length lets ≡ 320

@@ -5,12 +5,12 @@ use Rattle.lists.specs.Written.{written}
 use Rattle.binary64.specs.Constants.{zero64}
 use Rattle.geometry.specs.declared.bounds.Bounds.{Bounds}
 use Rattle.geometry.specs.declared.circle.Circle.{Circle}
-use Rattle.exclusive.proofs.TableRows.{byRow}
+use Rattle.exclusive.proofs.TableRows.{by_row}
 use Rattle.intersections.specs.declared.points.IntersectionPoint.{IntersectionPoint}
-use Rattle.intersections.specs.Members.{headsOf, circleAt}
-use Rattle.boundary.specs.Set.{regionArcs}
-use Rattle.outline.specs.Area.{areaOf, addGradient}
-use Rattle.clip.specs.Gradient.{WithGradient, with-gradient, clippedWithGradient}
+use Rattle.intersections.specs.Members.{heads_of, circle_at}
+use Rattle.boundary.specs.Set.{region_arcs}
+use Rattle.outline.specs.Area.{area_of, add_gradient}
+use Rattle.clip.specs.Gradient.{WithGradient, with_gradient, clipped_with_gradient}
 use Rattle.chords.specs.Chords.{Chorded}
 use Rattle.sums.specs.Rows.{rows_of, number_at}
 use Rattle.sums.specs.Values.{TermsValued}
@@ -18,43 +18,43 @@ use Rattle.sums.specs.Slopes.{SlopesValued, PartsValued}
 use Rattle.sums.specs.Walk.{Ready}
 
 -- the area of S as it comes with its gradient by head, which is added to one: without a box, in it, and either
-abbrev pub openOnto : List Circle → List IntersectionPoint → ℕ → List Float → WithGradient
-openOnto circles points S g = with-gradient (areaOf circles (regionArcs circles points S)) (addGradient circles g (regionArcs circles points S))
+abbrev pub open_onto : List Circle → List IntersectionPoint → ℕ → List Float → WithGradient
+open_onto circles points S g = with_gradient (area_of circles (region_arcs circles points S)) (add_gradient circles g (region_arcs circles points S))
 
-abbrev pub clippedOnto : Bounds → List Circle → List IntersectionPoint → ℕ → List Float → WithGradient
-clippedOnto box circles points S g = clippedWithGradient box circles (map (circleAt circles) (headsOf (length circles) S)) (regionArcs circles points S) g
+abbrev pub clipped_onto : Bounds → List Circle → List IntersectionPoint → ℕ → List Float → WithGradient
+clipped_onto box circles points S g = clipped_with_gradient box circles (map (circle_at circles) (heads_of (length circles) S)) (region_arcs circles points S) g
 
-abbrev pub setOnto : Bool → Bounds → List Circle → List IntersectionPoint → ℕ → List Float → WithGradient
-setOnto clipped box circles points S g = cond clipped (clippedOnto box circles points S g) (openOnto circles points S g)
+abbrev pub set_onto : Bool → Bounds → List Circle → List IntersectionPoint → ℕ → List Float → WithGradient
+set_onto clipped box circles points S g = cond clipped (clipped_onto box circles points S g) (open_onto circles points S g)
 
 -- onto a row of +0
-abbrev pub rowWith : Bool → Bounds → List Circle → List IntersectionPoint → ℕ → ℕ → WithGradient
-rowWith clipped box circles points width S = setOnto clipped box circles points S (replicate width zero64)
+abbrev pub row_with : Bool → Bounds → List Circle → List IntersectionPoint → ℕ → ℕ → WithGradient
+row_with clipped box circles points width S = set_onto clipped box circles points S (replicate width zero64)
 
 -- ---- written in place
 
 -- how many rows of so many numbers have a place
-abbrev pub rowsHeld : ℕ → ℕ → ℕ
-rowsHeld width places = cond (eqb width 0) 1024 (places / width)
+abbrev pub rows_held : ℕ → ℕ → ℕ
+rows_held width places = cond (eqb width 0) 1024 (places / width)
 
 -- how many rows of n circles have a place in both slices
-abbrev pub rowsIn : ℕ → ℕ → List Float → List Float → ℕ
-rowsIn n width areas gradients = min (min (rows_of n) (length areas)) (rowsHeld width (length gradients))
+abbrev pub rows_in : ℕ → ℕ → List Float → List Float → ℕ
+rows_in n width areas gradients = min (min (rows_of n) (length areas)) (rows_held width (length gradients))
 
 -- row S as it stands
 abbrev pub row_at : ℕ → List Float → ℕ → List Float
 row_at width numbers S = take width (drop (S * width) numbers)
 
 -- row S after the pass: worked out where it is wanted, else the one that stood there
-abbrev pub rowAfter : (ℕ → Bool) → (ℕ → WithGradient) → ℕ → List Float → ℕ → List Float
-rowAfter wanted row width numbers S = cond (wanted S) (row S).grad (row_at width numbers S)
+abbrev pub row_after : (ℕ → Bool) → (ℕ → WithGradient) → ℕ → List Float → ℕ → List Float
+row_after wanted row width numbers S = cond (wanted S) (row S).grad (row_at width numbers S)
 
 -- the first so many rows; what stands beyond stays
-abbrev pub areasTo : (ℕ → Bool) → (ℕ → WithGradient) → ℕ → List Float → List Float
-areasTo wanted row count areas = written (number_at wanted (λ S. (row S).sum) areas) count areas
+abbrev pub areas_to : (ℕ → Bool) → (ℕ → WithGradient) → ℕ → List Float → List Float
+areas_to wanted row count areas = written (number_at wanted (λ S. (row S).sum) areas) count areas
 
 abbrev pub rows_to : (ℕ → Bool) → (ℕ → WithGradient) → ℕ → ℕ → List Float → List Float
-rows_to wanted row width count gradients = written (byRow width nan (rowAfter wanted row width gradients)) (count * width) gradients
+rows_to wanted row width count gradients = written (by_row width nan (row_after wanted row width gradients)) (count * width) gradients
 
 -- ---- what is worked out once for all rows
 

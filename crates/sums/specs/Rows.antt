@@ -4,12 +4,12 @@ use Rattle.std.specs.Float.{nan}
 use Rattle.lists.specs.Written.{written}
 use Rattle.geometry.specs.declared.bounds.Bounds.{Bounds}
 use Rattle.intersections.specs.Members.{Member}
-use Rattle.outline.specs.Area.{openArea}
-use Rattle.clip.specs.Area.{clippedArea}
+use Rattle.outline.specs.Area.{open_area}
+use Rattle.clip.specs.Area.{clipped_area}
 
 -- the area of a set's members, in the box or without it
-abbrev pub areaOf : Bool → Bounds → List Member → Float
-areaOf clipped box ms = cond clipped (clippedArea box ms) (openArea ms)
+abbrev pub area_of : Bool → Bounds → List Member → Float
+area_of clipped box ms = cond clipped (clipped_area box ms) (open_area ms)
 
 -- how many rows n circles have: of more than ten the first ten count
 abbrev pub rows_of : ℕ → ℕ
@@ -20,5 +20,5 @@ abbrev pub number_at : (ℕ → Bool) → (ℕ → Float) → List Float → ℕ
 number_at wanted area numbers S = cond (wanted S) (area S) (get_or numbers S nan)
 
 -- all rows for which the slice has a place; what stands beyond stays
-abbrev pub areasWritten : ℕ → (ℕ → Bool) → (ℕ → Float) → List Float → List Float
-areasWritten n wanted area numbers = written (number_at wanted area numbers) (min (rows_of n) (length numbers)) numbers
+abbrev pub areas_written : ℕ → (ℕ → Bool) → (ℕ → Float) → List Float → List Float
+areas_written n wanted area numbers = written (number_at wanted area numbers) (min (rows_of n) (length numbers)) numbers

@@ -6,11 +6,11 @@ use Rattle.masks.specs.Mask.{in_set}
 use Rattle.binary64.specs.Floats.{◌+ᶠ◌}
 use Rattle.geometry.specs.declared.circle.Circle.{Circle}
 use Rattle.intersections.specs.declared.points.IntersectionPoint.{IntersectionPoint}
-use Rattle.intersections.specs.Members.{circleAt}
+use Rattle.intersections.specs.Members.{circle_at}
 use Rattle.boundary.specs.declared.arcs.BoundaryArc.{BoundaryArc}
-use Rattle.outline.specs.Terms.{termX, termY, termR}
-use Rattle.sums.specs.Marks.{marksAt}
-use Rattle.sums.specs.Walk.{marksIn, arcAt}
+use Rattle.outline.specs.Terms.{term_x, term_y, term_r}
+use Rattle.sums.specs.Marks.{marks_at}
+use Rattle.sums.specs.Walk.{marks_in, arc_at}
 
 -- the head of the arc of a number
 unfoldable pub head_of : ℕ → ℕ
@@ -25,16 +25,16 @@ pub record Readable (counts : List ℕ) (p : ℕ) : Type 0 where
 -- ---- the arcs of a list of numbers, added up
 
 -- a term of the arc of a number: one of the three that it adds without a box, or in the box the integral
-unfoldable pub termOf : (Circle → BoundaryArc → Float) → List Circle → List ℕ → List Float → ℕ → Float
-unfolding head_of arcAt
-termOf term circles counts phi p = term (circleAt circles (head_of p)) (arcAt circles counts phi p)
+unfoldable pub term_of : (Circle → BoundaryArc → Float) → List Circle → List ℕ → List Float → ℕ → Float
+unfolding head_of arc_at
+term_of term circles counts phi p = term (circle_at circles (head_of p)) (arc_at circles counts phi p)
 
 -- in the box, and without it
-abbrev pub addOne : (ℕ → Float) → Float → ℕ → Float
-addOne f total p = total +ᶠ f p
+abbrev pub add_one : (ℕ → Float) → Float → ℕ → Float
+add_one f total p = total +ᶠ f p
 
-abbrev pub addThree : (ℕ → Float) → (ℕ → Float) → (ℕ → Float) → Float → ℕ → Float
-addThree x y r total p = total +ᶠ x p +ᶠ y p +ᶠ r p
+abbrev pub add_three : (ℕ → Float) → (ℕ → Float) → (ℕ → Float) → Float → ℕ → Float
+add_three x y r total p = total +ᶠ x p +ᶠ y p +ᶠ r p
 
 -- ---- what the arrays hold
 
@@ -60,31 +60,31 @@ pub record Known (n : ℕ) (counts : List ℕ) (f : ℕ → Float) (value : List
 -- ---- three terms together
 
 -- the arrays hold three terms of all such arcs, and what is known of the arc of a number
-pub record ThreeValued (termA termB termC : Circle → BoundaryArc → Float) (needed : ℕ) (circles : List Circle) (counts : List ℕ)
+pub record ThreeValued (term_a term_b term_c : Circle → BoundaryArc → Float) (needed : ℕ) (circles : List Circle) (counts : List ℕ)
     (phi xs ys rs : List Float) : Type 0 where
-  pub x : Valued needed counts (termOf termA circles counts phi) xs
-  pub y : Valued needed counts (termOf termB circles counts phi) ys
-  pub r : Valued needed counts (termOf termC circles counts phi) rs
+  pub x : Valued needed counts (term_of term_a circles counts phi) xs
+  pub y : Valued needed counts (term_of term_b circles counts phi) ys
+  pub r : Valued needed counts (term_of term_c circles counts phi) rs
 
-pub record ThreeKnown (termA termB termC : Circle → BoundaryArc → Float) (n : ℕ) (circles : List Circle) (counts : List ℕ)
+pub record ThreeKnown (term_a term_b term_c : Circle → BoundaryArc → Float) (n : ℕ) (circles : List Circle) (counts : List ℕ)
     (phi xs ys rs : List Float) (p : ℕ) : Type 0 where
-  pub x : Known n counts (termOf termA circles counts phi) xs p
-  pub y : Known n counts (termOf termB circles counts phi) ys p
-  pub r : Known n counts (termOf termC circles counts phi) rs p
+  pub x : Known n counts (term_of term_a circles counts phi) xs p
+  pub y : Known n counts (term_of term_b circles counts phi) ys p
+  pub r : Known n counts (term_of term_c circles counts phi) rs p
 
 -- those of the sum
-abbrev pub addTerms : List Circle → List ℕ → List Float → Float → ℕ → Float
-addTerms circles counts phi = addThree (termOf termX circles counts phi) (termOf termY circles counts phi) (termOf termR circles counts phi)
+abbrev pub add_terms : List Circle → List ℕ → List Float → Float → ℕ → Float
+add_terms circles counts phi = add_three (term_of term_x circles counts phi) (term_of term_y circles counts phi) (term_of term_r circles counts phi)
 
 abbrev pub TermsValued : ℕ → List Circle → List ℕ → List Float → List Float → List Float → List Float → Type 0
-TermsValued = ThreeValued termX termY termR
+TermsValued = ThreeValued term_x term_y term_r
 
 abbrev pub TermsKnown : ℕ → List Circle → List ℕ → List Float → List Float → List Float → List Float → ℕ → Type 0
-TermsKnown = ThreeKnown termX termY termR
+TermsKnown = ThreeKnown term_x term_y term_r
 
 -- ---- what a row asks of the points
 
 -- the angles and adopters of the heads of S are those of their meeting points
 abbrev pub MarksOf : List Circle → List IntersectionPoint → ℕ → List ℕ → List Float → List ℕ → Type 0
 MarksOf circles points S counts phi adopters =
-    (j : ℕ) → j < length circles → in_set S j ≡ true → marksIn counts phi adopters j ≡ marksAt (circleAt circles j) j points
+    (j : ℕ) → j < length circles → in_set S j ≡ true → marks_in counts phi adopters j ≡ marks_at (circle_at circles j) j points

@@ -1,7 +1,7 @@
 // The spans of the edges of the box for a set, added to a sum: from the chords of its heads. Rests on specs/Edges.antt.
 ghost use Rattle.std.specs.Prelude.{◌≡◌, min};
-ghost use Rattle.clip.specs.Gradient.{with-gradient};
-ghost use Rattle.sums.specs.Edges.{edgesFrom, edgesWithGradientFrom};
+ghost use Rattle.clip.specs.Gradient.{with_gradient};
+ghost use Rattle.sums.specs.Edges.{edges_from, edges_with_gradient_from};
 
 use chords::spans::chord_span;
 use clip::area::add_span;
@@ -18,7 +18,7 @@ pub(crate) fn add_edges(
     low: &[f64; 40],
     high: &[f64; 40],
 ) -> f64
-    ensures { result ≡ edgesFrom bounds (min n_sets 10) reach.now low.now high.now mask total }
+    ensures { result ≡ edges_from bounds (min n_sets 10) reach.now low.now high.now mask total }
 {
     let b = bounds;
     let bottom = chord_span(mask, n_sets, 0, b.x_min, b.x_max, reach, low, high);
@@ -42,7 +42,7 @@ pub(crate) fn add_edges_with_gradient(
     low: &[f64; 40],
     high: &[f64; 40],
 ) -> f64
-    ensures { with-gradient result grad.new ≡ edgesWithGradientFrom bounds (min n_sets 10) reach.now low.now high.now mask (with-gradient total grad.old) }
+    ensures { with_gradient result grad.new ≡ edges_with_gradient_from bounds (min n_sets 10) reach.now low.now high.now mask (with_gradient total grad.old) }
 {
     let b = bounds;
     let bottom = chord_span(mask, n_sets, 0, b.x_min, b.x_max, reach, low, high);

@@ -4,10 +4,10 @@ ghost use Rattle.lists.specs.Written.{written};
 ghost use Rattle.masks.specs.Mask.{Subset};
 ghost use Rattle.masks.specs.Presence.{stands};
 ghost use Rattle.intersections.specs.declared.points.IntersectionPoint.{IntersectionPoint};
-ghost use Rattle.intersections.specs.Counted.{pointList};
+ghost use Rattle.intersections.specs.Counted.{point_list};
 ghost use Rattle.intersections.specs.Members.{members_of};
-ghost use Rattle.gaps.specs.Gaps.{circlesIn};
-ghost use Rattle.sums.specs.Rows.{areaOf, number_at, areasWritten};
+ghost use Rattle.gaps.specs.Gaps.{circles_in};
+ghost use Rattle.sums.specs.Rows.{area_of, number_at, areas_written};
 ghost use Rattle.sums.specs.Walk.{Few, Ready};
 ghost use Rattle.sums.specs.Values.{Roomy, MarksOf};
 ghost use Rattle.sums.specs.Fast.{number_of, OfWanted, Worth, RowReady};
@@ -38,7 +38,7 @@ fn number_of(circle: Circle, i: usize) -> f64
 // Three numbers a circle: an array of circles is not lent.
 pub(crate) fn numbers_of(circles: [Circle; 10], n_sets: usize) -> [f64; 30]
     requires { n_sets ≤ 10 }
-    ensures { circlesIn result n_sets ≡ take n_sets circles }
+    ensures { circles_in result n_sets ≡ take n_sets circles }
 {
     let mut c = [0.0f64; 30];
     let mut p: usize = 0;
@@ -83,10 +83,10 @@ fn fill_worth(
     low: &mut [f64; 40],
     high: &mut [f64; 40],
 )
-    requires n_sets_bound { (n_sets ≤ 10) × ((needed < 2 ^ n_sets) × (Roomy n_sets needed counts.now × (circlesIn c.now n_sets ≡ take n_sets circles))) }
+    requires n_sets_bound { (n_sets ≤ 10) × ((needed < 2 ^ n_sets) × (Roomy n_sets needed counts.now × (circles_in c.now n_sets ≡ take n_sets circles))) }
     requires xs_len { (length xs.old ≡ 330) × ((length ys.old ≡ 330) × (length rs.old ≡ 330)) }
     requires reach_len { (length reach.old ≡ 4) × ((length low.old ≡ 40) × (length high.old ≡ 40)) }
-    ensures { Worth clipped bounds (circlesIn c.now n_sets) needed counts.now phi.now xs.new ys.new rs.new reach.new low.new high.new }
+    ensures { Worth clipped bounds (circles_in c.now n_sets) needed counts.now phi.now xs.new ys.new rs.new reach.new low.new high.new }
 {
     if clipped {
         fill_integrals(c, n_sets, bounds, needed, counts, phi, xs);
@@ -117,9 +117,9 @@ fn fast_row(
     list: &mut [usize; 320],
 ) -> f64
     requires n_sets_bound { (n_sets ≤ 10) × ((mask < 2 ^ n_sets) × (length list.old ≡ 320)) }
-    requires row_ready { RowReady clipped bounds (circlesIn c.now n_sets) mask counts.now owners.now phi.now lets.now xs.now ys.now rs.now reach.now low.now high.now }
+    requires row_ready { RowReady clipped bounds (circles_in c.now n_sets) mask counts.now owners.now phi.now lets.now xs.now ys.now rs.now reach.now low.now high.now }
     ensures list_len { length list.new ≡ 320 }
-    ensures value { (points : List IntersectionPoint) → Few (circlesIn c.now n_sets) points → MarksOf (circlesIn c.now n_sets) points mask counts.now phi.now adopters.now → result ≡ areaOf clipped bounds (members_of (circlesIn c.now n_sets) points mask) }
+    ensures value { (points : List IntersectionPoint) → Few (circles_in c.now n_sets) points → MarksOf (circles_in c.now n_sets) points mask counts.now phi.now adopters.now → result ≡ area_of clipped bounds (members_of (circles_in c.now n_sets) points mask) }
 {
     if clipped {
         return clipped_row(
@@ -154,8 +154,8 @@ fn write_rows(
     high: &[f64; 40],
 )
     requires n_sets_bound { (n_sets ≤ 10) × ((count ≤ 2 ^ n_sets) × (count ≤ length areas.old)) }
-    requires of_wanted { OfWanted wanted.now count (λ S. RowReady clipped bounds (circlesIn c.now n_sets) S counts.now owners.now phi.now lets.now xs.now ys.now rs.now reach.now low.now high.now) }
-    ensures { (points : List IntersectionPoint) → Few (circlesIn c.now n_sets) points → OfWanted wanted.now count (λ S. MarksOf (circlesIn c.now n_sets) points S counts.now phi.now adopters.now) → areas.new ≡ written (number_at (stands wanted.now) (λ S. areaOf clipped bounds (members_of (circlesIn c.now n_sets) points S)) areas.old) count areas.old }
+    requires of_wanted { OfWanted wanted.now count (λ S. RowReady clipped bounds (circles_in c.now n_sets) S counts.now owners.now phi.now lets.now xs.now ys.now rs.now reach.now low.now high.now) }
+    ensures { (points : List IntersectionPoint) → Few (circles_in c.now n_sets) points → OfWanted wanted.now count (λ S. MarksOf (circles_in c.now n_sets) points S counts.now phi.now adopters.now) → areas.new ≡ written (number_at (stands wanted.now) (λ S. area_of clipped bounds (members_of (circles_in c.now n_sets) points S)) areas.old) count areas.old }
 {
     let mut list = [0usize; 320];
     let mut mask: usize = 0;
@@ -188,9 +188,9 @@ fn write_marked(
     lets: &[usize; 320],
 )
     requires n_sets_bound { (n_sets ≤ 10) × ((count ≤ 2 ^ n_sets) × (count ≤ length areas.old)) }
-    requires needed_bound { (needed < 2 ^ n_sets) × (OfWanted wanted.now count (λ S. Subset S needed) × (circlesIn c.now n_sets ≡ take n_sets circles)) }
-    requires ready { Ready (circlesIn c.now n_sets) needed counts.now owners.now phi.now lets.now }
-    ensures { (points : List IntersectionPoint) → Few (circlesIn c.now n_sets) points → MarksOf (circlesIn c.now n_sets) points needed counts.now phi.now adopters.now → areas.new ≡ written (number_at (stands wanted.now) (λ S. areaOf clipped bounds (members_of (circlesIn c.now n_sets) points S)) areas.old) count areas.old }
+    requires needed_bound { (needed < 2 ^ n_sets) × (OfWanted wanted.now count (λ S. Subset S needed) × (circles_in c.now n_sets ≡ take n_sets circles)) }
+    requires ready { Ready (circles_in c.now n_sets) needed counts.now owners.now phi.now lets.now }
+    ensures { (points : List IntersectionPoint) → Few (circles_in c.now n_sets) points → MarksOf (circles_in c.now n_sets) points needed counts.now phi.now adopters.now → areas.new ≡ written (number_at (stands wanted.now) (λ S. area_of clipped bounds (members_of (circles_in c.now n_sets) points S)) areas.old) count areas.old }
 {
     let mut xs = [0.0f64; 330];
     let mut ys = [0.0f64; 330];
@@ -218,10 +218,10 @@ pub(crate) fn write_fast(
     wanted: &[u8; 1024],
     areas: &mut [f64],
 )
-    requires { (n_sets ≤ 10) × Few (take n_sets circles) (pointList points) }
+    requires { (n_sets ≤ 10) × Few (take n_sets circles) (point_list points) }
     ensures { areas.new
-        ≡ areasWritten n_sets (stands wanted.now)
-        (λ S. areaOf clipped bounds (members_of (take n_sets circles) (pointList points) S)) areas.old }
+        ≡ areas_written n_sets (stands wanted.now)
+        (λ S. area_of clipped bounds (members_of (take n_sets circles) (point_list points) S)) areas.old }
 {
     let c = numbers_of(circles, n_sets);
     let count = row_count(n_sets, areas.len());

@@ -2,10 +2,10 @@
 ghost use Rattle.std.specs.Prelude.{◌≡◌, true, false, ◌+◌, ◌*◌, ◌%◌, ◌<◌, ◌≤◌, min, length, get_or};
 ghost use Rattle.std.specs.Float.{nan};
 ghost use Rattle.lists.specs.Lists.{keep};
-ghost use Rattle.intersections.specs.Counted.{pointList};
-ghost use Rattle.gaps.specs.Gaps.{circlesIn};
-ghost use Rattle.sums.specs.Marks.{hasParent};
-ghost use Rattle.sums.specs.Walk.{letters, gapLetters, Few, fewPoints, Marked};
+ghost use Rattle.intersections.specs.Counted.{point_list};
+ghost use Rattle.gaps.specs.Gaps.{circles_in};
+ghost use Rattle.sums.specs.Marks.{has_parent};
+ghost use Rattle.sums.specs.Walk.{letters, gap_letters, Few, few_points, Marked};
 ghost use Rattle.sums.specs.Filled.{Filled, Long};
 
 use boundary::angles::{angle_about, collapsed, gap, point_at, probe};
@@ -19,7 +19,7 @@ use intersections::points::{IntersectionPoint, Intersections};
 // The heads that let head j have the point p of its edge.
 fn letters(c: &[f64; 30], n_sets: usize, j: usize, p: Point) -> usize
     requires { n_sets ≤ 10 }
-    ensures { result ≡ letters (circlesIn c.now n_sets) j p }
+    ensures { result ≡ letters (circles_in c.now n_sets) j p }
 {
     let mut mask: usize = 0;
     let mut l: usize = 0;
@@ -35,7 +35,7 @@ fn letters(c: &[f64; 30], n_sets: usize, j: usize, p: Point) -> usize
 // The heads that let head j have the gap from one angle to another: nobody, where it is collapsed.
 fn gap_letters(c: &[f64; 30], n_sets: usize, j: usize, phi_a: f64, phi_b: f64) -> usize
     requires { (n_sets ≤ 10) × (j < n_sets) }
-    ensures { result ≡ gapLetters (circlesIn c.now n_sets) j phi_a phi_b }
+    ensures { result ≡ gap_letters (circles_in c.now n_sets) j phi_a phi_b }
 {
     let delta = gap(phi_a, phi_b);
     if collapsed(delta) {
@@ -46,7 +46,7 @@ fn gap_letters(c: &[f64; 30], n_sets: usize, j: usize, phi_a: f64, phi_b: f64) -
 }
 
 fn has_parent(j: usize, q: IntersectionPoint) -> bool
-    ensures { result ≡ hasParent j q }
+    ensures { result ≡ has_parent j q }
 {
     if q.first == j {
         return true;
@@ -63,7 +63,7 @@ fn at_most_ninety(n: usize) -> usize
 
 // Whether there are places for the meeting points of every head. The list stays where it is: handed on, it would be copied.
 pub(crate) fn few(points: Intersections, n_sets: usize) -> bool
-    ensures { result ≡ fewPoints n_sets (pointList points) }
+    ensures { result ≡ few_points n_sets (point_list points) }
 {
     let n = at_most_ninety(points.n);
     let mut j: usize = 0;
@@ -95,7 +95,7 @@ fn fill_lets(
 )
     requires { (n_sets ≤ 10) × ((j < n_sets) × ((n ≤ 32) × (length lets.old ≡ 320))) }
     ensures { Filled (j * 32) n
-        (λ i. gapLetters (circlesIn c.now n_sets) j (get_or phi.now (j * 32 + i) nan)
+        (λ i. gap_letters (circles_in c.now n_sets) j (get_or phi.now (j * 32 + i) nan)
         (get_or phi.now (j * 32 + (i + 1) % n) nan)) 0 lets.old lets.new }
 {
     let at = j * 32;
@@ -120,10 +120,10 @@ pub(crate) fn fill_heads(
     adopters: &mut [usize; 320],
     lets: &mut [usize; 320],
 )
-    requires n_sets_bound { (n_sets ≤ 10) × Few (circlesIn c.now n_sets) (pointList points) }
+    requires n_sets_bound { (n_sets ≤ 10) × Few (circles_in c.now n_sets) (point_list points) }
     requires long { Long counts.old owners.old phi.old adopters.old lets.old }
     ensures long_2 { Long counts.new owners.new phi.new adopters.new lets.new }
-    ensures marked { Marked (circlesIn c.now n_sets) (pointList points) needed n_sets counts.new owners.new
+    ensures marked { Marked (circles_in c.now n_sets) (point_list points) needed n_sets counts.new owners.new
         phi.new adopters.new lets.new }
 {
     let n = at_most_ninety(points.n);

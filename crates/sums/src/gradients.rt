@@ -4,13 +4,13 @@ ghost use Rattle.masks.specs.Mask.{Subset};
 ghost use Rattle.masks.specs.Presence.{stands};
 ghost use Rattle.binary64.specs.Constants.{zero64};
 ghost use Rattle.intersections.specs.declared.points.IntersectionPoint.{IntersectionPoint};
-ghost use Rattle.intersections.specs.Counted.{pointList};
-ghost use Rattle.clip.specs.Gradient.{with-gradient};
-ghost use Rattle.gaps.specs.Gaps.{circlesIn};
+ghost use Rattle.intersections.specs.Counted.{point_list};
+ghost use Rattle.clip.specs.Gradient.{with_gradient};
+ghost use Rattle.gaps.specs.Gaps.{circles_in};
 ghost use Rattle.sums.specs.Walk.{Few, Ready};
 ghost use Rattle.sums.specs.Values.{Roomy, MarksOf};
 ghost use Rattle.sums.specs.Fast.{OfWanted};
-ghost use Rattle.sums.specs.Gradients.{setOnto, rowWith, rowsHeld, rowsIn, areasTo, rows_to, WorthWith, ReadyWith};
+ghost use Rattle.sums.specs.Gradients.{set_onto, row_with, rows_held, rows_in, areas_to, rows_to, WorthWith, ReadyWith};
 
 use crate::fast::{numbers_of, wanted_heads};
 use crate::fill::{few, fill_heads};
@@ -50,7 +50,7 @@ fn set_onto(
     mask: usize,
     grad: &mut [f64],
 ) -> f64
-    ensures { with-gradient result grad.new ≡ setOnto clipped bounds (take n_sets circles) (pointList points) mask grad.old }
+    ensures { with_gradient result grad.new ≡ set_onto clipped bounds (take n_sets circles) (point_list points) mask grad.old }
 {
     let arcs = region_boundary_arcs(mask, circles, points, n_sets);
     if clipped {
@@ -62,7 +62,7 @@ fn set_onto(
 
 // How many rows of so many numbers have a place.
 fn rows_held(width: usize, places: usize) -> usize
-    ensures { result ≡ rowsHeld width places }
+    ensures { result ≡ rows_held width places }
 {
     if width == 0 {
         return 1024;
@@ -72,7 +72,7 @@ fn rows_held(width: usize, places: usize) -> usize
 
 // How many rows of the first n_sets of ten circles have a place in both slices.
 fn rows_in(n_sets: usize, width: usize, areas: &[f64], gradients: &[f64]) -> usize
-    ensures { result ≡ rowsIn n_sets width areas.now gradients.now }
+    ensures { result ≡ rows_in n_sets width areas.now gradients.now }
 {
     let count = row_count(n_sets, areas.len());
     let held = rows_held(width, gradients.len());
@@ -89,7 +89,7 @@ fn plain_row(
     mask: usize,
     grad: &mut [f64],
 ) -> f64
-    ensures grad_after { with-gradient result grad.new ≡ rowWith clipped bounds (take n_sets circles) (pointList points) (length grad.old) mask }
+    ensures grad_after { with_gradient result grad.new ≡ row_with clipped bounds (take n_sets circles) (point_list points) (length grad.old) mask }
     ensures grad_len_unchanged { length grad.new ≡ length grad.old }
 {
     clear(grad);
@@ -110,8 +110,8 @@ fn write_plain(
     gradients: &mut [f64],
 )
     requires { (count ≤ 1024) × ((count ≤ length areas.old) × (count * width ≤ length gradients.old)) }
-    ensures areas_after { areas.new ≡ areasTo (stands wanted.now) (rowWith clipped bounds (take n_sets circles) (pointList points) width) count areas.old }
-    ensures gradients_after { gradients.new ≡ rows_to (stands wanted.now) (rowWith clipped bounds (take n_sets circles) (pointList points) width) width count gradients.old }
+    ensures areas_after { areas.new ≡ areas_to (stands wanted.now) (row_with clipped bounds (take n_sets circles) (point_list points) width) count areas.old }
+    ensures gradients_after { gradients.new ≡ rows_to (stands wanted.now) (row_with clipped bounds (take n_sets circles) (point_list points) width) width count gradients.old }
 {
     let mut mask: usize = 0;
     while mask < count {
@@ -155,12 +155,12 @@ fn fill_worth(
     low: &mut [f64; 40],
     high: &mut [f64; 40],
 ) -> usize
-    requires n_sets_bound { (n_sets ≤ 10) × ((needed < 2 ^ n_sets) × (Roomy n_sets needed counts.now × (circlesIn c.now n_sets ≡ take n_sets circles))) }
+    requires n_sets_bound { (n_sets ≤ 10) × ((needed < 2 ^ n_sets) × (Roomy n_sets needed counts.now × (circles_in c.now n_sets ≡ take n_sets circles))) }
     requires xs_len { (length xs.old ≡ 330) × ((length ys.old ≡ 330) × (length rs.old ≡ 330)) }
     requires us_len { (length us.old ≡ 640) × ((length vs.old ≡ 640) × (length ws.old ≡ 640)) }
     requires first_len { (length first.old ≡ 330) × (length many.old ≡ 330) }
     requires reach_len { (length reach.old ≡ 4) × ((length low.old ≡ 40) × (length high.old ≡ 40)) }
-    ensures { WorthWith clipped bounds (circlesIn c.now n_sets) needed counts.now phi.now xs.new ys.new rs.new us.new vs.new ws.new first.new many.new result reach.new low.new high.new }
+    ensures { WorthWith clipped bounds (circles_in c.now n_sets) needed counts.now phi.now xs.new ys.new rs.new us.new vs.new ws.new first.new many.new result reach.new low.new high.new }
 {
     if clipped {
         fill_chords(circles, n_sets, bounds, needed, reach, low, high);
@@ -201,9 +201,9 @@ fn fast_row(
     list: &mut [usize; 320],
 ) -> f64
     requires n_sets_bound { (n_sets ≤ 10) × ((mask < 2 ^ n_sets) × (length list.old ≡ 320)) }
-    requires ready_with { ReadyWith clipped bounds (circlesIn c.now n_sets) mask counts.now owners.now phi.now lets.now xs.now ys.now rs.now us.now vs.now ws.now first.now many.now stop reach.now low.now high.now }
+    requires ready_with { ReadyWith clipped bounds (circles_in c.now n_sets) mask counts.now owners.now phi.now lets.now xs.now ys.now rs.now us.now vs.now ws.now first.now many.now stop reach.now low.now high.now }
     ensures list_len { (length list.new ≡ 320) × (length grad.new ≡ length grad.old) }
-    ensures grad_after { (points : List IntersectionPoint) → Few (circlesIn c.now n_sets) points → MarksOf (circlesIn c.now n_sets) points mask counts.now phi.now adopters.now → with-gradient result grad.new ≡ rowWith clipped bounds (circlesIn c.now n_sets) points (length grad.old) mask }
+    ensures grad_after { (points : List IntersectionPoint) → Few (circles_in c.now n_sets) points → MarksOf (circles_in c.now n_sets) points mask counts.now phi.now adopters.now → with_gradient result grad.new ≡ row_with clipped bounds (circles_in c.now n_sets) points (length grad.old) mask }
 {
     clear(grad);
     if clipped {
@@ -247,8 +247,8 @@ fn write_rows(
     high: &[f64; 40],
 )
     requires n_sets_bound { (n_sets ≤ 10) × ((count ≤ 2 ^ n_sets) × ((count ≤ length areas.old) × (count * width ≤ length gradients.old))) }
-    requires of_wanted { OfWanted wanted.now count (λ S. ReadyWith clipped bounds (circlesIn c.now n_sets) S counts.now owners.now phi.now lets.now xs.now ys.now rs.now us.now vs.now ws.now first.now many.now stop reach.now low.now high.now) }
-    ensures { (points : List IntersectionPoint) → Few (circlesIn c.now n_sets) points → OfWanted wanted.now count (λ S. MarksOf (circlesIn c.now n_sets) points S counts.now phi.now adopters.now) → (areas.new ≡ areasTo (stands wanted.now) (rowWith clipped bounds (circlesIn c.now n_sets) points width) count areas.old) × (gradients.new ≡ rows_to (stands wanted.now) (rowWith clipped bounds (circlesIn c.now n_sets) points width) width count gradients.old) }
+    requires of_wanted { OfWanted wanted.now count (λ S. ReadyWith clipped bounds (circles_in c.now n_sets) S counts.now owners.now phi.now lets.now xs.now ys.now rs.now us.now vs.now ws.now first.now many.now stop reach.now low.now high.now) }
+    ensures { (points : List IntersectionPoint) → Few (circles_in c.now n_sets) points → OfWanted wanted.now count (λ S. MarksOf (circles_in c.now n_sets) points S counts.now phi.now adopters.now) → (areas.new ≡ areas_to (stands wanted.now) (row_with clipped bounds (circles_in c.now n_sets) points width) count areas.old) × (gradients.new ≡ rows_to (stands wanted.now) (row_with clipped bounds (circles_in c.now n_sets) points width) width count gradients.old) }
 {
     let mut list = [0usize; 320];
     let mut mask: usize = 0;
@@ -308,9 +308,9 @@ fn write_marked(
     lets: &[usize; 320],
 )
     requires n_sets_bound { (n_sets ≤ 10) × ((count ≤ 2 ^ n_sets) × ((count ≤ length areas.old) × (count * width ≤ length gradients.old))) }
-    requires needed_bound { (needed < 2 ^ n_sets) × (OfWanted wanted.now count (λ S. Subset S needed) × (circlesIn c.now n_sets ≡ take n_sets circles)) }
-    requires ready { Ready (circlesIn c.now n_sets) needed counts.now owners.now phi.now lets.now }
-    ensures { (points : List IntersectionPoint) → Few (circlesIn c.now n_sets) points → MarksOf (circlesIn c.now n_sets) points needed counts.now phi.now adopters.now → (areas.new ≡ areasTo (stands wanted.now) (rowWith clipped bounds (circlesIn c.now n_sets) points width) count areas.old) × (gradients.new ≡ rows_to (stands wanted.now) (rowWith clipped bounds (circlesIn c.now n_sets) points width) width count gradients.old) }
+    requires needed_bound { (needed < 2 ^ n_sets) × (OfWanted wanted.now count (λ S. Subset S needed) × (circles_in c.now n_sets ≡ take n_sets circles)) }
+    requires ready { Ready (circles_in c.now n_sets) needed counts.now owners.now phi.now lets.now }
+    ensures { (points : List IntersectionPoint) → Few (circles_in c.now n_sets) points → MarksOf (circles_in c.now n_sets) points needed counts.now phi.now adopters.now → (areas.new ≡ areas_to (stands wanted.now) (row_with clipped bounds (circles_in c.now n_sets) points width) count areas.old) × (gradients.new ≡ rows_to (stands wanted.now) (row_with clipped bounds (circles_in c.now n_sets) points width) width count gradients.old) }
 {
     let mut xs = [0.0f64; 330];
     let mut ys = [0.0f64; 330];
@@ -346,10 +346,10 @@ fn write_fast(
     areas: &mut [f64],
     gradients: &mut [f64],
 )
-    requires n_sets_bound { (n_sets ≤ 10) × Few (take n_sets circles) (pointList points) }
+    requires n_sets_bound { (n_sets ≤ 10) × Few (take n_sets circles) (point_list points) }
     requires count_bound { (count ≤ 2 ^ n_sets) × ((count ≤ length areas.old) × (count * width ≤ length gradients.old)) }
-    ensures areas_after { areas.new ≡ areasTo (stands wanted.now) (rowWith clipped bounds (take n_sets circles) (pointList points) width) count areas.old }
-    ensures gradients_after { gradients.new ≡ rows_to (stands wanted.now) (rowWith clipped bounds (take n_sets circles) (pointList points) width) width count gradients.old }
+    ensures areas_after { areas.new ≡ areas_to (stands wanted.now) (row_with clipped bounds (take n_sets circles) (point_list points) width) count areas.old }
+    ensures gradients_after { gradients.new ≡ rows_to (stands wanted.now) (row_with clipped bounds (take n_sets circles) (point_list points) width) width count gradients.old }
 {
     let c = numbers_of(circles, n_sets);
     let needed = wanted_heads(wanted, count);
@@ -388,8 +388,8 @@ pub fn write_gradients(
     areas: &mut [f64],
     gradients: &mut [f64],
 )
-    ensures areas_after { areas.new ≡ areasTo (stands wanted.now) (rowWith clipped bounds (take n_sets circles) (pointList points) width) (rowsIn n_sets width areas.old gradients.old) areas.old }
-    ensures gradients_after { gradients.new ≡ rows_to (stands wanted.now) (rowWith clipped bounds (take n_sets circles) (pointList points) width) width (rowsIn n_sets width areas.old gradients.old) gradients.old }
+    ensures areas_after { areas.new ≡ areas_to (stands wanted.now) (row_with clipped bounds (take n_sets circles) (point_list points) width) (rows_in n_sets width areas.old gradients.old) areas.old }
+    ensures gradients_after { gradients.new ≡ rows_to (stands wanted.now) (row_with clipped bounds (take n_sets circles) (point_list points) width) width (rows_in n_sets width areas.old gradients.old) gradients.old }
 {
     let n = at_most_ten(n_sets);
     let count = rows_in(n_sets, width, areas, gradients);

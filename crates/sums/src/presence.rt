@@ -1,7 +1,7 @@
 // Which rows are there, in lent slices: presence bytes from the sets, and absent rows cleared. Rests on specs/Presence.antt.
 ghost use Rattle.std.specs.Prelude.{◌≡◌, eqb};
 ghost use Rattle.masks.specs.Presence.{byte, stands};
-ghost use Rattle.sums.specs.Presence.{among, bytesWritten, absentCleared};
+ghost use Rattle.sums.specs.Presence.{among, bytes_written, absent_cleared};
 
 use crate::rows::row_count;
 
@@ -20,7 +20,7 @@ pub fn row_byte(has_box: bool, is: u8, mask: usize) -> u8
 
 // The presence bytes of the rows of n_sets circles.
 pub fn write_presence(has_box: bool, n_sets: usize, sets: &[u8; 1024], presence: &mut [u8])
-    ensures { presence.new ≡ bytesWritten n_sets (among has_box (stands sets.now)) presence.old }
+    ensures { presence.new ≡ bytes_written n_sets (among has_box (stands sets.now)) presence.old }
 {
     let count = row_count(n_sets, presence.len());
     let mut mask: usize = 0;
@@ -32,7 +32,7 @@ pub fn write_presence(has_box: bool, n_sets: usize, sets: &[u8; 1024], presence:
 
 // Absent rows of n_sets circles hold +0; every other keeps its number.
 pub fn clear_absent(has_box: bool, n_sets: usize, sets: &[u8; 1024], areas: &mut [f64])
-    ensures { areas.new ≡ absentCleared n_sets (among has_box (stands sets.now)) areas.old }
+    ensures { areas.new ≡ absent_cleared n_sets (among has_box (stands sets.now)) areas.old }
 {
     let count = row_count(n_sets, areas.len());
     let mut mask: usize = 0;

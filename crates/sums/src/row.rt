@@ -3,17 +3,17 @@
 ghost use Rattle.std.specs.Prelude.{◌≡◌, List, ◌^◌, ◌<◌, ◌≤◌, min, length};
 ghost use Rattle.intersections.specs.declared.points.IntersectionPoint.{IntersectionPoint};
 ghost use Rattle.intersections.specs.Members.{members_of};
-ghost use Rattle.inside.specs.Parts.{clippedArcIntegral};
-ghost use Rattle.outline.specs.Area.{openArea};
-ghost use Rattle.clip.specs.Area.{clippedArea};
-ghost use Rattle.gaps.specs.Gaps.{circlesIn};
+ghost use Rattle.inside.specs.Parts.{clipped_arc_integral};
+ghost use Rattle.outline.specs.Area.{open_area};
+ghost use Rattle.clip.specs.Area.{clipped_area};
+ghost use Rattle.gaps.specs.Gaps.{circles_in};
 ghost use Rattle.sums.specs.Walk.{Few, Ready};
 ghost use Rattle.chords.specs.Chords.{Chorded};
-ghost use Rattle.sums.specs.Values.{termOf, Valued, TermsValued, MarksOf};
-ghost use Rattle.boundary.specs.Set.{arcsHeld};
-ghost use Rattle.clip.specs.Gradient.{with-gradient};
+ghost use Rattle.sums.specs.Values.{term_of, Valued, TermsValued, MarksOf};
+ghost use Rattle.boundary.specs.Set.{arcs_held};
+ghost use Rattle.clip.specs.Gradient.{with_gradient};
 ghost use Rattle.sums.specs.Slopes.{SlopesValued, PartsValued};
-ghost use Rattle.sums.specs.Gradients.{openOnto, clippedOnto};
+ghost use Rattle.sums.specs.Gradients.{open_onto, clipped_onto};
 
 use crate::edges::{add_edges, add_edges_with_gradient};
 use crate::shares::add_parts;
@@ -41,11 +41,11 @@ pub(crate) fn clipped_row(
     list: &mut [usize; 320],
 ) -> f64
     requires n_sets_bound { (n_sets ≤ 10) × ((mask < 2 ^ n_sets) × (length list.old ≡ 320)) }
-    requires ready { Ready (circlesIn c.now n_sets) mask counts.now owners.now phi.now lets.now }
-    requires valued { Valued mask counts.now (termOf (clippedArcIntegral bounds) (circlesIn c.now n_sets) counts.now phi.now) value.now }
-    requires chorded { Chorded bounds (circlesIn c.now n_sets) mask reach.now low.now high.now }
+    requires ready { Ready (circles_in c.now n_sets) mask counts.now owners.now phi.now lets.now }
+    requires valued { Valued mask counts.now (term_of (clipped_arc_integral bounds) (circles_in c.now n_sets) counts.now phi.now) value.now }
+    requires chorded { Chorded bounds (circles_in c.now n_sets) mask reach.now low.now high.now }
     ensures list_len { length list.new ≡ 320 }
-    ensures value { (points : List IntersectionPoint) → Few (circlesIn c.now n_sets) points → MarksOf (circlesIn c.now n_sets) points mask counts.now phi.now adopters.now → result ≡ clippedArea bounds (members_of (circlesIn c.now n_sets) points mask) }
+    ensures value { (points : List IntersectionPoint) → Few (circles_in c.now n_sets) points → MarksOf (circles_in c.now n_sets) points mask counts.now phi.now adopters.now → result ≡ clipped_area bounds (members_of (circles_in c.now n_sets) points mask) }
 {
     if empty_box(bounds) {
         return 0.0;
@@ -71,10 +71,10 @@ pub(crate) fn open_row(
     list: &mut [usize; 320],
 ) -> f64
     requires n_sets_bound { (n_sets ≤ 10) × ((mask < 2 ^ n_sets) × (length list.old ≡ 320)) }
-    requires ready { Ready (circlesIn c.now n_sets) mask counts.now owners.now phi.now lets.now }
-    requires terms_valued { TermsValued mask (circlesIn c.now n_sets) counts.now phi.now xs.now ys.now rs.now }
+    requires ready { Ready (circles_in c.now n_sets) mask counts.now owners.now phi.now lets.now }
+    requires terms_valued { TermsValued mask (circles_in c.now n_sets) counts.now phi.now xs.now ys.now rs.now }
     ensures list_len { length list.new ≡ 320 }
-    ensures value { (points : List IntersectionPoint) → Few (circlesIn c.now n_sets) points → MarksOf (circlesIn c.now n_sets) points mask counts.now phi.now adopters.now → result ≡ openArea (members_of (circlesIn c.now n_sets) points mask) }
+    ensures value { (points : List IntersectionPoint) → Few (circles_in c.now n_sets) points → MarksOf (circles_in c.now n_sets) points mask counts.now phi.now adopters.now → result ≡ open_area (members_of (circles_in c.now n_sets) points mask) }
 {
     let k = walk(mask, c, n_sets, counts, owners, phi, adopters, lets, list);
     0.5 * add_terms(list, k, c, n_sets, counts, phi, xs, ys, rs)
@@ -82,7 +82,7 @@ pub(crate) fn open_row(
 
 // How many arcs of a list are looked at: no set of collected points has more than 180.
 fn first_arcs(k: usize) -> usize
-    ensures { result ≡ min k arcsHeld }
+    ensures { result ≡ min k arcs_held }
 {
     if k < 180 { k } else { 180 }
 }
@@ -112,11 +112,11 @@ pub(crate) fn clipped_row_with_gradient(
     list: &mut [usize; 320],
 ) -> f64
     requires n_sets_bound { (n_sets ≤ 10) × ((mask < 2 ^ n_sets) × (length list.old ≡ 320)) }
-    requires ready { Ready (circlesIn c.now n_sets) mask counts.now owners.now phi.now lets.now }
-    requires parts_valued { PartsValued bounds (circlesIn c.now n_sets) mask counts.now phi.now first.now many.now sums.now us.now vs.now ws.now stop }
-    requires chorded { Chorded bounds (circlesIn c.now n_sets) mask reach.now low.now high.now }
+    requires ready { Ready (circles_in c.now n_sets) mask counts.now owners.now phi.now lets.now }
+    requires parts_valued { PartsValued bounds (circles_in c.now n_sets) mask counts.now phi.now first.now many.now sums.now us.now vs.now ws.now stop }
+    requires chorded { Chorded bounds (circles_in c.now n_sets) mask reach.now low.now high.now }
     ensures list_len { length list.new ≡ 320 }
-    ensures grad_after { (points : List IntersectionPoint) → Few (circlesIn c.now n_sets) points → MarksOf (circlesIn c.now n_sets) points mask counts.now phi.now adopters.now → with-gradient result grad.new ≡ clippedOnto bounds (circlesIn c.now n_sets) points mask grad.old }
+    ensures grad_after { (points : List IntersectionPoint) → Few (circles_in c.now n_sets) points → MarksOf (circles_in c.now n_sets) points mask counts.now phi.now adopters.now → with_gradient result grad.new ≡ clipped_onto bounds (circles_in c.now n_sets) points mask grad.old }
 {
     if empty_box(bounds) {
         return 0.0;
@@ -148,11 +148,11 @@ pub(crate) fn open_row_with_gradient(
     list: &mut [usize; 320],
 ) -> f64
     requires n_sets_bound { (n_sets ≤ 10) × ((mask < 2 ^ n_sets) × (length list.old ≡ 320)) }
-    requires ready { Ready (circlesIn c.now n_sets) mask counts.now owners.now phi.now lets.now }
-    requires terms_valued { TermsValued mask (circlesIn c.now n_sets) counts.now phi.now xs.now ys.now rs.now }
-    requires slopes_valued { SlopesValued mask (circlesIn c.now n_sets) counts.now phi.now us.now vs.now ws.now }
+    requires ready { Ready (circles_in c.now n_sets) mask counts.now owners.now phi.now lets.now }
+    requires terms_valued { TermsValued mask (circles_in c.now n_sets) counts.now phi.now xs.now ys.now rs.now }
+    requires slopes_valued { SlopesValued mask (circles_in c.now n_sets) counts.now phi.now us.now vs.now ws.now }
     ensures list_len { length list.new ≡ 320 }
-    ensures grad_after { (points : List IntersectionPoint) → Few (circlesIn c.now n_sets) points → MarksOf (circlesIn c.now n_sets) points mask counts.now phi.now adopters.now → with-gradient result grad.new ≡ openOnto (circlesIn c.now n_sets) points mask grad.old }
+    ensures grad_after { (points : List IntersectionPoint) → Few (circles_in c.now n_sets) points → MarksOf (circles_in c.now n_sets) points mask counts.now phi.now adopters.now → with_gradient result grad.new ≡ open_onto (circles_in c.now n_sets) points mask grad.old }
 {
     let k = first_arcs(walk(mask, c, n_sets, counts, owners, phi, adopters, lets, list));
     add_slopes(grad, list, k, c, n_sets, counts, phi, us, vs, ws);

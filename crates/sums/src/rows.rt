@@ -1,9 +1,9 @@
 // The areas of the rows that a pass works out, in a lent slice. Rests on specs/Rows.antt.
 ghost use Rattle.std.specs.Prelude.{◌≡◌, min, take};
 ghost use Rattle.masks.specs.Presence.{stands};
-ghost use Rattle.intersections.specs.Counted.{pointList};
+ghost use Rattle.intersections.specs.Counted.{point_list};
 ghost use Rattle.intersections.specs.Members.{members_of};
-ghost use Rattle.sums.specs.Rows.{areaOf, rows_of, areasWritten};
+ghost use Rattle.sums.specs.Rows.{area_of, rows_of, areas_written};
 
 use crate::fast::write_fast;
 use crate::fill::few;
@@ -23,7 +23,7 @@ fn row_area(
     bounds: Bounds,
     mask: usize,
 ) -> f64
-    ensures { result ≡ areaOf clipped bounds (members_of (take n_sets circles) (pointList points) mask) }
+    ensures { result ≡ area_of clipped bounds (members_of (take n_sets circles) (point_list points) mask) }
 {
     if clipped {
         return clipped_region_area(mask, circles, points, n_sets, bounds);
@@ -50,8 +50,8 @@ fn write_plain(
     areas: &mut [f64],
 )
     ensures { areas.new
-        ≡ areasWritten n_sets (stands wanted.now)
-        (λ S. areaOf clipped bounds (members_of (take n_sets circles) (pointList points) S)) areas.old }
+        ≡ areas_written n_sets (stands wanted.now)
+        (λ S. area_of clipped bounds (members_of (take n_sets circles) (point_list points) S)) areas.old }
 {
     let count = row_count(n_sets, areas.len());
     let mut mask: usize = 0;
@@ -74,8 +74,8 @@ pub fn write_areas(
     areas: &mut [f64],
 )
     ensures { areas.new
-        ≡ areasWritten n_sets (stands wanted.now)
-        (λ S. areaOf clipped bounds (members_of (take n_sets circles) (pointList points) S)) areas.old }
+        ≡ areas_written n_sets (stands wanted.now)
+        (λ S. area_of clipped bounds (members_of (take n_sets circles) (point_list points) S)) areas.old }
 {
     let n = at_most_ten(n_sets);
     if few(points, n) {

@@ -5,10 +5,10 @@ ghost use Rattle.std.specs.Float.{nan};
 ghost use Rattle.lists.specs.Every.{Every};
 ghost use Rattle.binary64.specs.Constants.{zero64};
 ghost use Rattle.binary64.specs.Floats.{◌-ᶠ◌, ◌*ᶠ◌};
-ghost use Rattle.clip.specs.Gradient.{with-gradient, subArcByDifferences, clippedArcIntegralWithGradient};
-ghost use Rattle.gaps.specs.Gaps.{circlesIn};
+ghost use Rattle.clip.specs.Gradient.{with_gradient, sub_arc_by_differences, clipped_arc_integral_with_gradient};
+ghost use Rattle.gaps.specs.Gaps.{circles_in};
 ghost use Rattle.sums.specs.Values.{Roomy};
-ghost use Rattle.sums.specs.Slopes.{addPartsAt, sharesFrom, PartsValued, PartsKnown};
+ghost use Rattle.sums.specs.Slopes.{add_parts_at, shares_from, PartsValued, PartsKnown};
 
 use crate::terms::add_three_at;
 use crate::values::{arc_at, head_of, is_standing, past};
@@ -43,7 +43,7 @@ fn put_part(
     rs: &mut [f64; 640],
 ) -> f64
     requires { (at < 640) × ((length xs.old ≡ 640) × ((length ys.old ≡ 640) × (length rs.old ≡ 640))) }
-    ensures value { result ≡ subArcByDifferences c (sin_b -ᶠ sin_a) (cos_b -ᶠ cos_a) delta }
+    ensures value { result ≡ sub_arc_by_differences c (sin_b -ᶠ sin_a) (cos_b -ᶠ cos_a) delta }
     ensures xs_after { xs.new ≡ set xs.old at (c.radius *ᶠ (sin_b -ᶠ sin_a)) }
     ensures ys_after { ys.new ≡ set ys.old at (c.radius *ᶠ (cos_b -ᶠ cos_a)) }
     ensures rs_after { rs.new ≡ set rs.old at (c.radius *ᶠ delta) }
@@ -71,7 +71,7 @@ fn put_parts(
     ensures many_bound { result.many ≤ 25 }
     ensures xs_len_2 { (length xs.new ≡ 640) × ((length ys.new ≡ 640) × (length rs.new ≡ 640)) }
     ensures by_index { (q : ℕ) → q < used → (get_or xs.new q nan ≡ get_or xs.old q nan) × ((get_or ys.new q nan ≡ get_or ys.old q nan) × (get_or rs.new q nan ≡ get_or rs.old q nan)) }
-    ensures g_after { (g : List Float) → with-gradient result.sum (sharesFrom (arc.circle * 3) xs.new ys.new rs.new used result.many g) ≡ clippedArcIntegralWithGradient bounds c arc g }
+    ensures g_after { (g : List Float) → with_gradient result.sum (shares_from (arc.circle * 3) xs.new ys.new rs.new used result.many g) ≡ clipped_arc_integral_with_gradient bounds c arc g }
 {
     let phi_a = arc.phi_start;
     let breaks = breaks_between(bounds, c, phi_a, phi_a + arc.delta_phi);
@@ -125,7 +125,7 @@ pub(crate) fn fill_parts(
     requires n_sets_bound { (n_sets ≤ 10) × ((needed < 2 ^ n_sets) × Roomy n_sets needed counts.now) }
     requires first_len { (length first.old ≡ 330) × ((length many.old ≡ 330) × (length sums.old ≡ 330)) }
     requires xs_len { (length xs.old ≡ 640) × ((length ys.old ≡ 640) × (length rs.old ≡ 640)) }
-    ensures { PartsValued bounds (circlesIn c.now n_sets) needed counts.now phi.now first.new many.new sums.new xs.new ys.new rs.new result }
+    ensures { PartsValued bounds (circles_in c.now n_sets) needed counts.now phi.now first.new many.new sums.new xs.new ys.new rs.new result }
 {
     let mut used: usize = 0;
     let mut p: usize = 0;
@@ -160,7 +160,7 @@ fn add_shares(
     rs: &[f64; 640],
 )
     requires { (off ≤ 27) × (from + many ≤ 640) }
-    ensures { grad.new ≡ sharesFrom off xs.now ys.now rs.now from many grad.old }
+    ensures { grad.new ≡ shares_from off xs.now ys.now rs.now from many grad.old }
 {
     let mut m: usize = 0;
     while m < many {
@@ -188,8 +188,8 @@ fn add_parts_at(
     ys: &[f64; 640],
     rs: &[f64; 640],
 ) -> f64
-    requires { (n_sets ≤ 10) × PartsKnown n_sets bounds (circlesIn c.now n_sets) counts.now phi.now first.now many.now sums.now xs.now ys.now rs.now stop place }
-    ensures { with-gradient result grad.new ≡ addPartsAt bounds (circlesIn c.now n_sets) counts.now phi.now (with-gradient total grad.old) place }
+    requires { (n_sets ≤ 10) × PartsKnown n_sets bounds (circles_in c.now n_sets) counts.now phi.now first.now many.now sums.now xs.now ys.now rs.now stop place }
+    ensures { with_gradient result grad.new ≡ add_parts_at bounds (circles_in c.now n_sets) counts.now phi.now (with_gradient total grad.old) place }
 {
     let j = head_of(place);
     if place < stop {
@@ -220,8 +220,8 @@ pub(crate) fn add_parts(
     rs: &[f64; 640],
 ) -> f64
     requires n_sets_bound { (n_sets ≤ 10) × ((k ≤ 320) × (length list.now ≡ 320)) }
-    requires every { Every (PartsKnown n_sets bounds (circlesIn c.now n_sets) counts.now phi.now first.now many.now sums.now xs.now ys.now rs.now stop) (take k list.now) }
-    ensures { with-gradient result grad.new ≡ foldl (addPartsAt bounds (circlesIn c.now n_sets) counts.now phi.now) (with-gradient zero64 grad.old) (take k list.now) }
+    requires every { Every (PartsKnown n_sets bounds (circles_in c.now n_sets) counts.now phi.now first.now many.now sums.now xs.now ys.now rs.now stop) (take k list.now) }
+    ensures { with_gradient result grad.new ≡ foldl (add_parts_at bounds (circles_in c.now n_sets) counts.now phi.now) (with_gradient zero64 grad.old) (take k list.now) }
 {
     let mut total = 0.0;
     let mut i: usize = 0;

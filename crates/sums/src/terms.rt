@@ -4,9 +4,9 @@ ghost use Rattle.std.specs.Prelude.{◌≡◌, ◌^◌, ◌<◌, ◌≤◌, take
 ghost use mathlib.Core.List.{foldl};
 ghost use Rattle.lists.specs.Every.{Every};
 ghost use Rattle.binary64.specs.Constants.{zero64};
-ghost use Rattle.gaps.specs.Gaps.{circlesIn};
-ghost use Rattle.sums.specs.Values.{addTerms, Roomy, TermsValued, TermsKnown};
-ghost use Rattle.sums.specs.Slopes.{addThreeAt, slopeX, slopeY, slopeR, addSlopesAt, SlopesValued, SlopesKnown};
+ghost use Rattle.gaps.specs.Gaps.{circles_in};
+ghost use Rattle.sums.specs.Values.{add_terms, Roomy, TermsValued, TermsKnown};
+ghost use Rattle.sums.specs.Slopes.{add_three_at, slope_x, slope_y, slope_r, add_slopes_at, SlopesValued, SlopesKnown};
 
 use crate::values::{arc_at, head_of, is_standing, past};
 use binary64::{abs, signum};
@@ -30,7 +30,7 @@ pub(crate) fn fill_terms(
 )
     requires n_sets_bound { (n_sets ≤ 10) × ((needed < 2 ^ n_sets) × Roomy n_sets needed counts.now) }
     requires xs_len { (length xs.old ≡ 330) × ((length ys.old ≡ 330) × (length rs.old ≡ 330)) }
-    ensures { TermsValued needed (circlesIn c.now n_sets) counts.now phi.now xs.new ys.new rs.new }
+    ensures { TermsValued needed (circles_in c.now n_sets) counts.now phi.now xs.new ys.new rs.new }
 {
     let mut p: usize = 0;
     while p < 330 {
@@ -59,8 +59,8 @@ fn add_arc(
     ys: &[f64; 330],
     rs: &[f64; 330],
 ) -> f64
-    requires { (n_sets ≤ 10) × TermsKnown n_sets (circlesIn c.now n_sets) counts.now phi.now xs.now ys.now rs.now place }
-    ensures { result ≡ addTerms (circlesIn c.now n_sets) counts.now phi.now total place }
+    requires { (n_sets ≤ 10) × TermsKnown n_sets (circles_in c.now n_sets) counts.now phi.now xs.now ys.now rs.now place }
+    ensures { result ≡ add_terms (circles_in c.now n_sets) counts.now phi.now total place }
 {
     if place < 330 {
         return add_three(total, xs[place], ys[place], rs[place]);
@@ -88,8 +88,8 @@ pub(crate) fn add_terms(
     rs: &[f64; 330],
 ) -> f64
     requires n_sets_bound { (n_sets ≤ 10) × ((k ≤ 320) × (length list.now ≡ 320)) }
-    requires every { Every (TermsKnown n_sets (circlesIn c.now n_sets) counts.now phi.now xs.now ys.now rs.now) (take k list.now) }
-    ensures { result ≡ foldl (addTerms (circlesIn c.now n_sets) counts.now phi.now) zero64 (take k list.now) }
+    requires every { Every (TermsKnown n_sets (circles_in c.now n_sets) counts.now phi.now xs.now ys.now rs.now) (take k list.now) }
+    ensures { result ≡ foldl (add_terms (circles_in c.now n_sets) counts.now phi.now) zero64 (take k list.now) }
 {
     let mut total = 0.0;
     let mut i: usize = 0;
@@ -103,7 +103,7 @@ pub(crate) fn add_terms(
 // Three numbers, in the entries of a head by x, y and radius.
 pub(crate) fn add_three_at(grad: &mut [f64], off: usize, x: f64, y: f64, r: f64)
     requires { off ≤ 27 }
-    ensures { grad.new ≡ addThreeAt off x y r grad.old }
+    ensures { grad.new ≡ add_three_at off x y r grad.old }
 {
     add_at(grad, off, x);
     sub_at(grad, off + 1, y);
@@ -111,19 +111,19 @@ pub(crate) fn add_three_at(grad: &mut [f64], off: usize, x: f64, y: f64, r: f64)
 }
 
 fn slope_x(circle: Circle, arc: BoundaryArc) -> f64
-    ensures { result ≡ slopeX circle arc }
+    ensures { result ≡ slope_x circle arc }
 {
     signum(arc.delta_phi) * circle.radius * (sin(arc.phi_end) - sin(arc.phi_start))
 }
 
 fn slope_y(circle: Circle, arc: BoundaryArc) -> f64
-    ensures { result ≡ slopeY circle arc }
+    ensures { result ≡ slope_y circle arc }
 {
     signum(arc.delta_phi) * circle.radius * (cos(arc.phi_end) - cos(arc.phi_start))
 }
 
 fn slope_r(circle: Circle, arc: BoundaryArc) -> f64
-    ensures { result ≡ slopeR circle arc }
+    ensures { result ≡ slope_r circle arc }
 {
     circle.radius * abs(arc.delta_phi)
 }
@@ -141,7 +141,7 @@ pub(crate) fn fill_slopes(
 )
     requires n_sets_bound { (n_sets ≤ 10) × ((needed < 2 ^ n_sets) × Roomy n_sets needed counts.now) }
     requires us_len { (length us.old ≡ 640) × ((length vs.old ≡ 640) × (length ws.old ≡ 640)) }
-    ensures { SlopesValued needed (circlesIn c.now n_sets) counts.now phi.now us.new vs.new ws.new }
+    ensures { SlopesValued needed (circles_in c.now n_sets) counts.now phi.now us.new vs.new ws.new }
 {
     let mut p: usize = 0;
     while p < 330 {
@@ -170,8 +170,8 @@ fn add_slopes_at(
     vs: &[f64; 640],
     ws: &[f64; 640],
 )
-    requires { (n_sets ≤ 10) × SlopesKnown n_sets (circlesIn c.now n_sets) counts.now phi.now us.now vs.now ws.now place }
-    ensures { grad.new ≡ addSlopesAt (circlesIn c.now n_sets) counts.now phi.now grad.old place }
+    requires { (n_sets ≤ 10) × SlopesKnown n_sets (circles_in c.now n_sets) counts.now phi.now us.now vs.now ws.now place }
+    ensures { grad.new ≡ add_slopes_at (circles_in c.now n_sets) counts.now phi.now grad.old place }
 {
     let j = head_of(place);
     if place < 330 {
@@ -203,8 +203,8 @@ pub(crate) fn add_slopes(
     ws: &[f64; 640],
 )
     requires n_sets_bound { (n_sets ≤ 10) × ((k ≤ 320) × (length list.now ≡ 320)) }
-    requires every { Every (SlopesKnown n_sets (circlesIn c.now n_sets) counts.now phi.now us.now vs.now ws.now) (take k list.now) }
-    ensures { grad.new ≡ foldl (addSlopesAt (circlesIn c.now n_sets) counts.now phi.now) grad.old (take k list.now) }
+    requires every { Every (SlopesKnown n_sets (circles_in c.now n_sets) counts.now phi.now us.now vs.now ws.now) (take k list.now) }
+    ensures { grad.new ≡ foldl (add_slopes_at (circles_in c.now n_sets) counts.now phi.now) grad.old (take k list.now) }
 {
     let mut i: usize = 0;
     while i < k {

@@ -4,10 +4,10 @@ ghost use mathlib.Core.List.{List, foldl};
 ghost use Rattle.lists.specs.Every.{Every};
 ghost use Rattle.binary64.specs.Constants.{zero64};
 ghost use Rattle.geometry.specs.declared.circle.Circle.{Circle};
-ghost use Rattle.inside.specs.Parts.{clippedArcIntegral};
-ghost use Rattle.gaps.specs.Gaps.{circlesIn};
-ghost use Rattle.sums.specs.Walk.{arcAt};
-ghost use Rattle.sums.specs.Values.{head_of, Readable, termOf, addOne, Roomy, standing, Valued, Known};
+ghost use Rattle.inside.specs.Parts.{clipped_arc_integral};
+ghost use Rattle.gaps.specs.Gaps.{circles_in};
+ghost use Rattle.sums.specs.Walk.{arc_at};
+ghost use Rattle.sums.specs.Values.{head_of, Readable, term_of, add_one, Roomy, standing, Valued, Known};
 
 use boundary::angles::gap;
 use boundary::arcs::{BoundaryArc, between, full_circle};
@@ -37,7 +37,7 @@ pub(crate) fn arc_at(
     phi: &[f64; 320],
 ) -> BoundaryArc
     requires { Readable counts.now place }
-    ensures { (circles : List Circle) → result ≡ arcAt circles counts.now phi.now place }
+    ensures { (circles : List Circle) → result ≡ arc_at circles counts.now phi.now place }
 {
     if place < 320 {
         let j = place / 32;
@@ -89,7 +89,7 @@ fn integral_of(
     phi: &[f64; 320],
 ) -> f64
     requires { (n_sets ≤ 10) × ((head_of place < n_sets) × Readable counts.now place) }
-    ensures { result ≡ termOf (clippedArcIntegral bounds) (circlesIn c.now n_sets) counts.now phi.now place }
+    ensures { result ≡ term_of (clipped_arc_integral bounds) (circles_in c.now n_sets) counts.now phi.now place }
 {
     let circle = circle_at(c, head_of(place));
     clipped_arc_integral(arc_at(place, circle, counts, phi), circle, bounds)
@@ -107,7 +107,7 @@ pub(crate) fn fill_integrals(
 )
     requires n_sets_bound { (n_sets ≤ 10) × ((needed < 2 ^ n_sets) × Roomy n_sets needed counts.now) }
     requires value_len { length value.old ≡ 330 }
-    ensures { Valued needed counts.now (termOf (clippedArcIntegral bounds) (circlesIn c.now n_sets) counts.now phi.now) value.new }
+    ensures { Valued needed counts.now (term_of (clipped_arc_integral bounds) (circles_in c.now n_sets) counts.now phi.now) value.new }
 {
     let mut p: usize = 0;
     while p < 330 {
@@ -130,8 +130,8 @@ fn integral_at(
     phi: &[f64; 320],
     value: &[f64; 330],
 ) -> f64
-    requires { (n_sets ≤ 10) × Known n_sets counts.now (termOf (clippedArcIntegral bounds) (circlesIn c.now n_sets) counts.now phi.now) value.now place }
-    ensures { result ≡ termOf (clippedArcIntegral bounds) (circlesIn c.now n_sets) counts.now phi.now place }
+    requires { (n_sets ≤ 10) × Known n_sets counts.now (term_of (clipped_arc_integral bounds) (circles_in c.now n_sets) counts.now phi.now) value.now place }
+    ensures { result ≡ term_of (clipped_arc_integral bounds) (circles_in c.now n_sets) counts.now phi.now place }
 {
     if place < 330 {
         return value[place];
@@ -151,8 +151,8 @@ pub(crate) fn add_integrals(
     value: &[f64; 330],
 ) -> f64
     requires n_sets_bound { (n_sets ≤ 10) × ((k ≤ 320) × (length list.now ≡ 320)) }
-    requires every { Every (Known n_sets counts.now (termOf (clippedArcIntegral bounds) (circlesIn c.now n_sets) counts.now phi.now) value.now) (take k list.now) }
-    ensures { result ≡ foldl (addOne (termOf (clippedArcIntegral bounds) (circlesIn c.now n_sets) counts.now phi.now)) zero64 (take k list.now) }
+    requires every { Every (Known n_sets counts.now (term_of (clipped_arc_integral bounds) (circles_in c.now n_sets) counts.now phi.now) value.now) (take k list.now) }
+    ensures { result ≡ foldl (add_one (term_of (clipped_arc_integral bounds) (circles_in c.now n_sets) counts.now phi.now)) zero64 (take k list.now) }
 {
     let mut total = 0.0;
     let mut i: usize = 0;

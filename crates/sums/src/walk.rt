@@ -2,10 +2,10 @@
 ghost use Rattle.std.specs.Prelude.{◌≡◌, true, false, ◌++◌, ◌+◌, ◌*◌, ◌%◌, ◌^◌, ◌<◌, ◌≤◌, length, get_or};
 ghost use Rattle.std.specs.Float.{nan};
 ghost use Rattle.masks.specs.Mask.{in_set};
-ghost use Rattle.gaps.specs.Gaps.{circlesIn};
-ghost use Rattle.sums.specs.Marks.{anglesIn};
-ghost use Rattle.sums.specs.Walk.{marksIn, gapLetters, gapIn, headIn, arcsBy};
-ghost use Rattle.sums.specs.Walk.{NextIn, arcsOf, Listing, HeadReady, Ready};
+ghost use Rattle.gaps.specs.Gaps.{circles_in};
+ghost use Rattle.sums.specs.Marks.{angles_in};
+ghost use Rattle.sums.specs.Walk.{marks_in, gap_letters, gap_in, head_in, arcs_by};
+ghost use Rattle.sums.specs.Walk.{NextIn, arcs_of, Listing, HeadReady, Ready};
 
 use gaps::numbers::{NO_ARC, gap_number};
 
@@ -41,13 +41,13 @@ fn list_gap(
     requires n_sets_bound { (n_sets ≤ 10) × ((j < n_sets) × ((mask < 2 ^ n_sets) × (in_set mask j ≡ true))) }
     requires j_bound { (get_or counts.now j 0 ≤ 32) × ((a < get_or counts.now j 0) × (b < get_or counts.now j 0)) }
     requires a_value { get_or lets.now (j * 32 + a) 0
-        ≡ gapLetters (circlesIn c.now n_sets) j (get_or phi.now (j * 32 + a) nan) (get_or phi.now (j * 32 + (a + 1) % get_or counts.now j 0) nan) }
-    requires k_bound { (k < 320) × Listing (circlesIn c.now n_sets) counts.now phi.now n_sets mask
-        (arcsOf (circlesIn c.now n_sets) counts.now phi.now k list.old) k list.old }
+        ≡ gap_letters (circles_in c.now n_sets) j (get_or phi.now (j * 32 + a) nan) (get_or phi.now (j * 32 + (a + 1) % get_or counts.now j 0) nan) }
+    requires k_bound { (k < 320) × Listing (circles_in c.now n_sets) counts.now phi.now n_sets mask
+        (arcs_of (circles_in c.now n_sets) counts.now phi.now k list.old) k list.old }
     ensures upper_bound { result ≤ k + 1 }
-    ensures listing { Listing (circlesIn c.now n_sets) counts.now phi.now n_sets mask
-        (arcsOf (circlesIn c.now n_sets) counts.now phi.now k list.old
-        ++ gapIn (circlesIn c.now n_sets) mask j (get_or phi.now (j * 32 + a) nan) (get_or phi.now (j * 32 + b) nan)) result
+    ensures listing { Listing (circles_in c.now n_sets) counts.now phi.now n_sets mask
+        (arcs_of (circles_in c.now n_sets) counts.now phi.now k list.old
+        ++ gap_in (circles_in c.now n_sets) mask j (get_or phi.now (j * 32 + a) nan) (get_or phi.now (j * 32 + b) nan)) result
         list.new }
 {
     let number = gap_number(mask, c, n_sets, j, counts[j], a, b, phi, lets);
@@ -85,13 +85,13 @@ fn list_head(
     k: usize,
 ) -> usize
     requires n_sets_bound { (n_sets ≤ 10) × ((j < n_sets) × ((mask < 2 ^ n_sets) × (in_set mask j ≡ true))) }
-    requires head_ready { HeadReady (circlesIn c.now n_sets) counts.now owners.now phi.now lets.now j }
-    requires k_bound { (k ≤ j * 32) × Listing (circlesIn c.now n_sets) counts.now phi.now n_sets mask
-        (arcsOf (circlesIn c.now n_sets) counts.now phi.now k list.old) k list.old }
+    requires head_ready { HeadReady (circles_in c.now n_sets) counts.now owners.now phi.now lets.now j }
+    requires k_bound { (k ≤ j * 32) × Listing (circles_in c.now n_sets) counts.now phi.now n_sets mask
+        (arcs_of (circles_in c.now n_sets) counts.now phi.now k list.old) k list.old }
     ensures upper_bound { result ≤ j * 32 + 32 }
-    ensures listing { Listing (circlesIn c.now n_sets) counts.now phi.now n_sets mask
-        (arcsOf (circlesIn c.now n_sets) counts.now phi.now k list.old
-        ++ headIn (circlesIn c.now n_sets) mask j (anglesIn mask (marksIn counts.now phi.now adopters.now j))) result
+    ensures listing { Listing (circles_in c.now n_sets) counts.now phi.now n_sets mask
+        (arcs_of (circles_in c.now n_sets) counts.now phi.now k list.old
+        ++ head_in (circles_in c.now n_sets) mask j (angles_in mask (marks_in counts.now phi.now adopters.now j))) result
         list.new }
 {
     let at = j * 32;
@@ -134,10 +134,10 @@ pub(crate) fn walk(
     list: &mut [usize; 320],
 ) -> usize
     requires n_sets_bound { (n_sets ≤ 10) × ((mask < 2 ^ n_sets) × (length list.old ≡ 320)) }
-    requires ready { Ready (circlesIn c.now n_sets) mask counts.now owners.now phi.now lets.now }
+    requires ready { Ready (circles_in c.now n_sets) mask counts.now owners.now phi.now lets.now }
     ensures upper_bound { result ≤ 320 }
-    ensures listing { Listing (circlesIn c.now n_sets) counts.now phi.now n_sets mask
-        (arcsBy (circlesIn c.now n_sets) (marksIn counts.now phi.now adopters.now) mask) result list.new }
+    ensures listing { Listing (circles_in c.now n_sets) counts.now phi.now n_sets mask
+        (arcs_by (circles_in c.now n_sets) (marks_in counts.now phi.now adopters.now) mask) result list.new }
 {
     if usize::count_ones(mask) == 1 {
         list[0] = 320 + usize::trailing_zeros(mask) as usize;

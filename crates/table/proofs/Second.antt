@@ -9,22 +9,22 @@ use lib.Ieee.{Float}
 use lib.ListN.{length}
 use lib.Pow.{pow_mono}
 use borrow.Author.Tests.{le-leb}
-use Rattle.exclusive.specs.Exclusive.{exclusiveTable}
+use Rattle.exclusive.specs.Exclusive.{exclusive_table}
 use Rattle.exclusive.proofs.Answers.{room}
-use Rattle.areas.specs.Exclusives.{toExclusives}
-use Rattle.regions.specs.Slices.{slicesOf, row_at, writtenNumbers}
+use Rattle.areas.specs.Exclusives.{to_exclusives}
+use Rattle.regions.specs.Slices.{slices_of, row_at, written_numbers}
 
 -- 2^n rows, at most 1024
-pub rows-count : (n count : ℕ) → n ≤ 10 → count ≡ cond (leb n 10) (2 ^ n) 0 → count ≡ 2 ^ n
-rows-count n count h e = e ∙ rw (le-leb n 10 h)
+pub rows_count : (n count : ℕ) → n ≤ 10 → count ≡ cond (leb n 10) (2 ^ n) 0 → count ≡ 2 ^ n
+rows_count n count h e = e ∙ rw (le-leb n 10 h)
 
-pub rows-most : (n : ℕ) → n ≤ 10 → 2 ^ n ≤ 1024
-rows-most n h = pow_mono {i = n} {j = 10} h
+pub rows_most : (n : ℕ) → n ≤ 10 → 2 ^ n ≤ 1024
+rows_most n h = pow_mono {i = n} {j = 10} h
 
 -- to_exclusive_areas over tables that have room writes the exclusives of their rows
 pub exclusives-written : (n : ℕ) (bytes : List ℕ) (numbers exclusives : List Float) → n ≤ 10
     → 2 ^ n ≤ length bytes → 2 ^ n ≤ length numbers → 2 ^ n ≤ length exclusives
-    → exclusiveTable n bytes numbers exclusives ≡ writtenNumbers (toExclusives.of n (row_at (slicesOf bytes numbers))) (2 ^ n) exclusives
+    → exclusive_table n bytes numbers exclusives ≡ written_numbers (to_exclusives.of n (row_at (slices_of bytes numbers))) (2 ^ n) exclusives
 exclusives-written n bytes numbers exclusives h a b c =
     let taken = room n (min (length bytes) (min (length numbers) (length exclusives))) h (omega arith) in
-    ap (λ answer. cond (eqb answer 0) (writtenNumbers (toExclusives.of n (row_at (slicesOf bytes numbers))) (2 ^ n) exclusives) exclusives) (sym taken)
+    ap (λ answer. cond (eqb answer 0) (written_numbers (to_exclusives.of n (row_at (slices_of bytes numbers))) (2 ^ n) exclusives) exclusives) (sym taken)

@@ -3,42 +3,42 @@
 -- promise them of the lent slices; the proofs are those of `regions`, for any way to work out a table.
 use Rattle.regions.specs.Demand.{AfreshWorks, ListEndsAfresh, EditReworksExactly, RefusedLeavesAll}
 use Rattle.regions.specs.Run.{AfreshBegins, RunEnds, SlicesRework}
-use Rattle.regions.proofs.Demand.{afresh-works, list-ends-afresh, edit-reworks-exactly, refused-leaves-all}
-use Rattle.regions.proofs.Run.{afresh-begins, run_ends, slices-rework}
-use Rattle.table.specs.Method.{clippedTable, openTable}
+use Rattle.regions.proofs.Demand.{afresh_works, list_ends_afresh, edit_reworks_exactly, refused_leaves_all}
+use Rattle.regions.proofs.Run.{afresh_begins, run_ends, slices_rework}
+use Rattle.table.specs.Method.{clipped_table, open_table}
 
 -- ---- the table as rows, each edit of a list with the lengths lent for it
 
 -- First half. From an accepted plan with its afresh rows, after any list of edits, refused ones included: the answers are the book's, the plan
 -- left is the book's, its rows are the book's afresh rows.
-pub table-list-ends-afresh : ListEndsAfresh clippedTable
-table-list-ends-afresh = list-ends-afresh clippedTable
+pub table_list_ends_afresh : ListEndsAfresh clipped_table
+table_list_ends_afresh = list_ends_afresh clipped_table
 
 -- Second half. At any table: a taken edit reworks exactly the rows it must and keeps every other number, even a false one.
-pub table-edit-reworks : EditReworksExactly clippedTable
-table-edit-reworks = edit-reworks-exactly clippedTable
+pub table_edit_reworks : EditReworksExactly clipped_table
+table_edit_reworks = edit_reworks_exactly clipped_table
 
 -- a refused edit leaves plan and tables
-pub table-refused-leaves-all : RefusedLeavesAll clippedTable
-table-refused-leaves-all = refused-leaves-all clippedTable
+pub table_refused_leaves_all : RefusedLeavesAll clipped_table
+table_refused_leaves_all = refused_leaves_all clipped_table
 
 -- the afresh call leaves the plan's afresh rows and their exclusives, in the box and without it
-pub table-afresh-works : AfreshWorks clippedTable
-table-afresh-works = afresh-works clippedTable
+pub table_afresh_works : AfreshWorks clipped_table
+table_afresh_works = afresh_works clipped_table
 
-pub open-afresh-works : AfreshWorks openTable
-open-afresh-works = afresh-works openTable
+pub open_afresh_works : AfreshWorks open_table
+open_afresh_works = afresh_works open_table
 
 -- ---- the lent slices of afresh, run and edit
 
 -- a taken afresh call leaves what the first half begins with
-pub table-afresh-begins : AfreshBegins clippedTable
-table-afresh-begins = afresh-begins clippedTable
+pub table_afresh_begins : AfreshBegins clipped_table
+table_afresh_begins = afresh_begins clipped_table
 
 -- first half, of every byte and number of the four slices
-pub table-run-ends : RunEnds clippedTable
-table-run-ends = run_ends clippedTable
+pub table_run_ends : RunEnds clipped_table
+table_run_ends = run_ends clipped_table
 
 -- second half
-pub table-slices-rework : SlicesRework clippedTable
-table-slices-rework = slices-rework clippedTable
+pub table_slices_rework : SlicesRework clipped_table
+table_slices_rework = slices_rework clipped_table

@@ -1,11 +1,11 @@
 // "Afresh: a plan alone gives rows 0 to 2^n - 1." In the box and without it.
 ghost use Rattle.std.specs.Prelude.{◌≡◌};
-ghost use Rattle.areas.specs.Sets.{planSets};
+ghost use Rattle.areas.specs.Sets.{plan_sets};
 ghost use Rattle.regions.proofs.Slices.{Room};
-ghost use Rattle.regions.specs.Slices.{tables_of, planSlices, step_of, afreshSlices};
-ghost use Rattle.table.specs.Method.{methodOver, clippedTable, openTable};
+ghost use Rattle.regions.specs.Slices.{tables_of, plan_slices, step_of, afresh_slices};
+ghost use Rattle.table.specs.Method.{method_over, clipped_table, open_table};
 ghost use Rattle.table.specs.Ready.{Of};
-ghost use Rattle.table.specs.Tables.{tablesWritten, afreshOver};
+ghost use Rattle.table.specs.Tables.{tables_written, afresh_over};
 
 use crate::ready::{Ready, ready_of, sets_of};
 use crate::rows::Change;
@@ -27,8 +27,8 @@ fn write_afresh(
 )
     requires { Room plan.n (tables_of presence.old rows.old exclusive_presence.old exclusives.old) × Of plan ready.clipped ready }
     ensures { tables_of presence.new rows.new exclusive_presence.new exclusives.new
-        ≡ tablesWritten plan.n
-        (afreshOver (methodOver ready.clipped planSets) plan sets.now)
+        ≡ tables_written plan.n
+        (afresh_over (method_over ready.clipped plan_sets) plan sets.now)
         (tables_of presence.old rows.old exclusive_presence.old exclusives.old) }
 {
     let ground = plan.ground;
@@ -56,9 +56,9 @@ fn work_out(
     exclusive_presence: &mut [u8],
     exclusives: &mut [f64],
 ) -> Answer
-    ensures { step_of (planSlices plan presence.new rows.new exclusive_presence.new exclusives.new) result
-        ≡ afreshSlices (methodOver clipped planSets)
-        (planSlices plan presence.old rows.old exclusive_presence.old exclusives.old) }
+    ensures { step_of (plan_slices plan presence.new rows.new exclusive_presence.new exclusives.new) result
+        ≡ afresh_slices (method_over clipped plan_sets)
+        (plan_slices plan presence.old rows.old exclusive_presence.old exclusives.old) }
 {
     let lent = lent_by(
         presence.len(),
@@ -94,9 +94,9 @@ pub fn afresh(
     exclusive_presence: &mut [u8],
     exclusives: &mut [f64],
 ) -> Answer
-    ensures { step_of (planSlices plan presence.new rows.new exclusive_presence.new exclusives.new) result
-        ≡ afreshSlices clippedTable
-        (planSlices plan presence.old rows.old exclusive_presence.old exclusives.old) }
+    ensures { step_of (plan_slices plan presence.new rows.new exclusive_presence.new exclusives.new) result
+        ≡ afresh_slices clipped_table
+        (plan_slices plan presence.old rows.old exclusive_presence.old exclusives.old) }
 {
     work_out(plan, true, presence, rows, exclusive_presence, exclusives)
 }
@@ -109,9 +109,9 @@ pub fn open_afresh(
     exclusive_presence: &mut [u8],
     exclusives: &mut [f64],
 ) -> Answer
-    ensures { step_of (planSlices plan presence.new rows.new exclusive_presence.new exclusives.new) result
-        ≡ afreshSlices openTable
-        (planSlices plan presence.old rows.old exclusive_presence.old exclusives.old) }
+    ensures { step_of (plan_slices plan presence.new rows.new exclusive_presence.new exclusives.new) result
+        ≡ afresh_slices open_table
+        (plan_slices plan presence.old rows.old exclusive_presence.old exclusives.old) }
 {
     work_out(plan, false, presence, rows, exclusive_presence, exclusives)
 }

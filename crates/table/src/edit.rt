@@ -4,10 +4,10 @@ ghost use Rattle.plan.specs.Book.{applied};
 ghost use Rattle.plan.specs.declared.Answer.TheVariants.{Taken};
 ghost use Rattle.regions.proofs.Slices.{Room};
 ghost use Rattle.regions.specs.Demand.{Reworks};
-ghost use Rattle.regions.specs.Slices.{slicesOf, row_at, tables_of, planSlices, step_of, editSlices};
-ghost use Rattle.table.specs.Method.{clippedTable};
+ghost use Rattle.regions.specs.Slices.{slices_of, row_at, tables_of, plan_slices, step_of, edit_slices};
+ghost use Rattle.table.specs.Method.{clipped_table};
 ghost use Rattle.table.specs.Ready.{Of};
-ghost use Rattle.table.specs.Tables.{editOf, changeOf, tablesWritten, editedOver};
+ghost use Rattle.table.specs.Tables.{edit_of, change_of, tables_written, edited_over};
 
 use crate::met::met_by;
 use crate::ready::{Ready, ready_of, sets_of};
@@ -21,7 +21,7 @@ use plan::{Answer, Edit, Plan};
 // The edited head, and the heads that it meets before or after.
 fn change_of(plan: Plan, edit: Edit) -> Change
     requires { (plan.n ≤ 10) × (edit.head < plan.n) }
-    ensures { result ≡ changeOf plan edit }
+    ensures { result ≡ change_of plan edit }
 {
     let k = edit.head;
     let heads = plan.heads;
@@ -51,8 +51,8 @@ fn write_edited(
     requires { Room plan.n (tables_of presence.old rows.old exclusive_presence.old exclusives.old) × (edit.head < plan.n)
         × Of (applied plan edit) true ready }
     ensures { tables_of presence.new rows.new exclusive_presence.new exclusives.new
-        ≡ tablesWritten plan.n
-        (editedOver clippedTable plan edit earlier.now later.now (row_at (slicesOf presence.old rows.old)))
+        ≡ tables_written plan.n
+        (edited_over clipped_table plan edit earlier.now later.now (row_at (slices_of presence.old rows.old)))
         (tables_of presence.old rows.old exclusive_presence.old exclusives.old) }
 {
     let change = change_of(plan, edit);
@@ -78,9 +78,9 @@ pub fn edit_one(
     exclusive_presence: &mut [u8],
     exclusives: &mut [f64],
 ) -> Booked
-    ensures { step_of (planSlices result.plan presence.new rows.new exclusive_presence.new exclusives.new) result.answer
-        ≡ editSlices clippedTable
-        (planSlices plan presence.old rows.old exclusive_presence.old exclusives.old) edit }
+    ensures { step_of (plan_slices result.plan presence.new rows.new exclusive_presence.new exclusives.new) result.answer
+        ≡ edit_slices clipped_table
+        (plan_slices plan presence.old rows.old exclusive_presence.old exclusives.old) edit }
 {
     let lent = lent_by(
         presence.len(),
@@ -132,13 +132,13 @@ pub fn edit(
     exclusive_presence: &mut [u8],
     exclusives: &mut [f64],
 ) -> Booked
-    ensures answer_after { step_of (planSlices result.plan presence.new rows.new exclusive_presence.new exclusives.new) result.answer
-        ≡ editSlices clippedTable
-        (planSlices plan presence.old rows.old exclusive_presence.old exclusives.old) (editOf head x y radius) }
+    ensures answer_after { step_of (plan_slices result.plan presence.new rows.new exclusive_presence.new exclusives.new) result.answer
+        ≡ edit_slices clipped_table
+        (plan_slices plan presence.old rows.old exclusive_presence.old exclusives.old) (edit_of head x y radius) }
     ensures reworks { result.answer ≡ Taken
-        → Reworks clippedTable plan (editOf head x y radius)
-        (row_at (slicesOf presence.old rows.old))
-        (row_at (slicesOf presence.new rows.new)) }
+        → Reworks clipped_table plan (edit_of head x y radius)
+        (row_at (slices_of presence.old rows.old))
+        (row_at (slices_of presence.new rows.new)) }
 {
     let asked = Edit {
         head: head,

@@ -1,8 +1,8 @@
 // The second table: "Exclusives go to a second table, worked out from the first."
 ghost use Rattle.std.specs.Prelude.{◌≡◌, ◌≤◌, ◌^◌, get_or, length};
 ghost use Rattle.lists.specs.Written.{written};
-ghost use Rattle.areas.specs.Exclusives.{toExclusives};
-ghost use Rattle.regions.specs.Slices.{slicesOf, row_at, writtenBytes, writtenNumbers};
+ghost use Rattle.areas.specs.Exclusives.{to_exclusives};
+ghost use Rattle.regions.specs.Slices.{slices_of, row_at, written_bytes, written_numbers};
 
 use exclusive::areas::to_exclusive_areas;
 use plan::rows_needed;
@@ -30,9 +30,9 @@ pub(crate) fn write_exclusives(
     requires { (n ≤ 10) × (2 ^ n ≤ length presence.now) × (2 ^ n ≤ length rows.now) × (2 ^ n ≤ length exclusive_presence.old)
         × (2 ^ n ≤ length exclusives.old) }
     ensures exclusive_presence_after { exclusive_presence.new
-        ≡ writtenBytes (toExclusives.of n (row_at (slicesOf presence.now rows.now))) (2 ^ n) exclusive_presence.old }
+        ≡ written_bytes (to_exclusives.of n (row_at (slices_of presence.now rows.now))) (2 ^ n) exclusive_presence.old }
     ensures exclusives_after { exclusives.new
-        ≡ writtenNumbers (toExclusives.of n (row_at (slicesOf presence.now rows.now))) (2 ^ n) exclusives.old }
+        ≡ written_numbers (to_exclusives.of n (row_at (slices_of presence.now rows.now))) (2 ^ n) exclusives.old }
 {
     copy_bytes(presence, exclusive_presence, rows_needed(n));
     to_exclusive_areas(presence, rows, exclusives, n);

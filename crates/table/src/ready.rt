@@ -39,7 +39,7 @@ pub(crate) fn ready_of(plan: Plan, clipped: bool) -> Ready
 
 // The presence bytes of a plan's sets, from what its rows are worked out from.
 pub(crate) fn sets_of(ready: Ready) -> [u8; 1024]
-    ensures { result ≡ spec.setsIn ready }
+    ensures { result ≡ spec.sets_in ready }
 {
     let circles = ready.circles;
     let points = ready.points;

@@ -34,7 +34,7 @@ fn is_reworked(change: Change, was: u8, mask: usize) -> bool
 
 // Whether row `mask` is worked out, by its bytes among the sets before and after. Row 0 never is.
 fn is_worked_out(change: Change, was: u8, is: u8, mask: usize) -> bool
-    ensures { result ≡ spec.workedOut change (λ S. eqb was 1) (λ S. eqb is 1) mask }
+    ensures { result ≡ spec.worked_out change (λ S. eqb was 1) (λ S. eqb is 1) mask }
 {
     if mask == 0 {
         return false;
@@ -53,7 +53,7 @@ fn rows_worked_out(
     count: usize,
 ) -> [u8; 1024]
     requires { count ≤ 1024 }
-    ensures { result ≡ written (λ S. byte (spec.workedOut change (stands earlier.now) (stands later.now) S)) count (replicate 1024 0) }
+    ensures { result ≡ written (λ S. byte (spec.worked_out change (stands earlier.now) (stands later.now) S)) count (replicate 1024 0) }
 {
     let mut wanted = [0u8; 1024];
     let mut mask: usize = 0;
@@ -79,10 +79,10 @@ pub(crate) fn write_rows(
 )
     requires { (ready.n ≤ 10) × (count ≡ 2 ^ ready.n) × (count ≤ length presence.old) × (count ≤ length rows.old) }
     ensures presence_after { presence.new
-        ≡ written (λ S. (spec.rowsWritten ready change earlier.now later.now presence.old rows.old S).byte)
+        ≡ written (λ S. (spec.rows_written ready change earlier.now later.now presence.old rows.old S).byte)
         count presence.old }
     ensures rows_after { rows.new
-        ≡ written (λ S. (spec.rowsWritten ready change earlier.now later.now presence.old rows.old S).number)
+        ≡ written (λ S. (spec.rows_written ready change earlier.now later.now presence.old rows.old S).number)
         count rows.old }
 {
     let clipped = ready.clipped;

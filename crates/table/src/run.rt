@@ -1,8 +1,8 @@
 // A list of edits, one after the other: demand 3's list on the code.
 ghost use Rattle.std.specs.Prelude.{◌≡◌, ◌<◌, length};
 ghost use Rattle.regions.specs.Run as list;
-ghost use Rattle.regions.specs.Slices.{planSlices};
-ghost use Rattle.table.specs.Method.{clippedTable};
+ghost use Rattle.regions.specs.Slices.{plan_slices};
+ghost use Rattle.table.specs.Method.{clipped_table};
 
 use crate::edit::edit_one;
 use plan::{Edit, Plan, answer_number, shorter};
@@ -17,7 +17,7 @@ pub struct Ran {
 // Edit i of four lists.
 fn edit_at(head: &[usize], x: &[i32], y: &[i32], radius: &[i32], i: usize) -> Edit
     requires { (i < length head.now) × (i < length x.now) × (i < length y.now) × (i < length radius.now) }
-    ensures { result ≡ list.editAt head.now x.now y.now radius.now i }
+    ensures { result ≡ list.edit_at head.now x.now y.now radius.now i }
 {
     Edit {
         head: head[i],
@@ -41,10 +41,10 @@ pub fn run(
     exclusive_presence: &mut [u8],
     exclusives: &mut [f64],
 ) -> Ran
-    ensures { list.Ran clippedTable
-        (planSlices plan presence.old rows.old exclusive_presence.old exclusives.old)
+    ensures { list.Ran clipped_table
+        (plan_slices plan presence.old rows.old exclusive_presence.old exclusives.old)
         head.now x.now y.now radius.now answers.old
-        result.count (planSlices result.plan presence.new rows.new exclusive_presence.new exclusives.new)
+        result.count (plan_slices result.plan presence.new rows.new exclusive_presence.new exclusives.new)
         answers.new }
 {
     let count = shorter(

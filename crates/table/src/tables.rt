@@ -4,8 +4,8 @@ ghost use Rattle.std.specs.Prelude.{◌≡◌, [], ◌∷◌};
 ghost use Rattle.plan.specs.Table.{lent_by};
 ghost use Rattle.regions.proofs.Slices.{Room};
 ghost use Rattle.regions.specs.Slices.{tables_of};
-ghost use Rattle.table.specs.Rows.{rowsWritten};
-ghost use Rattle.table.specs.Tables.{tablesWritten};
+ghost use Rattle.table.specs.Rows.{rows_written};
+ghost use Rattle.table.specs.Tables.{tables_written};
 
 use crate::exclusives::write_exclusives;
 use crate::ready::Ready;
@@ -38,8 +38,8 @@ pub(crate) fn write_tables(
 )
     requires { Room ready.n (tables_of presence.old rows.old exclusive_presence.old exclusives.old) }
     ensures { tables_of presence.new rows.new exclusive_presence.new exclusives.new
-        ≡ tablesWritten ready.n
-        (rowsWritten ready change earlier.now later.now presence.old rows.old)
+        ≡ tables_written ready.n
+        (rows_written ready change earlier.now later.now presence.old rows.old)
         (tables_of presence.old rows.old exclusive_presence.old exclusives.old) }
 {
     let count = rows_needed(ready.n);

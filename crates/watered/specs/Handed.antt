@@ -3,30 +3,30 @@ use Rattle.std.specs.Prelude.{ℕ, ◌+◌, ◌*◌, List, [], ◌∷◌, ℤ, p
 use Rattle.heads.specs.declared.Head.{Head}
 use Rattle.plan.specs.declared.Ground.{Ground}
 use Rattle.plan.specs.declared.Plan.{Plan}
-use Rattle.plan.specs.Limits.{noHead}
+use Rattle.plan.specs.Limits.{no_head}
 
 -- head i: x, y and radius of each in turn
 unfoldable pub head_of : List ℤ → ℕ → Head
 head_of l i = record { x = get_or l (i * 3) (pos 0); y = get_or l (i * 3 + 1) (pos 0); radius = get_or l (i * 3 + 2) (pos 0) }
 
 -- the ten of them
-abbrev pub headsOf : List ℤ → List Head
-headsOf l =
+abbrev pub heads_of : List ℤ → List Head
+heads_of l =
     head_of l 0 ∷ head_of l 1 ∷ head_of l 2 ∷ head_of l 3 ∷ head_of l 4
     ∷ head_of l 5 ∷ head_of l 6 ∷ head_of l 7 ∷ head_of l 8 ∷ head_of l 9 ∷ []
 
 -- the box: centre x, centre y, width, height
-unfoldable pub groundOf : List ℤ → Ground
-groundOf l = record { x = get_or l 0 (pos 0); y = get_or l 1 (pos 0); width = get_or l 2 (pos 0); height = get_or l 3 (pos 0) }
+unfoldable pub ground_of : List ℤ → Ground
+ground_of l = record { x = get_or l 0 (pos 0); y = get_or l 1 (pos 0); width = get_or l 2 (pos 0); height = get_or l 3 (pos 0) }
 
 unfoldable pub plan_of : ℕ → List ℤ → List ℤ → Plan
-plan_of n box heads = record { ground = groundOf box; n = n; heads = headsOf heads }
+plan_of n box heads = record { ground = ground_of box; n = n; heads = heads_of heads }
 
 -- ten heads as numbers again
 abbrev pub three : Head → List ℤ → List ℤ
 three h rest = h.x ∷ h.y ∷ h.radius ∷ rest
 
-abbrev pub numbersOf : List Head → List ℤ
-numbersOf l =
-    three (get_or l 0 noHead) (three (get_or l 1 noHead) (three (get_or l 2 noHead) (three (get_or l 3 noHead) (three (get_or l 4 noHead)
-    (three (get_or l 5 noHead) (three (get_or l 6 noHead) (three (get_or l 7 noHead) (three (get_or l 8 noHead) (three (get_or l 9 noHead) [])))))))))
+abbrev pub numbers_of : List Head → List ℤ
+numbers_of l =
+    three (get_or l 0 no_head) (three (get_or l 1 no_head) (three (get_or l 2 no_head) (three (get_or l 3 no_head) (three (get_or l 4 no_head)
+    (three (get_or l 5 no_head) (three (get_or l 6 no_head) (three (get_or l 7 no_head) (three (get_or l 8 no_head) (three (get_or l 9 no_head) [])))))))))

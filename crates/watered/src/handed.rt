@@ -1,6 +1,6 @@
 // A plan as a C program hands it over, and its heads handed back. Rests on specs/Handed.antt.
 ghost use Rattle.std.specs.Prelude.{◌≡◌, ◌<◌};
-ghost use Rattle.plan.specs.Table.{answerNumber};
+ghost use Rattle.plan.specs.Table.{answer_number};
 ghost use Rattle.watered.specs.Handed as spec;
 
 use heads::Head;
@@ -19,7 +19,7 @@ fn head_of(numbers: &[i32; 30], i: usize) -> Head
 }
 
 fn heads_of(numbers: &[i32; 30]) -> [Head; 10]
-    ensures { result ≡ spec.headsOf numbers.now }
+    ensures { result ≡ spec.heads_of numbers.now }
 {
     [
         head_of(numbers, 0),
@@ -36,7 +36,7 @@ fn heads_of(numbers: &[i32; 30]) -> [Head; 10]
 }
 
 fn ground_of(sides: &[i32; 4]) -> Ground
-    ensures { result ≡ spec.groundOf sides.now }
+    ensures { result ≡ spec.ground_of sides.now }
 {
     Ground {
         x: sides[0],
@@ -60,7 +60,7 @@ pub(crate) fn plan_of(n: usize, sides: &[i32; 4], numbers: &[i32; 30]) -> Plan
 
 // The numbers of ten heads.
 pub(crate) fn numbers_of(heads: [Head; 10]) -> [i32; 30]
-    ensures { result ≡ spec.numbersOf heads }
+    ensures { result ≡ spec.numbers_of heads }
 {
     let a = heads[0];
     let b = heads[1];
@@ -87,7 +87,7 @@ fn wide(number: u8) -> u32
 
 // Document 01's number of an answer, 0 where it is taken.
 pub(crate) fn number_of(answer: Answer) -> u32
-    ensures { result ≡ answerNumber answer }
+    ensures { result ≡ answer_number answer }
 {
     wide(answer_number(answer))
 }

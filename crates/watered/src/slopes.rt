@@ -1,13 +1,13 @@
 // The C interface of exclusives with their gradients, and of what all heads of a plan water together. Each call is thin over the crates below.
 ghost use Rattle.std.specs.Prelude.{◌≡◌};
-ghost use Rattle.areas.specs.Sets.{planSets};
-ghost use Rattle.gradients.specs.Step.{gradientSlices, clippedStep, openStep};
+ghost use Rattle.areas.specs.Sets.{plan_sets};
+ghost use Rattle.gradients.specs.Step.{gradient_slices, clipped_step, open_step};
 ghost use Rattle.overlaps.specs.Overlap.{overlap as overlapArea};
-ghost use Rattle.drawn.specs.Drawn.{planCircles};
-ghost use Rattle.plan.specs.Checks.{planAnswer};
-ghost use Rattle.plan.specs.Table.{answerNumber};
+ghost use Rattle.drawn.specs.Drawn.{plan_circles};
+ghost use Rattle.plan.specs.Checks.{plan_answer};
+ghost use Rattle.plan.specs.Table.{answer_number};
 ghost use Rattle.watered.specs.Handed as spec;
-ghost use Rattle.watered.specs.Overlap.{overlapLeft};
+ghost use Rattle.watered.specs.Overlap.{overlap_left};
 
 use crate::handed::{number_of, plan_of};
 use drawn::circles_of;
@@ -26,8 +26,8 @@ pub extern "C" fn watered_gradients(
     exclusives: &mut [f64],
     gradients: &mut [f64],
 ) -> u32
-    ensures value { result ≡ answerNumber (clippedStep planSets (spec.plan_of n sides.now heads.now) (gradientSlices presence.old exclusives.old gradients.old)).answer }
-    ensures gradients_after { gradientSlices presence.new exclusives.new gradients.new ≡ (clippedStep planSets (spec.plan_of n sides.now heads.now) (gradientSlices presence.old exclusives.old gradients.old)).left }
+    ensures value { result ≡ answer_number (clipped_step plan_sets (spec.plan_of n sides.now heads.now) (gradient_slices presence.old exclusives.old gradients.old)).answer }
+    ensures gradients_after { gradient_slices presence.new exclusives.new gradients.new ≡ (clipped_step plan_sets (spec.plan_of n sides.now heads.now) (gradient_slices presence.old exclusives.old gradients.old)).left }
 {
     let plan = plan_of(n, sides, heads);
     let answer = gradients::gradients(plan, presence, exclusives, gradients);
@@ -44,8 +44,8 @@ pub extern "C" fn watered_open_gradients(
     exclusives: &mut [f64],
     gradients: &mut [f64],
 ) -> u32
-    ensures value { result ≡ answerNumber (openStep planSets (spec.plan_of n sides.now heads.now) (gradientSlices presence.old exclusives.old gradients.old)).answer }
-    ensures gradients_after { gradientSlices presence.new exclusives.new gradients.new ≡ (openStep planSets (spec.plan_of n sides.now heads.now) (gradientSlices presence.old exclusives.old gradients.old)).left }
+    ensures value { result ≡ answer_number (open_step plan_sets (spec.plan_of n sides.now heads.now) (gradient_slices presence.old exclusives.old gradients.old)).answer }
+    ensures gradients_after { gradient_slices presence.new exclusives.new gradients.new ≡ (open_step plan_sets (spec.plan_of n sides.now heads.now) (gradient_slices presence.old exclusives.old gradients.old)).left }
 {
     let plan = plan_of(n, sides, heads);
     let answer = gradients::open_gradients(plan, presence, exclusives, gradients);
@@ -54,7 +54,7 @@ pub extern "C" fn watered_open_gradients(
 
 // The area that all heads of a plan water together, without the box.
 fn overlap_of(plan: Plan) -> f64
-    ensures { result ≡ overlapArea (planCircles plan) }
+    ensures { result ≡ overlapArea (plan_circles plan) }
 {
     compute_overlaps_circles(circles_of(plan), plan.n)
 }
@@ -68,8 +68,8 @@ pub extern "C" fn watered_overlap(
     heads: &[i32; 30],
     overlap: &mut f64,
 ) -> u32
-    ensures value { result ≡ answerNumber (planAnswer (spec.plan_of n sides.now heads.now)) }
-    ensures overlap_after { overlap.new ≡ overlapLeft (spec.plan_of n sides.now heads.now) overlap.old }
+    ensures value { result ≡ answer_number (plan_answer (spec.plan_of n sides.now heads.now)) }
+    ensures overlap_after { overlap.new ≡ overlap_left (spec.plan_of n sides.now heads.now) overlap.old }
 {
     let plan = plan_of(n, sides, heads);
     let number = number_of(check(plan));

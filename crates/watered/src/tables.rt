@@ -1,9 +1,9 @@
 // The C interface of a plan's tables: afresh, without the box, and edited. Each call is thin over crate `table`, whose definitions it has.
 ghost use Rattle.std.specs.Prelude.{◌≡◌};
-ghost use Rattle.plan.specs.Table.{answerNumber};
-ghost use Rattle.regions.specs.Slices.{tables_of, planSlices, afreshSlices, editSlices};
-ghost use Rattle.table.specs.Method.{clippedTable, openTable};
-ghost use Rattle.table.specs.Tables.{editOf};
+ghost use Rattle.plan.specs.Table.{answer_number};
+ghost use Rattle.regions.specs.Slices.{tables_of, plan_slices, afresh_slices, edit_slices};
+ghost use Rattle.table.specs.Method.{clipped_table, open_table};
+ghost use Rattle.table.specs.Tables.{edit_of};
 ghost use Rattle.watered.specs.Handed as spec;
 ghost use Rattle.watered.specs.Run.{Ran};
 
@@ -21,8 +21,8 @@ pub extern "C" fn watered_afresh(
     exclusive_presence: &mut [u8],
     exclusives: &mut [f64],
 ) -> u32
-    ensures value { result ≡ answerNumber (afreshSlices clippedTable (planSlices (spec.plan_of n sides.now heads.now) presence.old rows.old exclusive_presence.old exclusives.old)).answer }
-    ensures exclusives_after { tables_of presence.new rows.new exclusive_presence.new exclusives.new ≡ (afreshSlices clippedTable (planSlices (spec.plan_of n sides.now heads.now) presence.old rows.old exclusive_presence.old exclusives.old)).left.tables }
+    ensures value { result ≡ answer_number (afresh_slices clipped_table (plan_slices (spec.plan_of n sides.now heads.now) presence.old rows.old exclusive_presence.old exclusives.old)).answer }
+    ensures exclusives_after { tables_of presence.new rows.new exclusive_presence.new exclusives.new ≡ (afresh_slices clipped_table (plan_slices (spec.plan_of n sides.now heads.now) presence.old rows.old exclusive_presence.old exclusives.old)).left.tables }
 {
     let plan = plan_of(n, sides, heads);
     let answer = table::afresh::afresh(plan, presence, rows, exclusive_presence, exclusives);
@@ -40,8 +40,8 @@ pub extern "C" fn watered_open_afresh(
     exclusive_presence: &mut [u8],
     exclusives: &mut [f64],
 ) -> u32
-    ensures value { result ≡ answerNumber (afreshSlices openTable (planSlices (spec.plan_of n sides.now heads.now) presence.old rows.old exclusive_presence.old exclusives.old)).answer }
-    ensures exclusives_after { tables_of presence.new rows.new exclusive_presence.new exclusives.new ≡ (afreshSlices openTable (planSlices (spec.plan_of n sides.now heads.now) presence.old rows.old exclusive_presence.old exclusives.old)).left.tables }
+    ensures value { result ≡ answer_number (afresh_slices open_table (plan_slices (spec.plan_of n sides.now heads.now) presence.old rows.old exclusive_presence.old exclusives.old)).answer }
+    ensures exclusives_after { tables_of presence.new rows.new exclusive_presence.new exclusives.new ≡ (afresh_slices open_table (plan_slices (spec.plan_of n sides.now heads.now) presence.old rows.old exclusive_presence.old exclusives.old)).left.tables }
 {
     let plan = plan_of(n, sides, heads);
     let answer = table::afresh::open_afresh(plan, presence, rows, exclusive_presence, exclusives);
@@ -64,9 +64,9 @@ pub extern "C" fn watered_edit(
     exclusive_presence: &mut [u8],
     exclusives: &mut [f64],
 ) -> u32
-    ensures value { result ≡ answerNumber (editSlices clippedTable (planSlices (spec.plan_of n sides.now heads.old) presence.old rows.old exclusive_presence.old exclusives.old) (editOf head x y radius)).answer }
-    ensures heads_after { heads.new ≡ spec.numbersOf (editSlices clippedTable (planSlices (spec.plan_of n sides.now heads.old) presence.old rows.old exclusive_presence.old exclusives.old) (editOf head x y radius)).left.plan.heads }
-    ensures exclusives_after { tables_of presence.new rows.new exclusive_presence.new exclusives.new ≡ (editSlices clippedTable (planSlices (spec.plan_of n sides.now heads.old) presence.old rows.old exclusive_presence.old exclusives.old) (editOf head x y radius)).left.tables }
+    ensures value { result ≡ answer_number (edit_slices clipped_table (plan_slices (spec.plan_of n sides.now heads.old) presence.old rows.old exclusive_presence.old exclusives.old) (edit_of head x y radius)).answer }
+    ensures heads_after { heads.new ≡ spec.numbers_of (edit_slices clipped_table (plan_slices (spec.plan_of n sides.now heads.old) presence.old rows.old exclusive_presence.old exclusives.old) (edit_of head x y radius)).left.plan.heads }
+    ensures exclusives_after { tables_of presence.new rows.new exclusive_presence.new exclusives.new ≡ (edit_slices clipped_table (plan_slices (spec.plan_of n sides.now heads.old) presence.old rows.old exclusive_presence.old exclusives.old) (edit_of head x y radius)).left.tables }
 {
     let plan = plan_of(n, sides, heads);
     let booked = table::edit::edit(
@@ -104,8 +104,8 @@ pub extern "C" fn watered_run(
     exclusive_presence: &mut [u8],
     exclusives: &mut [f64],
 ) -> usize
-    ensures { Ran clippedTable
-        (planSlices (spec.plan_of n sides.now heads.old) presence.old rows.old exclusive_presence.old exclusives.old)
+    ensures { Ran clipped_table
+        (plan_slices (spec.plan_of n sides.now heads.old) presence.old rows.old exclusive_presence.old exclusives.old)
         edit_heads.now x.now y.now radius.now answers.old
         result heads.new (tables_of presence.new rows.new exclusive_presence.new exclusives.new)
         answers.new }

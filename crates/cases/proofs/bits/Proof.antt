@@ -7,7 +7,7 @@ use lib.Signed.{le_z}
 use borrow.Author.Rules.{rules}
 use mir.Syntax.{w32}
 use mir.Facts.{to_z-of_z, Fits-nat_abs}
-use Rattle.cases.proofs.Laws.{not-below, Below, below}
+use Rattle.cases.proofs.Laws.{not_below, Below, below}
 use Rattle.cases.proofs.bits.Statement.{statement}
 use Rattle.cases.proofs.bits.Tie as tie
 
@@ -15,7 +15,7 @@ cast-result : tie.Need-overflow-cast-result
 cast-result c =
     let back = to_z-of_z c.before.ranges.z in
     let high : le_z (pos 0) c.before.args.z ≡ true = simp back at c.if1.true in
-    rw back (not-below c.before.args.z high, Fits-nat_abs {w = w32} {w' = w32} tt c.before.ranges.z)
+    rw back (not_below c.before.args.z high, Fits-nat_abs {w = w32} {w' = w32} tt c.before.ranges.z)
 
 -- the number is below zero
 low : (c : tie.Else1) → Below c.before.args.z

@@ -1,12 +1,12 @@
 -- `box_of`: the definition opened, and what the two makers give put in its place.
 use borrow.Author.Rules.{rules}
 use Rattle.heads.proofs.Signed.{read_back}
-use Rattle.drawn.specs.Drawn.{boxOf}
+use Rattle.drawn.specs.Drawn.{box_of}
 use Rattle.drawn.proofs.box_of.Statement.{statement}
 use Rattle.drawn.proofs.box_of.Tie as tie
 
 returns : tie.Need-returns
-unfolding boxOf
+unfolding box_of
 returns c =
     let ground = c.before.before.before.before.before.before.before.before.before.before.args.ground in
     let told = c.before.struct-told4.given in

@@ -7,21 +7,21 @@ use native.Mathlib.Omega.{arith}
 use lib.ListN.{length, get_or, take, replicate}
 use lib.Seq.{take_all}
 use Rattle.lists.specs.Written.{written}
-use Rattle.lists.proofs.Writing.{written_none, write-next, written-whole, length-written, tab-map}
+use Rattle.lists.proofs.Writing.{written_none, write_next, written_whole, length_written, tab_map}
 use Rattle.heads.specs.declared.Head.{Head}
-use Rattle.plan.specs.Limits.{noHead}
+use Rattle.plan.specs.Limits.{no_head}
 use Rattle.geometry.specs.declared.circle.Circle.{Circle}
-use Rattle.exact.specs.Circle.{circleOf}
+use Rattle.exact.specs.Circle.{circle_of}
 use Rattle.drawn.proofs.circles_of_heads.Statement.{statement}
 use Rattle.drawn.proofs.circles_of_heads.Tie as tie
 
 -- the circle of head i of ten
 abbrev drawn : List Head → ℕ → Circle
-drawn heads i = circleOf (get_or heads i noHead)
+drawn heads i = circle_of (get_or heads i no_head)
 
 record Drawn (heads : List Head) (circles₀ circles : List Circle) (i : ℕ) : Type 0 where
-  ten-heads : length heads ≡ 10
-  ten-circles : length circles₀ ≡ 10
+  ten_heads : length heads ≡ 10
+  ten_circles : length circles₀ ≡ 10
   most : i ≤ 10
   so_far : circles ≡ written (drawn heads) i circles₀
 
@@ -36,7 +36,7 @@ ten : (c : tie.Start invariant-loop decreases-loop) → length c.args.t1 ≡ 10
 ten c = search rules
 
 loop-holds : tie.Need-loop-init invariant-loop decreases-loop
-loop-holds c = record { ten-heads = ten c.before.before; ten-circles = refl; most = omega arith; so_far = written_none _ _ }
+loop-holds c = record { ten_heads = ten c.before.before; ten_circles = refl; most = omega arith; so_far = written_none _ _ }
 
 loop-again : tie.Need-loop-preserved invariant-loop decreases-loop
 loop-again c =
@@ -44,12 +44,12 @@ loop-again c =
     let heads = c.before.before.before.before.before.before.args.t1 in
     let nowhere = c.before.before.before.before.new2.result in
     record {
-      ten-heads = l.invariant.ten-heads;
-      ten-circles = l.invariant.ten-circles;
+      ten_heads = l.invariant.ten-heads;
+      ten_circles = l.invariant.ten-circles;
       most = omega arith;
       so_far =
           rw l.invariant.so_far
-          (write-next (drawn heads) l.i (replicate 10 nowhere) c.circle-of.result c.circle-of.result (omega arith) c.circle-of.ensures);
+          (write_next (drawn heads) l.i (replicate 10 nowhere) c.circle-of.result c.circle-of.result (omega arith) c.circle-of.ensures);
     }
 
 returns : tie.Need-returns invariant-loop decreases-loop
@@ -59,9 +59,9 @@ returns c =
     let heads = c.before.before.before.before.args.t1 in
     let nowhere = c.before.before.new2.result in
     inv.so_far
-    ∙ written-whole (drawn heads) i 10 (replicate 10 nowhere) (omega (arith, inv.most)) inv.ten-circles
-    ∙ tab-map circleOf heads noHead 10 (omega (arith, inv.ten-heads))
-    ∙ ap (map circleOf) (take_all 10 heads (omega (arith, inv.ten-heads)))
+    ∙ written_whole (drawn heads) i 10 (replicate 10 nowhere) (omega (arith, inv.most)) inv.ten-circles
+    ∙ tab_map circle_of heads no_head 10 (omega (arith, inv.ten-heads))
+    ∙ ap (map circle_of) (take_all 10 heads (omega (arith, inv.ten-heads)))
 
 pub circles-of-heads-spec : {M : Type 1} → statement M
 circles-of-heads-spec =

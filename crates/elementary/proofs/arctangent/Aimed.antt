@@ -4,16 +4,16 @@ use Rattle.std.proofs.Common.{◌≡◌, ℕ, ◌+◌, ◌-◌, ◌*◌, ◌/◌
 use lib.Ieee.{Float, lt}
 use Rattle.series.specs.Fraction.{signed}
 use Rattle.series.specs.Kernel.{mulhi, horner}
-use Rattle.series.proofs.Integers.{◌⊖◌, parts, differences, dist, dist-⊖, dist-comm, dist-neg, size-near, abs-mul, neg-*ℤ}
-use Rattle.cells.specs.Arc.{arc, firstArc, arcs, quarterTurn, halfTurn}
+use Rattle.series.proofs.Integers.{◌⊖◌, parts, differences, dist, dist-⊖, dist_comm, dist_neg, size_near, abs_mul, neg-*ℤ}
+use Rattle.cells.specs.Arc.{arc, first_arc, arcs, quarter_turn, half_turn}
 use Rattle.cells.proofs.Plain.{val}
 use Rattle.cells.proofs.Tests.{sine80, cosine80, unit80, tick}
 use Rattle.cells.proofs.Cell.{Slanted, slanted}
-use Rattle.cells.proofs.Turns.{sine-odd, cosine-even, sine-at-quarter, cosine-at-quarter, sine-at-half, cosine-at-half, cosine-near-one}
+use Rattle.cells.proofs.Turns.{sine_odd, cosine_even, sine_at_quarter, cosine_at_quarter, sine_at_half, cosine_at_half, cosine_near_one}
 use Rattle.binary64.specs.Units.{mag, negative}
-use Rattle.elementary.specs.Arctangent.{tangent, firstQuarter, upperHalf}
+use Rattle.elementary.specs.Arctangent.{tangent, first_quarter, upper_half}
 use Rattle.elementary.specs.ArctangentSteps.{InQuarter, Ordered}
-use Rattle.elementary.proofs.arctangent.Slope.{below-diagonal, above-diagonal, tangent-small, tangent-above, tangent-below}
+use Rattle.elementary.proofs.arctangent.Slope.{below_diagonal, above_diagonal, tangent_small, tangent_above, tangent_below}
 use Rattle.elementary.proofs.arctangent.Good.{Good, good, swapped, mirrored, turned, moved, loosened}
 
 -- a is the angle in units of 2^-62
@@ -23,15 +23,15 @@ pub record Aimed (x y a : ℤ) (e D : ℕ) : Type 0 where
   pub points : Good x y (val sine80 place) (val cosine80 place) e D
 
 -- every angle in play is below 4
-turn_small : (halfTurn + 534) * tick ≤ 4 * 2 ^ 600
+turn_small : (half_turn + 534) * tick ≤ 4 * 2 ^ 600
 unfolding tick
-turn_small = leb→le ((halfTurn + 534) * 2 ^ 538) (4 * 2 ^ 600) tt
+turn_small = leb→le ((half_turn + 534) * 2 ^ 538) (4 * 2 ^ 600) tt
 
-pub place-small : {x y a : ℤ} {e D : ℕ} → nat_abs a ≤ halfTurn → (m : Aimed x y a e D) → nat_abs m.place ≤ 4 * 2 ^ 600
-place-small {a = a} l m =
-    le_trans (size-near m.place (a *ℤ pos tick))
-    (le_trans (add-le-add (le_trans (le_of_eq (abs-mul a (pos tick))) (mul-le-mul_right tick l)) (le_trans (le_of_eq (dist-comm m.place (a *ℤ pos tick))) m.near))
-    (le_trans (le_of_eq (sum halfTurn tick)) turn_small))
+pub place_small : {x y a : ℤ} {e D : ℕ} → nat_abs a ≤ half_turn → (m : Aimed x y a e D) → nat_abs m.place ≤ 4 * 2 ^ 600
+place_small {a = a} l m =
+    le_trans (size_near m.place (a *ℤ pos tick))
+    (le_trans (add-le-add (le_trans (le_of_eq (abs_mul a (pos tick))) (mul-le-mul_right tick l)) (le_trans (le_of_eq (dist_comm m.place (a *ℤ pos tick))) m.near))
+    (le_trans (le_of_eq (sum half_turn tick)) turn_small))
   where
     sum : (h t : ℕ) → h * t + 534 * t ≡ (h + 534) * t
     sum h t = omega arith
@@ -39,8 +39,8 @@ place-small {a = a} l m =
 -- ---- the laws
 
 -- (b - a) t against b t - z, where a t is near z
-less-near : (a b t k : ℕ) (z : ℤ) → a ≤ b → dist (pos a *ℤ pos t) z ≤ k → dist (pos (b - a) *ℤ pos t) (pos (b * t) -ℤ z) ≤ k
-less-near a b t k z l h =
+less_near : (a b t k : ℕ) (z : ℤ) → a ≤ b → dist (pos a *ℤ pos t) z ≤ k → dist (pos (b - a) *ℤ pos t) (pos (b * t) -ℤ z) ≤ k
+less_near a b t k z l h =
     let z' = parts z in
     subst (λ (w : ℤ). dist (pos (b - a) *ℤ pos t) (pos (b * t) -ℤ w) ≤ k) (sym z'.2) (at z'.0 z'.1 (b - a) (omega arith) (subst (λ (w : ℤ). dist (pos a *ℤ pos t) w ≤ k) z'.2 h))
   where
@@ -49,61 +49,61 @@ less-near a b t k z l h =
 
 module _ {x y : ℤ} {e D : ℕ} (a : ℕ) (m : Aimed x y (pos a) e D) (room : 64 * unit80 ≤ D) where
   -- a quarter turn less a points at (y, x)
-  pub quarter-less : a ≤ quarterTurn → Aimed y x (pos (quarterTurn - a)) (e + 64 * unit80) (D - 64 * unit80)
-  quarter-less l = record {
-    place = pos (quarterTurn * tick) -ℤ m.place;
-    near = less-near a quarterTurn tick (534 * tick) m.place l m.near;
-    points = moved (val sine80 (pos (quarterTurn * tick) -ℤ m.place)) (val cosine80 (pos (quarterTurn * tick) -ℤ m.place)) (64 * unit80) room (sine-at-quarter m.place small) (cosine-at-quarter m.place small) (swapped m.points);
+  pub quarter_less : a ≤ quarter_turn → Aimed y x (pos (quarter_turn - a)) (e + 64 * unit80) (D - 64 * unit80)
+  quarter_less l = record {
+    place = pos (quarter_turn * tick) -ℤ m.place;
+    near = less_near a quarter_turn tick (534 * tick) m.place l m.near;
+    points = moved (val sine80 (pos (quarter_turn * tick) -ℤ m.place)) (val cosine80 (pos (quarter_turn * tick) -ℤ m.place)) (64 * unit80) room (sine_at_quarter m.place small) (cosine_at_quarter m.place small) (swapped m.points);
   }
     where
       small : nat_abs m.place ≤ 4 * 2 ^ 600
-      small = place-small (le_trans l (leb→le quarterTurn halfTurn tt)) m
+      small = place_small (le_trans l (leb→le quarter_turn half_turn tt)) m
 
   -- half a turn less a points at (-x, y)
-  pub half-less : a ≤ halfTurn → Aimed (neg_ℤ x) y (pos (halfTurn - a)) (e + 64 * unit80) (D - 64 * unit80)
-  half-less l = record {
-    place = pos (halfTurn * tick) -ℤ m.place;
-    near = less-near a halfTurn tick (534 * tick) m.place l m.near;
-    points = moved (val sine80 (pos (halfTurn * tick) -ℤ m.place)) (val cosine80 (pos (halfTurn * tick) -ℤ m.place)) (64 * unit80) room (sine-at-half m.place small) (cosine-at-half m.place small) (mirrored m.points);
+  pub half_less : a ≤ half_turn → Aimed (neg_ℤ x) y (pos (half_turn - a)) (e + 64 * unit80) (D - 64 * unit80)
+  half_less l = record {
+    place = pos (half_turn * tick) -ℤ m.place;
+    near = less_near a half_turn tick (534 * tick) m.place l m.near;
+    points = moved (val sine80 (pos (half_turn * tick) -ℤ m.place)) (val cosine80 (pos (half_turn * tick) -ℤ m.place)) (64 * unit80) room (sine_at_half m.place small) (cosine_at_half m.place small) (mirrored m.points);
   }
     where
       small : nat_abs m.place ≤ 4 * 2 ^ 600
-      small = place-small l m
+      small = place_small l m
 
 -- -a points at (x, -y)
-pub below-axis : {x y a : ℤ} {e D : ℕ} → Aimed x y a e D → Aimed x (neg_ℤ y) (neg_ℤ a) e D
-below-axis {x} {y} {a} {e} {D} m = record {
+pub below_axis : {x y a : ℤ} {e D : ℕ} → Aimed x y a e D → Aimed x (neg_ℤ y) (neg_ℤ a) e D
+below_axis {x} {y} {a} {e} {D} m = record {
   place = neg_ℤ m.place;
-  near = le_trans (le_of_eq (ap (λ (z : ℤ). dist z (neg_ℤ m.place)) (neg-*ℤ a (pos tick)) ∙ dist-neg (a *ℤ pos tick) m.place)) m.near;
-  points = subst₂ (λ (s c : ℤ). Good x (neg_ℤ y) s c e D) (sym (sine-odd m.place)) (sym (cosine-even m.place)) (turned m.points);
+  near = le_trans (le_of_eq (ap (λ (z : ℤ). dist z (neg_ℤ m.place)) (neg-*ℤ a (pos tick)) ∙ dist_neg (a *ℤ pos tick) m.place)) m.near;
+  points = subst₂ (λ (s c : ℤ). Good x (neg_ℤ y) s c e D) (sym (sine_odd m.place)) (sym (cosine_even m.place)) (turned m.points);
 }
 
-pub aimed-looser : {x y a : ℤ} {e D : ℕ} (e' D' : ℕ) → e ≤ e' → D' ≤ D → Aimed x y a e D → Aimed x y a e' D'
-aimed-looser e' D' h k m = record { place = m.place; near = m.near; points = loosened e' D' h k m.points }
+pub aimed_looser : {x y a : ℤ} {e D : ℕ} (e' D' : ℕ) → e ≤ e' → D' ≤ D → Aimed x y a e D → Aimed x y a e' D'
+aimed_looser e' D' h k m = record { place = m.place; near = m.near; points = loosened e' D' h k m.points }
 
 -- ---- the recipe
 
 -- below the diagonal
-pub arc-aimed : {low high : Float} → Ordered low high → Aimed (pos (mag high)) (pos (mag low)) (pos (arc (tangent low high))) (1000 * unit80) (2 ^ 58 * unit80)
-arc-aimed {low} {high} o = record {
+pub arc_aimed : {low high : Float} → Ordered low high → Aimed (pos (mag high)) (pos (mag low)) (pos (arc (tangent low high))) (1000 * unit80) (2 ^ 58 * unit80)
+arc_aimed {low} {high} o = record {
   place = s.place;
   near = s.near;
-  points = good (tangent low high) (mag low) (mag high) unit80 (val sine80 s.place) (val cosine80 s.place) o.order (tangent-above o) (tangent-below o) s.short (cosine-near-one s.place s.small);
+  points = good (tangent low high) (mag low) (mag high) unit80 (val sine80 s.place) (val cosine80 s.place) o.order (tangent_above o) (tangent_below o) s.short (cosine_near_one s.place s.small);
 }
   where
     s : Slanted (tangent low high)
-    s = slanted (tangent low high) (tangent-small o)
+    s = slanted (tangent low high) (tangent_small o)
 
-first-bound : (z : ℕ) → horner firstArc arcs z ≤ 9223372036854775800
+first_bound : (z : ℕ) → horner first_arc arcs z ≤ 9223372036854775800
 unfolding horner
-first-bound z = sub-le firstArc _
+first_bound z = sub-le first_arc _
 
-pub arc-small : (n : ℕ) → n < 2 ^ 64 → arc n ≤ quarterTurn
+pub arc_small : (n : ℕ) → n < 2 ^ 64 → arc n ≤ quarter_turn
 unfolding arc
-arc-small n l = half (mulhi n h) (le_trans (cut (mulhi n h) h (div-mul-le_self (n * h) (2 ^ 64)) (mul-le-mul_right h (below n l))) (first-bound (mulhi n n)))
+arc_small n l = half (mulhi n h) (le_trans (cut (mulhi n h) h (div-mul-le_self (n * h) (2 ^ 64)) (mul-le-mul_right h (below n l))) (first_bound (mulhi n n)))
   where
     h : ℕ
-    h = horner firstArc arcs (mulhi n n)
+    h = horner first_arc arcs (mulhi n n)
 
     below : (n : ℕ) → n < 2 ^ 64 → n ≤ 2 ^ 64
     below n l = omega arith
@@ -118,9 +118,9 @@ room : 64 * unit80 ≤ 2 ^ 58 * unit80
 room = mul-le-mul_right unit80 (leb→le 64 (2 ^ 58) tt)
 
 -- in the first quarter
-pub first-aimed : {w h : Float} → InQuarter w h → Aimed (pos (mag w)) (pos (mag h)) (pos (firstQuarter w h)) (1064 * unit80) ((2 ^ 58 - 64) * unit80) × (firstQuarter w h ≤ quarterTurn)
-unfolding firstQuarter
-first-aimed {w} {h} p = go (lt w h) refl
+pub first_aimed : {w h : Float} → InQuarter w h → Aimed (pos (mag w)) (pos (mag h)) (pos (first_quarter w h)) (1064 * unit80) ((2 ^ 58 - 64) * unit80) × (first_quarter w h ≤ quarter_turn)
+unfolding first_quarter
+first_aimed {w} {h} p = go (lt w h) refl
   where
     up : (u : ℕ) → 1000 * u + 64 * u ≤ 1064 * u
     up u = omega arith
@@ -129,34 +129,34 @@ first-aimed {w} {h} p = go (lt w h) refl
     down u = omega arith
 
     go : (b : Bool) → lt w h ≡ b →
-        Aimed (pos (mag w)) (pos (mag h)) (pos (cond b (quarterTurn - arc (tangent w h)) (arc (tangent h w)))) (1064 * unit80) ((2 ^ 58 - 64) * unit80) × (cond b (quarterTurn - arc (tangent w h)) (arc (tangent h w)) ≤ quarterTurn)
+        Aimed (pos (mag w)) (pos (mag h)) (pos (cond b (quarter_turn - arc (tangent w h)) (arc (tangent h w)))) (1064 * unit80) ((2 ^ 58 - 64) * unit80) × (cond b (quarter_turn - arc (tangent w h)) (arc (tangent h w)) ≤ quarter_turn)
     go true t =
-        let o = below-diagonal p t in (
-          aimed-looser (1064 * unit80) ((2 ^ 58 - 64) * unit80) (up unit80) (down unit80) (quarter-less (arc (tangent w h)) (arc-aimed o) room (arc-small (tangent w h) (tangent-small o))),
-          sub-le quarterTurn (arc (tangent w h)),
+        let o = below_diagonal p t in (
+          aimed_looser (1064 * unit80) ((2 ^ 58 - 64) * unit80) (up unit80) (down unit80) (quarter_less (arc (tangent w h)) (arc_aimed o) room (arc_small (tangent w h) (tangent_small o))),
+          sub-le quarter_turn (arc (tangent w h)),
         )
     go false t =
-        let o = above-diagonal p t in (
-          aimed-looser (1064 * unit80) ((2 ^ 58 - 64) * unit80) (mul-le-mul_right unit80 (leb→le 1000 1064 tt)) (mul-le-mul_right unit80 (leb→le (2 ^ 58 - 64) (2 ^ 58) tt)) (arc-aimed o),
-          arc-small (tangent h w) (tangent-small o),
+        let o = above_diagonal p t in (
+          aimed_looser (1064 * unit80) ((2 ^ 58 - 64) * unit80) (mul-le-mul_right unit80 (leb→le 1000 1064 tt)) (mul-le-mul_right unit80 (leb→le (2 ^ 58 - 64) (2 ^ 58) tt)) (arc_aimed o),
+          arc_small (tangent h w) (tangent_small o),
         )
 
-room-left : 64 * unit80 ≤ (2 ^ 58 - 64) * unit80
-room-left = mul-le-mul_right unit80 (leb→le 64 (2 ^ 58 - 64) tt)
+room_left : 64 * unit80 ≤ (2 ^ 58 - 64) * unit80
+room_left = mul-le-mul_right unit80 (leb→le 64 (2 ^ 58 - 64) tt)
 
 -- in the upper half
-pub upper-aimed : (x : Float) {w h : Float} → InQuarter w h → Aimed (signed (negative x) (mag w)) (pos (mag h)) (pos (upperHalf x w h)) (1128 * unit80) (2 ^ 57 * unit80) × (upperHalf x w h ≤ halfTurn)
-unfolding upperHalf
-upper-aimed x {w} {h} p = go (negative x)
+pub upper_aimed : (x : Float) {w h : Float} → InQuarter w h → Aimed (signed (negative x) (mag w)) (pos (mag h)) (pos (upper_half x w h)) (1128 * unit80) (2 ^ 57 * unit80) × (upper_half x w h ≤ half_turn)
+unfolding upper_half
+upper_aimed x {w} {h} p = go (negative x)
   where
     a : ℕ
-    a = firstQuarter w h
+    a = first_quarter w h
 
-    first : Aimed (pos (mag w)) (pos (mag h)) (pos a) (1064 * unit80) ((2 ^ 58 - 64) * unit80) × (a ≤ quarterTurn)
-    first = first-aimed p
+    first : Aimed (pos (mag w)) (pos (mag h)) (pos a) (1064 * unit80) ((2 ^ 58 - 64) * unit80) × (a ≤ quarter_turn)
+    first = first_aimed p
 
-    within : a ≤ halfTurn
-    within = le_trans first.1 (leb→le quarterTurn halfTurn tt)
+    within : a ≤ half_turn
+    within = le_trans first.1 (leb→le quarter_turn half_turn tt)
 
     up : (u : ℕ) → 1064 * u + 64 * u ≤ 1128 * u
     up u = omega arith
@@ -164,6 +164,6 @@ upper-aimed x {w} {h} p = go (negative x)
     down : (u : ℕ) → 2 ^ 57 * u ≤ (2 ^ 58 - 64) * u - 64 * u
     down u = omega arith
 
-    go : (b : Bool) → Aimed (signed b (mag w)) (pos (mag h)) (pos (cond b (halfTurn - a) a)) (1128 * unit80) (2 ^ 57 * unit80) × (cond b (halfTurn - a) a ≤ halfTurn)
-    go true = (aimed-looser (1128 * unit80) (2 ^ 57 * unit80) (up unit80) (down unit80) (half-less a first.0 room-left within), sub-le halfTurn a)
-    go false = (aimed-looser (1128 * unit80) (2 ^ 57 * unit80) (mul-le-mul_right unit80 (leb→le 1064 1128 tt)) (mul-le-mul_right unit80 (leb→le (2 ^ 57) (2 ^ 58 - 64) tt)) first.0, within)
+    go : (b : Bool) → Aimed (signed b (mag w)) (pos (mag h)) (pos (cond b (half_turn - a) a)) (1128 * unit80) (2 ^ 57 * unit80) × (cond b (half_turn - a) a ≤ half_turn)
+    go true = (aimed_looser (1128 * unit80) (2 ^ 57 * unit80) (up unit80) (down unit80) (half_less a first.0 room_left within), sub-le half_turn a)
+    go false = (aimed_looser (1128 * unit80) (2 ^ 57 * unit80) (mul-le-mul_right unit80 (leb→le 1064 1128 tt)) (mul-le-mul_right unit80 (leb→le (2 ^ 57) (2 ^ 58 - 64) tt)) first.0, within)

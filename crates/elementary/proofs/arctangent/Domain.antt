@@ -7,24 +7,24 @@ use Rattle.binary64.specs.Constants.{zero64}
 use Rattle.binary64.specs.Functions.{absolute}
 use Rattle.binary64.specs.Magnitude.{Most}
 use Rattle.binary64.specs.Units.{pow2, one, Finite, mag, plus, minus}
-use Rattle.binary64.proofs.Naturals.{lt-or-ge}
-use Rattle.binary64.proofs.Units.{lt-of-units, zero64-finite, zero64-plus, zero64-minus, above_zero}
-use Rattle.binary64.proofs.Functions.{absolute-sign, absolute-mag, absolute-finite, absolute-parts}
-use Rattle.elementary.specs.Arctangent.{largest, inDomain}
+use Rattle.binary64.proofs.Naturals.{lt_or_ge}
+use Rattle.binary64.proofs.Units.{lt_of_units, zero64_finite, zero64_plus, zero64_minus, above_zero}
+use Rattle.binary64.proofs.Functions.{absolute_sign, absolute_mag, absolute_finite, absolute_parts}
+use Rattle.elementary.specs.Arctangent.{largest, in_domain}
 use Rattle.elementary.specs.ArctangentSteps.{InQuarter}
 use Rattle.elementary.specs.ArctangentPromise.{Domain}
-use Rattle.elementary.proofs.fixed.Literal.{Literal, most-of-test, test-of-most}
+use Rattle.elementary.proofs.fixed.Literal.{Literal, most_of_test, test_of_most}
 
-largest-units : Literal (1048576 * one) largest
+largest_units : Literal (1048576 * one) largest
 unfolding of_bits fits mag pow2
-largest-units = record { finite = record { fit = tt; number = tt }; sign = refl; size = refl }
+largest_units = record { finite = record { fit = tt; number = tt }; sign = refl; size = refl }
 
 -- |x| > 0, by the test and in units
-some-of-test : {x : Float} → Finite x → T (lt zero64 (absolute x)) → 0 < mag x
-some-of-test {x} f t = subst (λ (m : ℕ). 0 < m) (absolute-parts x).0 (above_zero (absolute-finite f) (is_true (lt zero64 (absolute x)) t)).0
+some_of_test : {x : Float} → Finite x → T (lt zero64 (absolute x)) → 0 < mag x
+some_of_test {x} f t = subst (λ (m : ℕ). 0 < m) (absolute_parts x).0 (above_zero (absolute_finite f) (is_true (lt zero64 (absolute x)) t)).0
 
-test-of-some : {x : Float} → Finite x → 0 < mag x → lt zero64 (absolute x) ≡ true
-test-of-some {x} f h = lt-of-units zero64-finite (absolute-finite f) (less (plus zero64) (minus zero64) (plus (absolute x)) (minus (absolute x)) (mag x) zero64-plus zero64-minus (absolute-parts x) h)
+test_of_some : {x : Float} → Finite x → 0 < mag x → lt zero64 (absolute x) ≡ true
+test_of_some {x} f h = lt_of_units zero64_finite (absolute_finite f) (less (plus zero64) (minus zero64) (plus (absolute x)) (minus (absolute x)) (mag x) zero64_plus zero64_minus (absolute_parts x) h)
   where
     less : (q r p n m : ℕ) → q ≡ 0 → r ≡ 0 → (p ≡ m) × (n ≡ 0) → 0 < m → q + n < p + r
     less q r p n m a b c h = omega arith
@@ -36,20 +36,20 @@ either false b t = inr t
 -- a point of the domain, by its magnitudes
 pub point : {y x : Float} → Domain y x → InQuarter (absolute x) (absolute y)
 point {y} {x} d = record {
-  x-finite = absolute-finite d.x-size.finite;
-  y-finite = absolute-finite d.y-size.finite;
-  x-sign = absolute-sign x;
-  y-sign = absolute-sign y;
-  some = subst₂ (λ (m n : ℕ). 0 < m + n) (sym (absolute-mag x)) (sym (absolute-mag y)) d.some;
+  x_finite = absolute_finite d.x_size.finite;
+  y_finite = absolute_finite d.y_size.finite;
+  x_sign = absolute_sign x;
+  y_sign = absolute_sign y;
+  some = subst₂ (λ (m n : ℕ). 0 < m + n) (sym (absolute_mag x)) (sym (absolute_mag y)) d.some;
 }
 
 -- Where the tests of the recipe pass, there is the domain,
-pub domain : {y x : Float} → T (fits binary64 y) → T (fits binary64 x) → inDomain (absolute x) (absolute y) ≡ true → Domain y x
-unfolding inDomain
+pub domain : {y x : Float} → T (fits binary64 y) → T (fits binary64 x) → in_domain (absolute x) (absolute y) ≡ true → Domain y x
+unfolding in_domain
 domain {y} {x} g f t = record {
-  x-size = X;
-  y-size = Y;
-  some = ⊎_elim (λ k. left (mag x) (mag y) (some-of-test X.finite k)) (λ k. right (mag x) (mag y) (some-of-test Y.finite k)) (either (lt zero64 (absolute x)) (lt zero64 (absolute y)) (and_r (a && b) c all));
+  x_size = X;
+  y_size = Y;
+  some = ⊎_elim (λ k. left (mag x) (mag y) (some_of_test X.finite k)) (λ k. right (mag x) (mag y) (some_of_test Y.finite k)) (either (lt zero64 (absolute x)) (lt zero64 (absolute y)) (and_r (a && b) c all));
 }
   where
     a : Bool
@@ -65,10 +65,10 @@ domain {y} {x} g f t = record {
     all = subst T (sym t) tt
 
     X : Most 1048576 1074 x
-    X = most-of-test 1048576 largest-units f (is_true a (and_l a b (and_l (a && b) c all)))
+    X = most_of_test 1048576 largest_units f (is_true a (and_l a b (and_l (a && b) c all)))
 
     Y : Most 1048576 1074 y
-    Y = most-of-test 1048576 largest-units g (is_true b (and_r a b (and_l (a && b) c all)))
+    Y = most_of_test 1048576 largest_units g (is_true b (and_r a b (and_l (a && b) c all)))
 
     left : (m n : ℕ) → 0 < m → 0 < m + n
     left m n k = omega arith
@@ -77,12 +77,12 @@ domain {y} {x} g f t = record {
     right m n k = omega arith
 
 -- and the other way.
-pub inside : {y x : Float} → Domain y x → inDomain (absolute x) (absolute y) ≡ true
-unfolding inDomain
-inside {y} {x} d = ap₂ (λ (a b : Bool). a && b) (ap₂ (λ (a b : Bool). a && b) (test-of-most 1048576 largest-units d.x-size) (test-of-most 1048576 largest-units d.y-size)) (⊎_elim first second (lt-or-ge 0 (mag x)))
+pub inside : {y x : Float} → Domain y x → in_domain (absolute x) (absolute y) ≡ true
+unfolding in_domain
+inside {y} {x} d = ap₂ (λ (a b : Bool). a && b) (ap₂ (λ (a b : Bool). a && b) (test_of_most 1048576 largest_units d.x_size) (test_of_most 1048576 largest_units d.y_size)) (⊎_elim first second (lt_or_ge 0 (mag x)))
   where
     first : 0 < mag x → (lt zero64 (absolute x) || lt zero64 (absolute y)) ≡ true
-    first l = ap (λ (b : Bool). b || lt zero64 (absolute y)) (test-of-some d.x-size.finite l)
+    first l = ap (λ (b : Bool). b || lt zero64 (absolute y)) (test_of_some d.x_size.finite l)
 
     or-true : (b : Bool) → (b || true) ≡ true
     or-true true = refl
@@ -92,4 +92,4 @@ inside {y} {x} d = ap₂ (λ (a b : Bool). a && b) (ap₂ (λ (a b : Bool). a &&
     other m n h k = omega arith
 
     second : mag x ≤ 0 → (lt zero64 (absolute x) || lt zero64 (absolute y)) ≡ true
-    second l = ap (λ (b : Bool). lt zero64 (absolute x) || b) (test-of-some d.y-size.finite (other (mag x) (mag y) l d.some)) ∙ or-true (lt zero64 (absolute x))
+    second l = ap (λ (b : Bool). lt zero64 (absolute x) || b) (test_of_some d.y_size.finite (other (mag x) (mag y) l d.some)) ∙ or-true (lt zero64 (absolute x))

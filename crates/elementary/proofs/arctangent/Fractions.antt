@@ -6,66 +6,66 @@ use lib.Ieee.{Float, nan, inf, fin, up, down}
 use lib.Ieee.Fits.{down_pos}
 use Rattle.series.specs.Fraction.{Fraction, ◌⊹◌, exact, signed}
 use Rattle.series.specs.Taylor.{factorial, term, total, sin40, cos40}
-use Rattle.series.proofs.Integers.{◌⊖◌, parts, differences, dist, dist-⊖, dist-self, dist-scale, abs-mul, abs-negℤ, distrib, neg-*ℤ, *ℤ-assoc, *ℤ-left-comm}
-use Rattle.series.proofs.Sums.{scale, sin79, cos79, sin40-value, cos40-value}
+use Rattle.series.proofs.Integers.{◌⊖◌, parts, differences, dist, dist-⊖, dist_self, dist_scale, abs_mul, abs-negℤ, distrib, neg-*ℤ, *ℤ-assoc, *ℤ-left-comm}
+use Rattle.series.proofs.Sums.{scale, sin79, cos79, sin40_value, cos40_value}
 use Rattle.series.proofs.Polynomial.{hval}
 use Rattle.binary64.specs.Units.{one, Finite, mag, negative}
-use Rattle.binary64.proofs.Units.{mag-exact, one-pos}
+use Rattle.binary64.proofs.Units.{mag_exact, one_pos}
 use Rattle.elementary.specs.ArctangentPromise.{◌⊛◌, ◌⊝◌, size, 2^-40, AtMost, Positive}
 use Rattle.elementary.proofs.arctangent.Good.{Good, difference, scaled}
 
 -- ---- no denominator is 0
 
-factorial-pos : (i : ℕ) → 0 < factorial i
+factorial_pos : (i : ℕ) → 0 < factorial i
 unfolding factorial
-factorial-pos zero = lit< tt
-factorial-pos (suc i) = mul-pos (positive i) (factorial-pos i)
+factorial_pos zero = lit< tt
+factorial_pos (suc i) = mul-pos (positive i) (factorial_pos i)
   where
     positive : (i : ℕ) → 0 < suc i
     positive i = omega arith
 
-term-proper : (k i : ℕ) (v : Fraction) → 0 < v.den → 0 < (term k i v).den
+term_proper : (k i : ℕ) (v : Fraction) → 0 < v.den → 0 < (term k i v).den
 unfolding term
-term-proper k i v h = mul-pos (factorial-pos i) (one-le-pow i v.den h)
+term_proper k i v h = mul-pos (factorial_pos i) (one-le-pow i v.den h)
 
-total-proper : (k n : ℕ) (f : ℕ → Fraction) → ((j : ℕ) → 0 < (f j).den) → 0 < (total k n f).den
+total_proper : (k n : ℕ) (f : ℕ → Fraction) → ((j : ℕ) → 0 < (f j).den) → 0 < (total k n f).den
 unfolding total ◌⊹◌
-total-proper k zero f h = lit< tt
-total-proper k (suc n) f h = mul-pos (h k) (total-proper (suc k) n f h)
+total_proper k zero f h = lit< tt
+total_proper k (suc n) f h = mul-pos (h k) (total_proper (suc k) n f h)
 
-pub sin40-proper : (v : Fraction) → 0 < v.den → 0 < (sin40 v).den
+pub sin40_proper : (v : Fraction) → 0 < v.den → 0 < (sin40 v).den
 unfolding sin40
-sin40-proper v h = total-proper 0 40 (λ k. term k (2 * k + 1) v) (λ j. term-proper j (2 * j + 1) v h)
+sin40_proper v h = total_proper 0 40 (λ k. term k (2 * k + 1) v) (λ j. term_proper j (2 * j + 1) v h)
 
-pub cos40-proper : (v : Fraction) → 0 < v.den → 0 < (cos40 v).den
+pub cos40_proper : (v : Fraction) → 0 < v.den → 0 < (cos40 v).den
 unfolding cos40
-cos40-proper v h = total-proper 0 40 (λ k. term k (2 * k) v) (λ j. term-proper j (2 * j) v h)
+cos40_proper v h = total_proper 0 40 (λ k. term k (2 * k) v) (λ j. term_proper j (2 * j) v h)
 
-pub exact-proper : (x : Float) → 0 < (exact x).den
+pub exact_proper : (x : Float) → 0 < (exact x).den
 unfolding exact
-exact-proper nan = lit< tt
-exact-proper (inf s) = lit< tt
-exact-proper (fin s m e) = down_pos e
+exact_proper nan = lit< tt
+exact_proper (inf s) = lit< tt
+exact_proper (fin s m e) = down_pos e
 
 -- ---- a float as a fraction, against its units
 
-pub signed-times : (s : Bool) (a b : ℕ) → signed s a *ℤ pos b ≡ signed s (a * b)
-signed-times true a b = neg-*ℤ (pos a) (pos b)
-signed-times false a b = refl
+pub signed_times : (s : Bool) (a b : ℕ) → signed s a *ℤ pos b ≡ signed s (a * b)
+signed_times true a b = neg-*ℤ (pos a) (pos b)
+signed_times false a b = refl
 
-pub signed-size : (s : Bool) (a : ℕ) → nat_abs (signed s a) ≡ a
-signed-size true a = abs-negℤ (pos a)
-signed-size false a = refl
+pub signed_size : (s : Bool) (a : ℕ) → nat_abs (signed s a) ≡ a
+signed_size true a = abs-negℤ (pos a)
+signed_size false a = refl
 
 -- the units of x
 abbrev pub units : Float → ℤ
 units x = signed (negative x) (mag x)
 
-pub exact-units : {x : Float} → Finite x → units x *ℤ pos (exact x).den ≡ (exact x).num *ℤ pos one
+pub exact_units : {x : Float} → Finite x → units x *ℤ pos (exact x).den ≡ (exact x).num *ℤ pos one
 unfolding exact
-exact-units {x = nan} f = absurd f.number
-exact-units {x = inf s} f = absurd f.number
-exact-units {x = fin s m e} f = signed-times s (mag (fin s m e)) (down e) ∙ ap (signed s) (mag-exact s m e f.fit) ∙ sym (signed-times s (m * up e) one)
+exact_units {x = nan} f = absurd f.number
+exact_units {x = inf s} f = absurd f.number
+exact_units {x = fin s m e} f = signed_times s (mag (fin s m e)) (down e) ∙ ap (signed s) (mag_exact s m e f.fit) ∙ sym (signed_times s (m * up e) one)
 
 -- ---- a point with its coordinates multiplied by a common number
 
@@ -78,7 +78,7 @@ divided k f z l e =
     (z'.0 - z'.1, z'.2 ∙ difference z'.0 z'.1 b, rest z'.0 z'.1 (z'.0 - z'.1) h (back z'.0 z'.1 b))
   where
     exactly : (a b : ℕ) → pos k *ℤ (a ⊖ b) ≡ pos f → k * a ≡ k * b + f
-    exactly a b e = let g = simp (differences, dist-⊖) at (le_of_eq (ap (λ (w : ℤ). dist w (pos f)) e ∙ dist-self (pos f))) in omega arith
+    exactly a b e = let g = simp (differences, dist-⊖) at (le_of_eq (ap (λ (w : ℤ). dist w (pos f)) e ∙ dist_self (pos f))) in omega arith
 
     most : (p q : ℕ) → p ≡ q + f → q ≤ p
     most p q e = omega arith
@@ -95,25 +95,25 @@ spread k e a b = omega arith
 pub stretched : {x y s c : ℤ} {e D : ℕ} (k : ℕ) → Good x y s c e D → Good (pos k *ℤ x) (pos k *ℤ y) s c e D
 stretched {x} {y} {s} {c} {e} {D} k g = record {
   residual =
-      le_trans (le_of_eq (ap₂ dist (*ℤ-assoc (pos k) x s) (*ℤ-assoc (pos k) y c) ∙ dist-scale k (x *ℤ s) (y *ℤ c)))
-      (le_trans (mul-le-mul_left k g.residual) (le_of_eq (spread k e (nat_abs x) (nat_abs y) ∙ ap₂ (λ (a b : ℕ). e * (a + b)) (sym (abs-mul (pos k) x)) (sym (abs-mul (pos k) y)))));
+      le_trans (le_of_eq (ap₂ dist (*ℤ-assoc (pos k) x s) (*ℤ-assoc (pos k) y c) ∙ dist_scale k (x *ℤ s) (y *ℤ c)))
+      (le_trans (mul-le-mul_left k g.residual) (le_of_eq (spread k e (nat_abs x) (nat_abs y) ∙ ap₂ (λ (a b : ℕ). e * (a + b)) (sym (abs_mul (pos k) x)) (sym (abs_mul (pos k) y)))));
   forward = k * g.forward;
   ahead = ap₂ (λ (a b : ℤ). a +ℤ b) (*ℤ-assoc (pos k) x c) (*ℤ-assoc (pos k) y s) ∙ sym (distrib (pos k) (x *ℤ c) (y *ℤ s)) ∙ ap (λ (z : ℤ). pos k *ℤ z) g.ahead;
-  far = le_trans (le_of_eq (sym (spread k D (nat_abs x) (nat_abs y) ∙ ap₂ (λ (a b : ℕ). D * (a + b)) (sym (abs-mul (pos k) x)) (sym (abs-mul (pos k) y))))) (mul-le-mul_left k g.far);
+  far = le_trans (le_of_eq (sym (spread k D (nat_abs x) (nat_abs y) ∙ ap₂ (λ (a b : ℕ). D * (a + b)) (sym (abs_mul (pos k) x)) (sym (abs_mul (pos k) y))))) (mul-le-mul_left k g.far);
 }
 
 pub shrunk : {x y s c : ℤ} {e D : ℕ} (k : ℕ) → 0 < k → Good (pos k *ℤ x) (pos k *ℤ y) s c e D → Good x y s c e D
 shrunk {x} {y} {s} {c} {e} {D} k l g = record {
   residual =
       le_of_mul-le-mul_left
-      (le_trans (le_of_eq (sym (ap₂ dist (*ℤ-assoc (pos k) x s) (*ℤ-assoc (pos k) y c) ∙ dist-scale k (x *ℤ s) (y *ℤ c))))
-      (le_trans g.residual (le_of_eq (ap₂ (λ (a b : ℕ). e * (a + b)) (abs-mul (pos k) x) (abs-mul (pos k) y) ∙ sym (spread k e (nat_abs x) (nat_abs y))))))
+      (le_trans (le_of_eq (sym (ap₂ dist (*ℤ-assoc (pos k) x s) (*ℤ-assoc (pos k) y c) ∙ dist_scale k (x *ℤ s) (y *ℤ c))))
+      (le_trans g.residual (le_of_eq (ap₂ (λ (a b : ℕ). e * (a + b)) (abs_mul (pos k) x) (abs_mul (pos k) y) ∙ sym (spread k e (nat_abs x) (nat_abs y))))))
       l;
   forward = whole.0;
   ahead = whole.1;
   far =
       le_of_mul-le-mul_left
-      (le_trans (le_of_eq (spread k D (nat_abs x) (nat_abs y) ∙ ap₂ (λ (a b : ℕ). D * (a + b)) (sym (abs-mul (pos k) x)) (sym (abs-mul (pos k) y))))
+      (le_trans (le_of_eq (spread k D (nat_abs x) (nat_abs y) ∙ ap₂ (λ (a b : ℕ). D * (a + b)) (sym (abs_mul (pos k) x)) (sym (abs_mul (pos k) y))))
       (le_trans g.far (le_of_eq (sym whole.2))))
       l;
 }
@@ -124,8 +124,8 @@ shrunk {x} {y} {s} {c} {e} {D} k l g = record {
 -- ---- the promise, from Good
 
 -- (d h) f = n K: then (d m) (M h) is M K (n m), for the denominators d and m of the two sums
-sum-scaled : (d m M K : ℕ) (h n : ℤ) → n *ℤ pos K ≡ h *ℤ pos d → pos (d * m) *ℤ (pos M *ℤ h) ≡ pos (M * K) *ℤ (n *ℤ pos m)
-sum-scaled d m M K h n e = first (pos d) (pos m) (pos M) h ∙ ap (λ (z : ℤ). pos m *ℤ (pos M *ℤ z)) (sym e) ∙ second (pos m) (pos M) (pos K) n
+sum_scaled : (d m M K : ℕ) (h n : ℤ) → n *ℤ pos K ≡ h *ℤ pos d → pos (d * m) *ℤ (pos M *ℤ h) ≡ pos (M * K) *ℤ (n *ℤ pos m)
+sum_scaled d m M K h n e = first (pos d) (pos m) (pos M) h ∙ ap (λ (z : ℤ). pos m *ℤ (pos M *ℤ z)) (sym e) ∙ second (pos m) (pos M) (pos K) n
   where
     first : (d m M h : ℤ) → (d *ℤ m) *ℤ (M *ℤ h) ≡ m *ℤ (M *ℤ (h *ℤ d))
     first d m M h = simp (*ℤ-assoc, *ℤ_comm, *ℤ-left-comm)
@@ -170,65 +170,65 @@ module _ {x y : Float} (X : Finite x) (Y : Finite y) (some : 0 < mag x + mag y) 
   K : ℕ
   K = M * (scale * v.den ^ 80)
 
-  K-is : K ≡ 2 ^ 61 * u * v.den ^ 80
+  K_is : K ≡ 2 ^ 61 * u * v.den ^ 80
   unfolding K
-  K-is = sym (mul_assoc M scale (v.den ^ 80)) ∙ ap (λ (k : ℕ). k * v.den ^ 80) scales
+  K_is = sym (mul_assoc M scale (v.den ^ 80)) ∙ ap (λ (k : ℕ). k * v.den ^ 80) scales
 
-  over-fractions : Good P R (pos K *ℤ (S.num *ℤ pos C.den)) (pos K *ℤ (C.num *ℤ pos S.den)) (S.den * C.den * (v.den ^ 80 * (2 ^ 21 * u))) (S.den * C.den * (v.den ^ 80 * (2 ^ 56 * u)))
+  over_fractions : Good P R (pos K *ℤ (S.num *ℤ pos C.den)) (pos K *ℤ (C.num *ℤ pos S.den)) (S.den * C.den * (v.den ^ 80 * (2 ^ 21 * u))) (S.den * C.den * (v.den ^ 80 * (2 ^ 56 * u)))
   unfolding P R K
-  over-fractions =
+  over_fractions =
       subst₂ (λ (s c : ℤ). Good P R s c (S.den * C.den * (v.den ^ 80 * (2 ^ 21 * u))) (S.den * C.den * (v.den ^ 80 * (2 ^ 56 * u))))
-      (sum-scaled S.den C.den M (scale * v.den ^ 80) (hval sin79 v.num v.den) S.num (sin40-value v))
-      (ap (λ (k : ℕ). pos k *ℤ (pos M *ℤ hval cos79 v.num v.den)) (mul_comm S.den C.den) ∙ sum-scaled C.den S.den M (scale * v.den ^ 80) (hval cos79 v.num v.den) C.num (cos40-value v))
+      (sum_scaled S.den C.den M (scale * v.den ^ 80) (hval sin79 v.num v.den) S.num (sin40_value v))
+      (ap (λ (k : ℕ). pos k *ℤ (pos M *ℤ hval cos79 v.num v.den)) (mul_comm S.den C.den) ∙ sum_scaled C.den S.den M (scale * v.den ^ 80) (hval cos79 v.num v.den) C.num (cos40_value v))
       (scaled (S.den * C.den)
-      (shrunk one one-pos
+      (shrunk one one_pos
       (subst₂ (λ (p r : ℤ). Good p r (pos M *ℤ hval sin79 v.num v.den) (pos M *ℤ hval cos79 v.num v.den) (v.den ^ 80 * (2 ^ 21 * u)) (v.den ^ 80 * (2 ^ 56 * u)))
-      (coordinate a.den b.den one (units x) a.num (exact-units X))
-      (ap (λ (k : ℕ). pos k *ℤ units y) (mul_comm a.den b.den) ∙ coordinate b.den a.den one (units y) b.num (exact-units Y))
+      (coordinate a.den b.den one (units x) a.num (exact_units X))
+      (ap (λ (k : ℕ). pos k *ℤ units y) (mul_comm a.den b.den) ∙ coordinate b.den a.den one (units y) b.num (exact_units Y))
       (stretched (a.den * b.den) points))))
 
-  P-size : nat_abs P ≡ nat_abs a.num * b.den
+  P_size : nat_abs P ≡ nat_abs a.num * b.den
   unfolding P
-  P-size = abs-mul a.num (pos b.den)
+  P_size = abs_mul a.num (pos b.den)
 
-  R-size : nat_abs R ≡ nat_abs b.num * a.den
+  R_size : nat_abs R ≡ nat_abs b.num * a.den
   unfolding R
-  R-size = abs-mul b.num (pos a.den)
+  R_size = abs_mul b.num (pos a.den)
 
-  residual-over : 2 ^ 40 * dist (P *ℤ (S.num *ℤ pos C.den)) (R *ℤ (C.num *ℤ pos S.den)) ≤ S.den * C.den * (nat_abs P + nat_abs R)
-  residual-over =
+  residual_over : 2 ^ 40 * dist (P *ℤ (S.num *ℤ pos C.den)) (R *ℤ (C.num *ℤ pos S.den)) ≤ S.den * C.den * (nat_abs P + nat_abs R)
+  residual_over =
       le_of_mul-le-mul_right
       (at (dist (P *ℤ (S.num *ℤ pos C.den)) (R *ℤ (C.num *ℤ pos S.den))) (S.den * C.den) (nat_abs P + nat_abs R) (v.den ^ 80) u
-      (le_trans (le_of_eq (ap (λ (k : ℕ). k * dist (P *ℤ (S.num *ℤ pos C.den)) (R *ℤ (C.num *ℤ pos S.den))) (sym K-is) ∙ sym (dist-scale K (P *ℤ (S.num *ℤ pos C.den)) (R *ℤ (C.num *ℤ pos S.den)))
-      ∙ ap₂ dist (*ℤ-left-comm (pos K) P (S.num *ℤ pos C.den)) (*ℤ-left-comm (pos K) R (C.num *ℤ pos S.den)))) over-fractions.residual))
+      (le_trans (le_of_eq (ap (λ (k : ℕ). k * dist (P *ℤ (S.num *ℤ pos C.den)) (R *ℤ (C.num *ℤ pos S.den))) (sym K_is) ∙ sym (dist_scale K (P *ℤ (S.num *ℤ pos C.den)) (R *ℤ (C.num *ℤ pos S.den)))
+      ∙ ap₂ dist (*ℤ-left-comm (pos K) P (S.num *ℤ pos C.den)) (*ℤ-left-comm (pos K) R (C.num *ℤ pos S.den)))) over_fractions.residual))
       (mul-pos (mul-pos (lit< tt) u-pos) (one-le-pow 80 v.den v-pos))
     where
       at : (d q s w u : ℕ) → 2 ^ 61 * u * w * d ≤ q * (w * (2 ^ 21 * u)) * s → 2 ^ 40 * d * (2097152 * u * w) ≤ q * s * (2097152 * u * w)
       at d q s w u h = omega arith
 
-  pub residual-fractions : AtMost (exact x ⊛ sin40 v ⊝ exact y ⊛ cos40 v) (2^-40 ⊛ (size (exact x) ⊹ size (exact y)))
+  pub residual_fractions : AtMost (exact x ⊛ sin40 v ⊝ exact y ⊛ cos40 v) (2^-40 ⊛ (size (exact x) ⊹ size (exact y)))
   unfolding ◌⊛◌ ◌⊝◌ ◌⊹◌ dist P R
-  residual-fractions =
+  residual_fractions =
       subst (λ (d : ℕ). d * (2 ^ 40 * (a.den * b.den)) ≤ 1 * (nat_abs a.num * b.den + nat_abs b.num * a.den) * (a.den * S.den * (b.den * C.den)))
       (ap₂ dist (regroup a.num (pos b.den) S.num (pos C.den)) (regroup b.num (pos a.den) C.num (pos S.den)))
       (at (dist (P *ℤ (S.num *ℤ pos C.den)) (R *ℤ (C.num *ℤ pos S.den))) (nat_abs a.num * b.den + nat_abs b.num * a.den) a.den b.den S.den C.den
-      (mul-le-mul_right (a.den * b.den) (le_trans residual-over (le_of_eq (ap₂ (λ (p r : ℕ). S.den * C.den * (p + r)) P-size R-size)))))
+      (mul-le-mul_right (a.den * b.den) (le_trans residual_over (le_of_eq (ap₂ (λ (p r : ℕ). S.den * C.den * (p + r)) P_size R_size)))))
     where
       at : (d q a b s c : ℕ) → 2 ^ 40 * d * (a * b) ≤ s * c * q * (a * b) → d * (2 ^ 40 * (a * b)) ≤ 1 * q * (a * s * (b * c))
       at d q a b s c h = omega arith
 
   -- (|P| + |R|) one = (|x| + |y|) a b
-  point-some : 0 < nat_abs P + nat_abs R
-  point-some = nonzero (nat_abs P + nat_abs R) one (subst (λ (k : ℕ). 0 < k) sizes (mul-pos some (mul-pos (exact-proper x) (exact-proper y))))
+  point_some : 0 < nat_abs P + nat_abs R
+  point_some = nonzero (nat_abs P + nat_abs R) one (subst (λ (k : ℕ). 0 < k) sizes (mul-pos some (mul-pos (exact_proper x) (exact_proper y))))
     where
-      in-units : {z : Float} → Finite z → mag z * (exact z).den ≡ nat_abs (exact z).num * one
-      in-units {z} f = ap (λ (k : ℕ). k * (exact z).den) (sym (signed-size (negative z) (mag z))) ∙ sym (abs-mul (units z) (pos (exact z).den)) ∙ ap nat_abs (exact-units f) ∙ abs-mul (exact z).num (pos one)
+      in_units : {z : Float} → Finite z → mag z * (exact z).den ≡ nat_abs (exact z).num * one
+      in_units {z} f = ap (λ (k : ℕ). k * (exact z).den) (sym (signed_size (negative z) (mag z))) ∙ sym (abs_mul (units z) (pos (exact z).den)) ∙ ap nat_abs (exact_units f) ∙ abs_mul (exact z).num (pos one)
 
       spread : (m n p q d e o : ℕ) → m * d ≡ p * o → n * e ≡ q * o → (m + n) * (d * e) ≡ (p * e + q * d) * o
       spread m n p q d e o h k = omega (arith, ap (λ (z : ℕ). z * e) h, ap (λ (z : ℕ). z * d) k)
 
       sizes : (mag x + mag y) * (a.den * b.den) ≡ (nat_abs P + nat_abs R) * one
-      sizes = spread (mag x) (mag y) (nat_abs a.num) (nat_abs b.num) a.den b.den one (in-units X) (in-units Y) ∙ ap₂ (λ (p r : ℕ). (p + r) * one) (sym P-size) (sym R-size)
+      sizes = spread (mag x) (mag y) (nat_abs a.num) (nat_abs b.num) a.den b.den one (in_units X) (in_units Y) ∙ ap₂ (λ (p r : ℕ). (p + r) * one) (sym P_size) (sym R_size)
 
       nonzero : (n o : ℕ) → 0 < n * o → 0 < n
       nonzero zero o h = absurd (none o h)
@@ -237,16 +237,16 @@ module _ {x y : Float} (X : Finite x) (Y : Finite y) (some : 0 < mag x + mag y) 
           none o h = omega arith
       nonzero (suc n) o h = omega arith
 
-  pub ahead-fractions : Positive (exact x ⊛ cos40 v ⊹ exact y ⊛ sin40 v)
+  pub ahead_fractions : Positive (exact x ⊛ cos40 v ⊹ exact y ⊛ sin40 v)
   unfolding ◌⊛◌ ◌⊹◌ P R
-  ahead-fractions = at whole.0 (sym (ap₂ (λ (c s : ℤ). c +ℤ s) (regroup a.num (pos b.den) C.num (pos S.den)) (regroup b.num (pos a.den) S.num (pos C.den))) ∙ whole.1)
-      (subst (λ (f : ℕ). 0 < f) (sym whole.2) (above over-fractions.far (mul-pos (mul-pos (mul-pos (sin40-proper v v-pos) (cos40-proper v v-pos)) (mul-pos (one-le-pow 80 v.den v-pos) (mul-pos (lit< tt) u-pos))) point-some)))
+  ahead_fractions = at whole.0 (sym (ap₂ (λ (c s : ℤ). c +ℤ s) (regroup a.num (pos b.den) C.num (pos S.den)) (regroup b.num (pos a.den) S.num (pos C.den))) ∙ whole.1)
+      (subst (λ (f : ℕ). 0 < f) (sym whole.2) (above over_fractions.far (mul-pos (mul-pos (mul-pos (sin40_proper v v-pos) (cos40_proper v v-pos)) (mul-pos (one-le-pow 80 v.den v-pos) (mul-pos (lit< tt) u-pos))) point_some)))
     where
-      whole : (m : ℕ) × (P *ℤ (C.num *ℤ pos S.den) +ℤ R *ℤ (S.num *ℤ pos C.den) ≡ pos m) × (K * m ≡ over-fractions.forward)
+      whole : (m : ℕ) × (P *ℤ (C.num *ℤ pos S.den) +ℤ R *ℤ (S.num *ℤ pos C.den) ≡ pos m) × (K * m ≡ over_fractions.forward)
       whole =
-          divided K over-fractions.forward (P *ℤ (C.num *ℤ pos S.den) +ℤ R *ℤ (S.num *ℤ pos C.den))
-          (subst (λ (k : ℕ). 0 < k) (sym K-is) (mul-pos (mul-pos (lit< tt) u-pos) (one-le-pow 80 v.den v-pos)))
-          (distrib (pos K) (P *ℤ (C.num *ℤ pos S.den)) (R *ℤ (S.num *ℤ pos C.den)) ∙ ap₂ (λ (c s : ℤ). c +ℤ s) (*ℤ-left-comm (pos K) P (C.num *ℤ pos S.den)) (*ℤ-left-comm (pos K) R (S.num *ℤ pos C.den)) ∙ over-fractions.ahead)
+          divided K over_fractions.forward (P *ℤ (C.num *ℤ pos S.den) +ℤ R *ℤ (S.num *ℤ pos C.den))
+          (subst (λ (k : ℕ). 0 < k) (sym K_is) (mul-pos (mul-pos (lit< tt) u-pos) (one-le-pow 80 v.den v-pos)))
+          (distrib (pos K) (P *ℤ (C.num *ℤ pos S.den)) (R *ℤ (S.num *ℤ pos C.den)) ∙ ap₂ (λ (c s : ℤ). c +ℤ s) (*ℤ-left-comm (pos K) P (C.num *ℤ pos S.den)) (*ℤ-left-comm (pos K) R (S.num *ℤ pos C.den)) ∙ over_fractions.ahead)
 
       above : {p q : ℕ} → p ≤ q → 0 < p → 0 < q
       above h k = le_trans k h

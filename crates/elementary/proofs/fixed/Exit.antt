@@ -5,11 +5,11 @@ use lib.Ieee.{Float, binary64, round, mul, of_int, unlike}
 use Rattle.binary64.specs.Units.{pow2, one, Finite, mag, negative}
 use Rattle.binary64.specs.Magnitude.{Most}
 use Rattle.binary64.specs.Rounding.{rnd}
-use Rattle.binary64.proofs.Units.{pow2-split, one-pos}
-use Rattle.binary64.proofs.Rounding.{rnd-le, rnd-near}
-use Rattle.binary64.proofs.Magnitude.{bound-digits, bound-limit, mul_most}
-use Rattle.binary64.proofs.Operations.{round-finite, round-mag, round-sign, mul-mag, mul-sign}
-use Rattle.binary64.proofs.Whole.{ofInt-whole}
+use Rattle.binary64.proofs.Units.{pow2_split, one_pos}
+use Rattle.binary64.proofs.Rounding.{rnd_le, rnd_near}
+use Rattle.binary64.proofs.Magnitude.{bound_digits, bound_limit, mul_most}
+use Rattle.binary64.proofs.Operations.{round_finite, round_mag, round_sign, mul_mag, mul_sign}
+use Rattle.binary64.proofs.Whole.{of_int_whole}
 use Rattle.elementary.proofs.fixed.Literal.{Literal}
 
 -- x is n grains of 2 ^ g units, without the sign bit, up to 2 ^ r grains for each of the two roundings.
@@ -26,73 +26,73 @@ module _ (r g : ℕ) {factor : Float} (l : Literal (pow2 g) factor) (room : 54 +
   abbrev whole : Float
   whole = round binary64 false n 1
 
-  whole-bound : n * one ≤ 2 ^ 54 * pow2 (r + 1074)
-  whole-bound = le_trans (mul-le-mul_right one small) (le_of_eq (mul_assoc (2 ^ 54) (2 ^ r) one ∙ ap (λ (k : ℕ). 2 ^ 54 * k) (sym (pow2-split r 1074))))
+  whole_bound : n * one ≤ 2 ^ 54 * pow2 (r + 1074)
+  whole_bound = le_trans (mul-le-mul_right one small) (le_of_eq (mul_assoc (2 ^ 54) (2 ^ r) one ∙ ap (λ (k : ℕ). 2 ^ 54 * k) (sym (pow2_split r 1074))))
 
   -- the same, as a number of one digit
-  one-digit : n * one ≤ 1 * pow2 (54 + (r + 1074)) * 1
-  one-digit = le_trans whole-bound (le_of_eq (sym (mul-one (1 * pow2 (54 + (r + 1074))) ∙ one-mul (pow2 (54 + (r + 1074))) ∙ pow2-split 54 (r + 1074))))
+  one_digit : n * one ≤ 1 * pow2 (54 + (r + 1074)) * 1
+  one_digit = le_trans whole_bound (le_of_eq (sym (mul-one (1 * pow2 (54 + (r + 1074))) ∙ one-mul (pow2 (54 + (r + 1074))) ∙ pow2_split 54 (r + 1074))))
 
-  whole-finite : Finite whole
-  whole-finite = round-finite false n 1 (lit< tt) (bound-digits (54 + (r + 1074)) (lit≤ tt)) (bound-limit (lit≤ tt) room) one-digit
+  whole_finite : Finite whole
+  whole_finite = round_finite false n 1 (lit< tt) (bound_digits (54 + (r + 1074)) (lit≤ tt)) (bound_limit (lit≤ tt) room) one_digit
 
-  whole-mag : mag whole ≡ rnd (n * one) 1
-  whole-mag = round-mag false n 1 whole-finite
+  whole_mag : mag whole ≡ rnd (n * one) 1
+  whole_mag = round_mag false n 1 whole_finite
 
-  whole-most : Most 1 (54 + (r + 1074)) whole
-  whole-most = record { finite = whole-finite; bound = le_trans (le_of_eq whole-mag) (rnd-le (n * one) 1 (lit< tt) (bound-digits (54 + (r + 1074)) (lit≤ tt)) one-digit) }
+  whole_most : Most 1 (54 + (r + 1074)) whole
+  whole_most = record { finite = whole_finite; bound = le_trans (le_of_eq whole_mag) (rnd_le (n * one) 1 (lit< tt) (bound_digits (54 + (r + 1074)) (lit≤ tt)) one_digit) }
 
   abbrev product : Float
   product = mul binary64 whole factor
 
-  product-most : Most 1 (54 + (r + g)) product
-  product-most = mul_most whole-most (record { finite = l.finite; bound = le_of_eq (l.size ∙ sym (one-mul (pow2 g))) }) (54 + (r + g)) (turn r g) (lit≤ tt) fit
+  product_most : Most 1 (54 + (r + g)) product
+  product_most = mul_most whole_most (record { finite = l.finite; bound = le_of_eq (l.size ∙ sym (one-mul (pow2 g))) }) (54 + (r + g)) (turn r g) (lit≤ tt) fit
     where
       turn : (r g : ℕ) → 54 + (r + 1074) + g ≡ 54 + (r + g) + 1074
       turn r g = omega arith
 
-  product-mag : mag product ≡ rnd (mag whole * pow2 g) one
-  product-mag = mul-mag whole-finite l.finite product-most.finite ∙ ap (λ (k : ℕ). rnd (mag whole * k) one) l.size
+  product_mag : mag product ≡ rnd (mag whole * pow2 g) one
+  product_mag = mul_mag whole_finite l.finite product_most.finite ∙ ap (λ (k : ℕ). rnd (mag whole * k) one) l.size
 
-  product-bound : mag whole * pow2 g ≤ 2 ^ 54 * pow2 (r + g) * one
-  product-bound =
-      le_trans (mul-le-mul_right (pow2 g) whole-most.bound)
-      (le_of_eq (ap (λ (k : ℕ). k * pow2 g) (one-mul (pow2 (54 + (r + 1074))) ∙ pow2-split 54 (r + 1074) ∙ ap (λ (k : ℕ). 2 ^ 54 * k) (pow2-split r 1074)) ∙ regroup (2 ^ r) one (pow2 g) ∙ ap (λ (k : ℕ). 2 ^ 54 * k * one) (sym (pow2-split r g))))
+  product_bound : mag whole * pow2 g ≤ 2 ^ 54 * pow2 (r + g) * one
+  product_bound =
+      le_trans (mul-le-mul_right (pow2 g) whole_most.bound)
+      (le_of_eq (ap (λ (k : ℕ). k * pow2 g) (one-mul (pow2 (54 + (r + 1074))) ∙ pow2_split 54 (r + 1074) ∙ ap (λ (k : ℕ). 2 ^ 54 * k) (pow2_split r 1074)) ∙ regroup (2 ^ r) one (pow2 g) ∙ ap (λ (k : ℕ). 2 ^ 54 * k * one) (sym (pow2_split r g))))
     where
       regroup : (d u v : ℕ) → 2 ^ 54 * (d * u) * v ≡ 2 ^ 54 * (d * v) * u
       regroup d u v = omega arith
 
-  whole-near : (mag whole * 1 ≤ n * one + pow2 (r + 1074) * 1) × (n * one ≤ mag whole * 1 + pow2 (r + 1074) * 1)
-  whole-near =
-      subst (λ (m : ℕ). (m * 1 ≤ n * one + pow2 (r + 1074) * 1) × (n * one ≤ m * 1 + pow2 (r + 1074) * 1)) (sym whole-mag)
-      (rnd-near (n * one) 1 (r + 1074) (lit< tt) (le_trans whole-bound (le_of_eq (sym (mul-one (2 ^ 54 * pow2 (r + 1074)))))))
+  whole_near : (mag whole * 1 ≤ n * one + pow2 (r + 1074) * 1) × (n * one ≤ mag whole * 1 + pow2 (r + 1074) * 1)
+  whole_near =
+      subst (λ (m : ℕ). (m * 1 ≤ n * one + pow2 (r + 1074) * 1) × (n * one ≤ m * 1 + pow2 (r + 1074) * 1)) (sym whole_mag)
+      (rnd_near (n * one) 1 (r + 1074) (lit< tt) (le_trans whole_bound (le_of_eq (sym (mul-one (2 ^ 54 * pow2 (r + 1074)))))))
 
-  product-near : (mag product * one ≤ mag whole * pow2 g + pow2 (r + g) * one) × (mag whole * pow2 g ≤ mag product * one + pow2 (r + g) * one)
-  product-near =
-      subst (λ (m : ℕ). (m * one ≤ mag whole * pow2 g + pow2 (r + g) * one) × (mag whole * pow2 g ≤ m * one + pow2 (r + g) * one)) (sym product-mag)
-      (rnd-near (mag whole * pow2 g) one (r + g) one-pos product-bound)
+  product_near : (mag product * one ≤ mag whole * pow2 g + pow2 (r + g) * one) × (mag whole * pow2 g ≤ mag product * one + pow2 (r + g) * one)
+  product_near =
+      subst (λ (m : ℕ). (m * one ≤ mag whole * pow2 g + pow2 (r + g) * one) × (mag whole * pow2 g ≤ m * one + pow2 (r + g) * one)) (sym product_mag)
+      (rnd_near (mag whole * pow2 g) one (r + g) one_pos product_bound)
 
-  product-above : mag product ≤ n * pow2 g + 2 * 2 ^ r * pow2 g
-  product-above =
+  product_above : mag product ≤ n * pow2 g + 2 * 2 ^ r * pow2 g
+  product_above =
       le_of_mul-le-mul_right
-      (at (mag product) (mag whole) n one (pow2 g) (2 ^ r) (pow2 (r + 1074)) (pow2 (r + g)) (pow2-split r 1074) (pow2-split r g) product-near.0 (mul-le-mul_right (pow2 g) whole-near.0)) one-pos
+      (at (mag product) (mag whole) n one (pow2 g) (2 ^ r) (pow2 (r + 1074)) (pow2 (r + g)) (pow2_split r 1074) (pow2_split r g) product_near.0 (mul-le-mul_right (pow2 g) whole_near.0)) one_pos
     where
       at : (m f n u g d p q : ℕ) → p ≡ d * u → q ≡ d * g → m * u ≤ f * g + q * u → f * 1 * g ≤ (n * u + p * 1) * g → m * u ≤ (n * g + 2 * d * g) * u
       at m f n u g d p q a b k i = omega (arith, ap (λ (x : ℕ). x * g) a, ap (λ (x : ℕ). x * u) b)
 
-  product-below : n * pow2 g ≤ mag product + 2 * 2 ^ r * pow2 g
-  product-below =
+  product_below : n * pow2 g ≤ mag product + 2 * 2 ^ r * pow2 g
+  product_below =
       le_of_mul-le-mul_right
-      (at (mag product) (mag whole) n one (pow2 g) (2 ^ r) (pow2 (r + 1074)) (pow2 (r + g)) (pow2-split r 1074) (pow2-split r g) product-near.1 (mul-le-mul_right (pow2 g) whole-near.1)) one-pos
+      (at (mag product) (mag whole) n one (pow2 g) (2 ^ r) (pow2 (r + 1074)) (pow2 (r + g)) (pow2_split r 1074) (pow2_split r g) product_near.1 (mul-le-mul_right (pow2 g) whole_near.1)) one_pos
     where
       at : (m f n u g d p q : ℕ) → p ≡ d * u → q ≡ d * g → f * g ≤ m * u + q * u → n * u * g ≤ (f * 1 + p * 1) * g → n * g * u ≤ (m + 2 * d * g) * u
       at m f n u g d p q a b k i = omega (arith, ap (λ (x : ℕ). x * g) a, ap (λ (x : ℕ). x * u) b)
 
   pub made : Made r g n (mul binary64 (of_int binary64 (pos n)) factor)
-  made = subst (λ (w : Float). Made r g n (mul binary64 w factor)) (sym (ofInt-whole (pos n))) (record {
-    most = product-most;
-    sign = mul-sign whole-finite l.finite product-most.finite ∙ ap₂ unlike (round-sign false n 1 whole-finite) l.sign;
-    size = product-mag ∙ ap (λ (k : ℕ). rnd (k * pow2 g) one) whole-mag;
-    above = product-above;
-    below = product-below;
+  made = subst (λ (w : Float). Made r g n (mul binary64 w factor)) (sym (of_int_whole (pos n))) (record {
+    most = product_most;
+    sign = mul_sign whole_finite l.finite product_most.finite ∙ ap₂ unlike (round_sign false n 1 whole_finite) l.sign;
+    size = product_mag ∙ ap (λ (k : ℕ). rnd (k * pow2 g) one) whole_mag;
+    above = product_above;
+    below = product_below;
   })

@@ -15,8 +15,8 @@ halves : (K a₁ a₀ b₁ b₀ p₁ p₀ m₁ m₀ s₁ s₀ : ℕ) → a₀ * 
     (a₁ * K + a₀) * (b₁ * K + b₀) ≡ (a₁ * b₁ + m₁ + s₁) * (K * K) + (s₀ * K + p₀)
 halves K a₁ a₀ b₁ b₀ p₁ p₀ m₁ m₀ s₁ s₀ p m s = omega (arith, ap (λ (x : ℕ). x * K) m, ap (λ (x : ℕ). x * K) s)
 
-pub product-fits : (x y : ℕ) → x < 4294967296 → y < 4294967296 → x * y < 2 ^ 64
-product-fits x y h k = omega (arith, product_small x y h k)
+pub product_fits : (x y : ℕ) → x < 4294967296 → y < 4294967296 → x * y < 2 ^ 64
+product_fits x y h k = omega (arith, product_small x y h k)
 
 pub high_small : (a : ℕ) → a < 2 ^ 64 → a / 4294967296 < 4294967296
 high_small a h = omega arith
@@ -34,8 +34,8 @@ module _ (a b : ℕ) (a-fits : a < 2 ^ 64) (b-fits : b < 2 ^ 64) where
   abbrev upper : ℕ
   upper = a / 4294967296 * (b / 4294967296) + middle / 4294967296 + second / 4294967296
 
-  pub middle-fits : middle < 2 ^ 64
-  middle-fits =
+  pub middle_fits : middle < 2 ^ 64
+  middle_fits =
       sum (a / 4294967296 * (b % 4294967296)) (a % 4294967296 * (b % 4294967296))
       (product_small (a / 4294967296) (b % 4294967296) (high_small a a-fits) (low_small b)) (product_small (a % 4294967296) (b % 4294967296) (low_small a) (low_small b))
     where
@@ -48,8 +48,8 @@ module _ (a b : ℕ) (a-fits : a < 2 ^ 64) (b-fits : b < 2 ^ 64) where
       sum : (p m : ℕ) → p ≤ 18446744065119617025 → p + m % 4294967296 < 2 ^ 64
       sum p m h = omega arith
 
-  pub two-fit : a / 4294967296 * (b / 4294967296) + middle / 4294967296 < 2 ^ 64
-  two-fit = sum (a / 4294967296 * (b / 4294967296)) middle (product_small (a / 4294967296) (b / 4294967296) (high_small a a-fits) (high_small b b-fits)) middle-fits
+  pub two_fit : a / 4294967296 * (b / 4294967296) + middle / 4294967296 < 2 ^ 64
+  two_fit = sum (a / 4294967296 * (b / 4294967296)) middle (product_small (a / 4294967296) (b / 4294967296) (high_small a a-fits) (high_small b b-fits)) middle_fits
     where
       sum : (p m : ℕ) → p ≤ 18446744065119617025 → m < 2 ^ 64 → p + m / 4294967296 < 2 ^ 64
       sum p m h k = omega arith
@@ -68,8 +68,8 @@ module _ (a b : ℕ) (a-fits : a < 2 ^ 64) (b-fits : b < 2 ^ 64) where
       rest : (s p : ℕ) → s < 4294967296 → p < 4294967296 → s * 4294967296 + p < 2 ^ 64
       rest s p h k = omega arith
 
-  pub upper-le : upper ≤ b
-  upper-le = le_trans (le_of_eq upper_is) (cut (a * b / 2 ^ 64) (a * b) (div-mul-le_self (a * b) (2 ^ 64)) (mul-le-mul_right b (below a a-fits)))
+  pub upper_le : upper ≤ b
+  upper_le = le_trans (le_of_eq upper_is) (cut (a * b / 2 ^ 64) (a * b) (div-mul-le_self (a * b) (2 ^ 64)) (mul-le-mul_right b (below a a-fits)))
     where
       below : (a : ℕ) → a < 2 ^ 64 → a ≤ 2 ^ 64
       below a h = omega arith
@@ -78,7 +78,7 @@ module _ (a b : ℕ) (a-fits : a < 2 ^ 64) (b-fits : b < 2 ^ 64) where
       cut q p h k = omega arith
 
   pub upper_fits : upper < 2 ^ 64
-  upper_fits = sum upper upper-le
+  upper_fits = sum upper upper_le
     where
       sum : (u : ℕ) → u ≤ b → u < 2 ^ 64
       sum u h = omega arith

@@ -8,11 +8,11 @@ use lib.Ieee.{Float, nan, inf, fin, binary64, up, down, level, lt, eq, fits, is_
 use lib.Ieee.Bits.{of_bits-to_bits, nan_bits_above, is_true}
 use lib.Ieee.Fits.{up_pos, and_l, eq→eqb}
 use lib.Ieee.Scale.{finite}
-use Rattle.binary64.specs.Units.{one, mag, negative, ofUnits, Finite}
+use Rattle.binary64.specs.Units.{one, mag, negative, of_units, Finite}
 use Rattle.binary64.specs.Constants.{zero64}
-use Rattle.binary64.proofs.Patterns.{pattern-finite, pattern-sign}
-use Rattle.binary64.proofs.Functions.{above-sign}
-use Rattle.elementary.specs.Root.{root, rootUnits}
+use Rattle.binary64.proofs.Patterns.{pattern_finite, pattern_sign}
+use Rattle.binary64.proofs.Functions.{above_sign}
+use Rattle.elementary.specs.Root.{root, root_units}
 
 -- a test that passes
 passes : {b : Bool} → b ≡ true → T b
@@ -22,31 +22,31 @@ fails : {b : Bool} → b ≡ false → T (not b)
 fails e = subst (λ (t : Bool). T (not t)) (sym e) tt
 
 -- a zero is 0 units
-pub zero-units : (s : Bool) (e : ℤ) → mag (fin s 0 e) ≡ 0
+pub zero_units : (s : Bool) (e : ℤ) → mag (fin s 0 e) ≡ 0
 unfolding mag
-zero-units s e = ap (λ (n : ℕ). n * one / down e) (zero-mul (up e)) ∙ ap (λ (n : ℕ). n / down e) (zero-mul one) ∙ zero-div (down e)
+zero_units s e = ap (λ (n : ℕ). n * one / down e) (zero-mul (up e)) ∙ ap (λ (n : ℕ). n / down e) (zero-mul one) ∙ zero-div (down e)
 
 -- the root of a finite number above zero
-pub root-positive : {x : Float} → Finite x → negative x ≡ false → 0 < mag x → root x ≡ ofUnits false (rootUnits (mag x))
+pub root_positive : {x : Float} → Finite x → negative x ≡ false → 0 < mag x → root x ≡ of_units false (root_units (mag x))
 unfolding root mag
-root-positive {x = nan} f s p = absurd f.number
-root-positive {x = inf t} f s p = absurd f.number
-root-positive {x = fin true m e} f s p = absurd (true≢false s)
-root-positive {x = fin false zero e} f s p = absurd (lt_irrefl 0 (subst (λ (n : ℕ). 0 < n) (zero-units false e) p))
-root-positive {x = fin false (suc m) e} f s p = refl
+root_positive {x = nan} f s p = absurd f.number
+root_positive {x = inf t} f s p = absurd f.number
+root_positive {x = fin true m e} f s p = absurd (true≢false s)
+root_positive {x = fin false zero e} f s p = absurd (lt_irrefl 0 (subst (λ (n : ℕ). 0 < n) (zero_units false e) p))
+root_positive {x = fin false (suc m) e} f s p = refl
 
 -- ---- above zero
 
 -- patterns below the infinity's are numbers
-pub number-bits : (b : ℕ) → b < 2047 * 2 ^ 52 → T (not (nan_bits binary64 b))
-number-bits b h = subst (λ (t : Bool). T (not t)) (sym (nan_bits_above binary64 b)) (le→nltb (2047 * 2 ^ 52) (b % 2 ^ 63) (omega arith))
+pub number_bits : (b : ℕ) → b < 2047 * 2 ^ 52 → T (not (nan_bits binary64 b))
+number_bits b h = subst (λ (t : Bool). T (not t)) (sym (nan_bits_above binary64 b)) (le→nltb (2047 * 2 ^ 52) (b % 2 ^ 63) (omega arith))
 
-pub above-number : (x : Float) → lt zero64 x ≡ true → T (not (is_nan x))
-above-number x h = fails (above-sign x h).1
+pub above_number : (x : Float) → lt zero64 x ≡ true → T (not (is_nan x))
+above_number x h = fails (above_sign x h).1
 
-zero-not-above : lt zero64 zero64 ≡ false
+zero_not_above : lt zero64 zero64 ≡ false
 unfolding lt of_bits
-zero-not-above = refl
+zero_not_above = refl
 
 -- what is not finite has the root +0
 not_finite : (x : Float) → finite x ≡ false → zero64 ≡ root x
@@ -62,22 +62,22 @@ module _ (x : Float) (f : T (fits binary64 x)) (h : lt zero64 x ≡ true) where
   again : of_bits binary64 (to_bits binary64 x) ≡ x
   again = of_bits-to_bits binary64 x f
 
-  pub above-bits : 0 < to_bits binary64 x
-  above-bits = go (to_bits binary64 x) again
+  pub above_bits : 0 < to_bits binary64 x
+  above_bits = go (to_bits binary64 x) again
     where
       go : (b : ℕ) → of_bits binary64 b ≡ x → 0 < b
-      go zero e = absurd (false≢true (sym zero-not-above ∙ ap (λ (y : Float). lt zero64 y) e ∙ h))
+      go zero e = absurd (false≢true (sym zero_not_above ∙ ap (λ (y : Float). lt zero64 y) e ∙ h))
       go (suc b) e = omega arith
 
-  below-sign : to_bits binary64 x < 2 ^ 63
-  below-sign =
+  below_sign : to_bits binary64 x < 2 ^ 63
+  below_sign =
       nleb→lt (2 ^ 63) (to_bits binary64 x)
-      (fails (sym (pattern-sign (to_bits binary64 x) (subst (λ (y : Float). T (not (is_nan y))) (sym again) (above-number x h))) ∙ ap negative again ∙ (above-sign x h).0))
+      (fails (sym (pattern_sign (to_bits binary64 x) (subst (λ (y : Float). T (not (is_nan y))) (sym again) (above_number x h))) ∙ ap negative again ∙ (above_sign x h).0))
 
   -- bits from the infinity's on are no finite number's
-  pub root-infinite : 2047 * 2 ^ 52 ≤ to_bits binary64 x → zero64 ≡ root x
-  root-infinite l =
-      not_finite x (ap finite (sym again) ∙ pattern-finite (to_bits binary64 x) ∙ ap not (eqb_is (ones (to_bits binary64 x) l below-sign)))
+  pub root_infinite : 2047 * 2 ^ 52 ≤ to_bits binary64 x → zero64 ≡ root x
+  root_infinite l =
+      not_finite x (ap finite (sym again) ∙ pattern_finite (to_bits binary64 x) ∙ ap not (eqb_is (ones (to_bits binary64 x) l below_sign)))
     where
       ones : (b : ℕ) → 2047 * 2 ^ 52 ≤ b → b < 2 ^ 63 → b % 2 ^ 63 / 2 ^ 52 ≡ 2047
       ones b l h = omega arith
@@ -85,22 +85,22 @@ module _ (x : Float) (f : T (fits binary64 x)) (h : lt zero64 x ≡ true) where
 -- ---- not above zero
 
 -- a zero is its own root
-pub root-zero : (x : Float) → eq x zero64 ≡ true → x ≡ root x
+pub root_zero : (x : Float) → eq x zero64 ≡ true → x ≡ root x
 unfolding eq root of_bits
-root-zero nan h = absurd (false≢true h)
-root-zero (inf s) h = absurd (false≢true h)
-root-zero (fin s zero e) h = refl
-root-zero (fin s (suc m) e) h = absurd (none m e (eqb→eq (suc m * up e * 1) (0 * down e) (and_l (eqb (suc m * up e * 1) (0 * down e)) _ (passes h))))
+root_zero nan h = absurd (false≢true h)
+root_zero (inf s) h = absurd (false≢true h)
+root_zero (fin s zero e) h = refl
+root_zero (fin s (suc m) e) h = absurd (none m e (eqb→eq (suc m * up e * 1) (0 * down e) (and_l (eqb (suc m * up e * 1) (0 * down e)) _ (passes h))))
   where
     none : (m : ℕ) (e : ℤ) → suc m * up e * 1 ≡ 0 * down e → ⊥
     none m e g = lt_irrefl 0 (subst (λ (n : ℕ). 0 < n) (sym (mul-one (suc m * up e)) ∙ g ∙ zero-mul (down e)) (mul-pos (zero-lt-suc m) (up_pos e)))
 
 -- what is neither above zero nor a zero has the root +0
-pub root-other : (x : Float) → lt zero64 x ≡ false → eq x zero64 ≡ false → zero64 ≡ root x
+pub root_other : (x : Float) → lt zero64 x ≡ false → eq x zero64 ≡ false → zero64 ≡ root x
 unfolding lt eq root of_bits
-root-other nan h k = refl
-root-other (inf s) h k = refl
-root-other (fin s zero e) h k = absurd (true≢false (sym (same s e) ∙ k))
+root_other nan h k = refl
+root_other (inf s) h k = refl
+root_other (fin s zero e) h k = absurd (true≢false (sym (same s e) ∙ k))
   where
     signs : (s : Bool) → level s 0 false 0 ≡ true
     signs true = refl
@@ -108,8 +108,8 @@ root-other (fin s zero e) h k = absurd (true≢false (sym (same s e) ∙ k))
 
     same : (s : Bool) (e : ℤ) → level s (0 * up e * 1) false (0 * down e) ≡ true
     same s e = ap₂ (λ (a b : ℕ). level s a false b) (ap (λ (a : ℕ). a * 1) (zero-mul (up e))) (zero-mul (down e)) ∙ signs s
-root-other (fin true (suc m) e) h k = refl
-root-other (fin false (suc m) e) h k = absurd (T_not (ltb (0 * down e) (suc m * up e * 1)) (fails h) (lt→ltb (0 * down e) (suc m * up e * 1) (some m e)))
+root_other (fin true (suc m) e) h k = refl
+root_other (fin false (suc m) e) h k = absurd (T_not (ltb (0 * down e) (suc m * up e * 1)) (fails h) (lt→ltb (0 * down e) (suc m * up e * 1) (some m e)))
   where
     some : (m : ℕ) (e : ℤ) → 0 * down e < suc m * up e * 1
     some m e = subst₂ (λ (a b : ℕ). a < b) (sym (zero-mul (down e))) (sym (mul-one (suc m * up e))) (mul-pos (zero-lt-suc m) (up_pos e))

@@ -3,8 +3,8 @@ use Rattle.std.proofs.Common.{◌≡◌, ℕ, zero, suc, ◌+◌, ◌-◌, ◌*�
 use Rattle.elementary.specs.RootSteps.{Near, Balanced}
 
 -- a square by the halves of its root
-square-halves : (q u l : ℕ) → q ≡ u * 2 ^ 27 + l → q * q ≡ u * u * 2 ^ 54 + u * l * 2 ^ 28 + l * l
-square-halves q u l e = ap (λ (z : ℕ). z * z) e ∙ expand u l
+square_halves : (q u l : ℕ) → q ≡ u * 2 ^ 27 + l → q * q ≡ u * u * 2 ^ 54 + u * l * 2 ^ 28 + l * l
+square_halves q u l e = ap (λ (z : ℕ). z * z) e ∙ expand u l
   where
     expand : (u l : ℕ) → (u * 2 ^ 27 + l) * (u * 2 ^ 27 + l) ≡ u * u * 2 ^ 54 + u * l * 2 ^ 28 + l * l
     expand u l = omega arith
@@ -15,28 +15,28 @@ balance : (mh mr uu uh ur ll d : ℕ) → uu + uh + 1 ≡ mh + d
 balance mh mr uu uh ur ll d e = omega arith
 
 -- nothing is shifted out
-ahead-fits : (d : ℕ) → d ≤ 2 → d * 2 ^ 54 % 2 ^ 64 ≡ d * 2 ^ 54
-ahead-fits d h = omega arith
+ahead_fits : (d : ℕ) → d ≤ 2 → d * 2 ^ 54 % 2 ^ 64 ≡ d * 2 ^ 54
+ahead_fits d h = omega arith
 
-cross-shifted : (c : ℕ) → c % 2 ^ 26 * 2 ^ 28 % 2 ^ 64 ≡ c % 2 ^ 26 * 2 ^ 28
-cross-shifted c = omega arith
+cross_shifted : (c : ℕ) → c % 2 ^ 26 * 2 ^ 28 % 2 ^ 64 ≡ c % 2 ^ 26 * 2 ^ 28
+cross_shifted c = omega arith
 
-radicand-shifted : (m : ℕ) → (m % 4 + 4) * 2 ^ 52 % 2 ^ 64 ≡ (m % 4 + 4) * 2 ^ 52
-radicand-shifted m = omega arith
+radicand_shifted : (m : ℕ) → (m % 4 + 4) * 2 ^ 52 % 2 ^ 64 ≡ (m % 4 + 4) * 2 ^ 52
+radicand_shifted m = omega arith
 
 below : (a b A B : ℕ) → a ≤ A → b ≤ B → a * b ≤ A * B
 below a b A B h k = mul-le-mul h k
 
 module _ (q : ℕ) (h : q < 2 ^ 53) where
   -- the three products fit
-  pub cross-fits : q / 2 ^ 27 * (q % 2 ^ 27) < 2 ^ 53
-  cross-fits = omega (arith, below (q / 2 ^ 27) (q % 2 ^ 27) (2 ^ 26 - 1) (2 ^ 27 - 1) (omega arith) (omega arith))
+  pub cross_fits : q / 2 ^ 27 * (q % 2 ^ 27) < 2 ^ 53
+  cross_fits = omega (arith, below (q / 2 ^ 27) (q % 2 ^ 27) (2 ^ 26 - 1) (2 ^ 27 - 1) (omega arith) (omega arith))
 
   pub upper_fits : q / 2 ^ 27 * (q / 2 ^ 27) < 2 ^ 52
   upper_fits = omega (arith, below (q / 2 ^ 27) (q / 2 ^ 27) (2 ^ 26 - 1) (2 ^ 26 - 1) (omega arith) (omega arith))
 
-  pub lower-fits : q % 2 ^ 27 * (q % 2 ^ 27) < 2 ^ 54
-  lower-fits = omega (arith, below (q % 2 ^ 27) (q % 2 ^ 27) (2 ^ 27 - 1) (2 ^ 27 - 1) (omega arith) (omega arith))
+  pub lower_fits : q % 2 ^ 27 * (q % 2 ^ 27) < 2 ^ 54
+  lower_fits = omega (arith, below (q % 2 ^ 27) (q % 2 ^ 27) (2 ^ 27 - 1) (2 ^ 27 - 1) (omega arith) (omega arith))
 
 -- What `weigh` gives is the square of q and m * 2^52, both less the same number.
 pub balanced : (m q : ℕ) → q < 2 ^ 53 →
@@ -50,15 +50,15 @@ balanced m q h a b =
     let l = q % 2 ^ 27 in
     let d = u * u + u * l / 2 ^ 26 + 1 - m / 4 in
     let s : q * q ≡ u * u * 2 ^ 54 + (u * l / 2 ^ 26 * 2 ^ 26 + u * l % 2 ^ 26) * 2 ^ 28 + l * l =
-    square-halves q u l (omega arith) ∙ ap (λ (z : ℕ). u * u * 2 ^ 54 + z * 2 ^ 28 + l * l) (sym (div-add-mod' (u * l) (2 ^ 26))) in
+    square_halves q u l (omega arith) ∙ ap (λ (z : ℕ). u * u * 2 ^ 54 + z * 2 ^ 28 + l * l) (sym (div-add-mod' (u * l) (2 ^ 26))) in
     let r : m ≡ m / 4 * 4 + m % 4 = sym (div-add-mod' m 4) in
     record {
-      left = small d (u * l) (l * l) b (lower-fits q h);
+      left = small d (u * l) (l * l) b (lower_fits q h);
       right = omega arith;
       level = λ _.
-          ap₂ (λ (x y : ℕ). x + y) s (radicand-shifted m)
+          ap₂ (λ (x y : ℕ). x + y) s (radicand_shifted m)
           ∙ balance (m / 4) (m % 4) (u * u) (u * l / 2 ^ 26) (u * l % 2 ^ 26) (l * l) d (omega arith)
-          ∙ sym (ap₂ (λ (x y : ℕ). x * 2 ^ 52 + y) r (ap₂ (λ (x y : ℕ). x + (y + l * l)) (ahead-fits d b) (cross-shifted (u * l))));
+          ∙ sym (ap₂ (λ (x y : ℕ). x * 2 ^ 52 + y) r (ap₂ (λ (x y : ℕ). x + (y + l * l)) (ahead_fits d b) (cross_shifted (u * l))));
     }
   where
     small : (d c k : ℕ) → d ≤ 2 → k < 2 ^ 54 → d * 2 ^ 54 % 2 ^ 64 + (c % 2 ^ 26 * 2 ^ 28 % 2 ^ 64 + k) < 2 ^ 57
@@ -72,9 +72,9 @@ module _ (n q a b : ℕ) (e : q * q + b ≡ n + a) where
   pub settled_up : a + q < b → b ≤ a + q * 3 + 2 → Near n (q + 1)
   settled_up h k = record { above = omega arith; below = omega arith }
 
-pub settled-down : (n q a b : ℕ) → q * q + b ≡ n + a → 0 < q → b + q ≤ a → a + 2 < b + q * 3 → Near n (q - 1)
-settled-down n zero a b e p h k = absurd (none p)
+pub settled_down : (n q a b : ℕ) → q * q + b ≡ n + a → 0 < q → b + q ≤ a → a + 2 < b + q * 3 → Near n (q - 1)
+settled_down n zero a b e p h k = absurd (none p)
   where
     none : 0 < 0 → ⊥
     none p = omega arith
-settled-down n (suc p) a b e z h k = subst (λ (r : ℕ). Near n r) (sym (sub-one (suc p))) (record { above = omega arith; below = omega arith })
+settled_down n (suc p) a b e z h k = subst (λ (r : ℕ). Near n r) (sym (sub-one (suc p))) (record { above = omega arith; below = omega arith })

@@ -2,9 +2,9 @@
 use Rattle.std.proofs.Common.{◌≡◌, ℕ, suc, ◌+◌, ◌-◌, ◌*◌, ◌/◌, ◌%◌, ◌^◌, ◌<◌, ◌≤◌, sym, ap, ◌∙◌, subst, mul-le-mul_right, mul_assoc, mul-le-mul_left, pow-suc, sub-one, arith, pow_pos}
 use native.Mathlib.Nat.{pow-succ'}
 use lib.Arith.{le-zero}
-use Rattle.elementary.specs.Root.{nearestRoot}
+use Rattle.elementary.specs.Root.{nearest_root}
 use Rattle.elementary.specs.RootSteps.{Near}
-use Rattle.elementary.proofs.root.Whole.{Floor, floor-down, floor-up, near, near-unique}
+use Rattle.elementary.proofs.root.Whole.{Floor, floor_down, floor_up, near, near_unique}
 
 -- With `left` pairs of digits of m * 2^52 to come, which stand at the head of the 64-bit word `digits`:
 -- `root` is the whole part of the root of the pairs taken, and `rest` what its square leaves.
@@ -25,8 +25,8 @@ taken_none m h =
     }
 
 -- the root so far has at most 53 digits
-pub taken-short : (m digits root rest left : ℕ) → Taken m digits root rest left → root < 2 ^ 53
-taken-short m digits root rest left t = omega (arith, t.short, mul-le-mul_left (root + 1) (pow_pos left))
+pub taken_short : (m digits root rest left : ℕ) → Taken m digits root rest left → root < 2 ^ 53
+taken_short m digits root rest left t = omega (arith, t.short, mul-le-mul_left (root + 1) (pow_pos left))
 
 -- a pair is moved from the digits to come to those taken
 moved : (w a b left : ℕ) → 0 < left → w ≡ a * 4 ^ left → a * 4 ≡ b → w ≡ b * 4 ^ (left - 1)
@@ -43,9 +43,9 @@ longer r s (suc k) q h l = rw (sub-one (suc k)) (go (2 ^ k) (subst (λ (p : ℕ)
 
 module _ (m digits root rest left : ℕ) (t : Taken m digits root rest left) (p : 0 < left) where
   -- the next digit is 1: the square (2r + 1)² = 4r² + (4r + 1) can be taken
-  pub taken-one : root * 4 + 1 ≤ rest * 4 + digits / 2 ^ 62
+  pub taken_one : root * 4 + 1 ≤ rest * 4 + digits / 2 ^ 62
       → Taken m (digits * 2 ^ 2 % 2 ^ 64) (root * 2 + 1) (rest * 4 + digits / 2 ^ 62 - (root * 4 + 1)) (left - 1)
-  taken-one h =
+  taken_one h =
       let f = t.fits in
       let l = t.least in
       record {
@@ -56,9 +56,9 @@ module _ (m digits root rest left : ℕ) (t : Taken m digits root rest left) (p 
       }
 
   -- the next digit is 0
-  pub taken-zero : rest * 4 + digits / 2 ^ 62 < root * 4 + 1
+  pub taken_zero : rest * 4 + digits / 2 ^ 62 < root * 4 + 1
       → Taken m (digits * 2 ^ 2 % 2 ^ 64) (root * 2) (rest * 4 + digits / 2 ^ 62) (left - 1)
-  taken-zero h =
+  taken_zero h =
       let f = t.fits in
       let l = t.least in
       record {
@@ -76,8 +76,8 @@ all m digits root rest t =
     omega arith
 
 -- what is nearest is the definition's number
-pub nearest-is : (m q : ℕ) → 2 ^ 52 ≤ m → m < 2 ^ 54 → Near (m * 2 ^ 52) q → q ≡ nearestRoot 53 (m * 2 ^ 52)
-nearest-is m q l h n = near-unique (m * 2 ^ 52) q (nearestRoot 53 (m * 2 ^ 52)) n (near 53 (m * 2 ^ 52) (omega arith) (omega arith))
+pub nearest_is : (m q : ℕ) → 2 ^ 52 ≤ m → m < 2 ^ 54 → Near (m * 2 ^ 52) q → q ≡ nearest_root 53 (m * 2 ^ 52)
+nearest_is m q l h n = near_unique (m * 2 ^ 52) q (nearest_root 53 (m * 2 ^ 52)) n (near 53 (m * 2 ^ 52) (omega arith) (omega arith))
 
 module _ (m digits root rest left : ℕ) (l : 2 ^ 52 ≤ m) (h : m < 2 ^ 54) (t : Taken m digits root rest left) (z : left ≤ 0) where
   sum : m * 2 ^ 52 ≡ root * root + rest
@@ -85,15 +85,15 @@ module _ (m digits root rest left : ℕ) (l : 2 ^ 52 ≤ m) (h : m < 2 ^ 54) (t 
 
   -- the root is the whole part
   part : Floor (m * 2 ^ 52) root
-  part = floor-of (m * 2 ^ 52) sum
+  part = floor_of (m * 2 ^ 52) sum
     where
-      floor-of : (n : ℕ) → n ≡ root * root + rest → Floor n root
-      floor-of n e = let k = t.least in record { least = omega arith; most = omega arith }
+      floor_of : (n : ℕ) → n ≡ root * root + rest → Floor n root
+      floor_of n e = let k = t.least in record { least = omega arith; most = omega arith }
 
   -- the rest is below the middle
-  pub taken-down : rest ≤ root → root ≡ nearestRoot 53 (m * 2 ^ 52)
-  taken-down g = let e = sum in nearest-is m root l h (floor-down (m * 2 ^ 52) root (omega arith) part (omega arith))
+  pub taken_down : rest ≤ root → root ≡ nearest_root 53 (m * 2 ^ 52)
+  taken_down g = let e = sum in nearest_is m root l h (floor_down (m * 2 ^ 52) root (omega arith) part (omega arith))
 
   -- the rest is past the middle
-  pub taken-up : root < rest → root + 1 ≡ nearestRoot 53 (m * 2 ^ 52)
-  taken-up g = let e = sum in nearest-is m (root + 1) l h (floor-up (m * 2 ^ 52) root part (omega arith))
+  pub taken_up : root < rest → root + 1 ≡ nearest_root 53 (m * 2 ^ 52)
+  taken_up g = let e = sum in nearest_is m (root + 1) l h (floor_up (m * 2 ^ 52) root part (omega arith))

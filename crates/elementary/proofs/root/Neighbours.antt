@@ -1,17 +1,17 @@
--- No other number of at most 53 digits is as near to the root of n units as `rootUnits n`: the middle of the two, squared, is compared with n * one.
+-- No other number of at most 53 digits is as near to the root of n units as `root_units n`: the middle of the two, squared, is compared with n * one.
 -- From this the root against any such number by squares, both ways, and that it is monotone.
 use Rattle.std.proofs.Common.{◌≡◌, ℕ, zero, suc, ◌+◌, ◌-◌, ◌*◌, ◌^◌, ◌<◌, ◌≤◌, ◌⊎◌, sym, refl, ap, ◌∙◌, subst, subst₂, inl, inr, zero-le, le_trans, le_of_eq, lt_of_lt_of_le, lt_of_le_of_lt, le_of_lt, lt_irrefl, mul-le-mul_right, mul_assoc, suc-mul, mul-le-mul, lt_of_mul-lt-mul_right, mul-le-mul_left, mul-lt-mul_of_pos_right, mul-pos, add-one, arith, pow_pos, pow_mono, pow-add}
 use native.Mathlib.Nat.{mul-mul-mul_comm}
 use Rattle.binary64.specs.Units.{one, Digits53}
-use Rattle.binary64.proofs.Naturals.{lt-or-ge}
+use Rattle.binary64.proofs.Naturals.{lt_or_ge}
 use Rattle.binary64.proofs.Units.{digits53}
-use Rattle.elementary.specs.Root.{rootUnits}
+use Rattle.elementary.specs.Root.{root_units}
 use Rattle.elementary.specs.RootSteps.{Near}
 use Rattle.elementary.proofs.root.Scale.{scaled}
 
 -- A number of at most 53 digits that reaches 2 ^ 52 * 2 ^ j is a multiple of 2 ^ j.
 multiple : (u j : ℕ) → Digits53 u → 2 ^ 52 * 2 ^ j ≤ u → (c : ℕ) × (u ≡ c * 2 ^ j)
-multiple u j d h = go (lt-or-ge d.zeros j)
+multiple u j d h = go (lt_or_ge d.zeros j)
   where
     go : (d.zeros < j) ⊎ (j ≤ d.zeros) → (c : ℕ) × (u ≡ c * 2 ^ j)
     go (inr l) =
@@ -31,12 +31,12 @@ square_le : (a b : ℕ) → a ≤ b → a * a ≤ b * b
 square_le a b h = mul-le-mul h h
 
 -- the middle of (q - 1) * U and q * U is below the root of X * U * U, and that of q * U and (q + 1) * U above
-middle-below : (X q U u : ℕ) → 0 < U → Near X q → u + U ≤ q * U → (u + q * U) * (u + q * U) < 4 * (X * (U * U))
-middle-below X zero U u p n h = absurd (none U u p h)
+middle_below : (X q U u : ℕ) → 0 < U → Near X q → u + U ≤ q * U → (u + q * U) * (u + q * U) < 4 * (X * (U * U))
+middle_below X zero U u p n h = absurd (none U u p h)
   where
     none : (U u : ℕ) → 0 < U → u + U ≤ 0 * U → ⊥
     none U u p h = omega arith
-middle-below X (suc q) U u p n h =
+middle_below X (suc q) U u p n h =
     lt_of_le_of_lt (square_le (u + suc q * U) ((2 * q + 1) * U) (omega arith))
     (subst (λ (z : ℕ). z < 4 * (X * (U * U))) (sym (product (2 * q + 1) U))
     (subst (λ (z : ℕ). (2 * q + 1) * (2 * q + 1) * (U * U) < z) (mul_assoc 4 X (U * U)) (mul-lt-mul_of_pos_right (odd X q n.above) (mul-pos p p))))
@@ -44,8 +44,8 @@ middle-below X (suc q) U u p n h =
     odd : (X q : ℕ) → suc q * suc q < X + suc q → (2 * q + 1) * (2 * q + 1) < 4 * X
     odd X q h = omega arith
 
-middle-above : (X q U u : ℕ) → 0 < U → Near X q → (q + 1) * U ≤ u → 4 * (X * (U * U)) < (u + q * U) * (u + q * U)
-middle-above X q U u p n h =
+middle_above : (X q U u : ℕ) → 0 < U → Near X q → (q + 1) * U ≤ u → 4 * (X * (U * U)) < (u + q * U) * (u + q * U)
+middle_above X q U u p n h =
     lt_of_lt_of_le
     (subst (λ (z : ℕ). z < (2 * q + 1) * (2 * q + 1) * (U * U)) (mul_assoc 4 X (U * U)) (mul-lt-mul_of_pos_right {k = U * U} (odd X q n.below) (mul-pos p p)))
     (le_trans (le_of_eq (sym (product (2 * q + 1) U))) (square_le ((2 * q + 1) * U) (u + q * U) (omega arith)))
@@ -53,8 +53,8 @@ middle-above X q U u p n h =
     odd : (X q : ℕ) → X ≤ q * q + q → 4 * X < (2 * q + 1) * (2 * q + 1)
     odd X q h = omega arith
 
-square-lt : (a b : ℕ) → a < b → a * a < b * b
-square-lt a b h = subst (λ (z : ℕ). a * a < z * z) (sym e) (more a (b - (a + 1)))
+square_lt : (a b : ℕ) → a < b → a * a < b * b
+square_lt a b h = subst (λ (z : ℕ). a * a < z * z) (sym e) (more a (b - (a + 1)))
   where
     e : b ≡ a + 1 + (b - (a + 1))
     e = omega arith
@@ -64,12 +64,12 @@ square-lt a b h = subst (λ (z : ℕ). a * a < z * z) (sym e) (more a (b - (a + 
 
 -- The same for any u of at most 53 digits above q * U, and below it. Where q is 2 ^ 52, numbers below q * U lie closer, but then the root is not below q * U.
 module _ (X q j u : ℕ) (n : Near X q) (long : 2 ^ 104 ≤ X) (least : 2 ^ 52 ≤ q) (d : Digits53 u) where
-  next-above : q * 2 ^ j < u → 4 * (X * (2 ^ j * 2 ^ j)) < (u + q * 2 ^ j) * (u + q * 2 ^ j)
-  next-above h =
+  next_above : q * 2 ^ j < u → 4 * (X * (2 ^ j * 2 ^ j)) < (u + q * 2 ^ j) * (u + q * 2 ^ j)
+  next_above h =
       let U = 2 ^ j in
       let m = multiple u j d (le_trans (mul-le-mul_right U least) (le_of_lt h)) in
       let c : q < m.0 = lt_of_mul-lt-mul_right U (subst (λ (z : ℕ). q * U < z) m.1 h) in
-      middle-above X q U u (pow_pos j) n (subst₂ (λ (a b : ℕ). a * U ≤ b) (sym (add-one q)) (sym m.1) (mul-le-mul_right U c))
+      middle_above X q U u (pow_pos j) n (subst₂ (λ (a b : ℕ). a * U ≤ b) (sym (add-one q)) (sym m.1) (mul-le-mul_right U c))
 
   spaced : u < q * 2 ^ j → 2 ^ 52 < q → (u < 2 ^ 52 * 2 ^ j) ⊎ (2 ^ 52 * 2 ^ j ≤ u) → u + 2 ^ j ≤ q * 2 ^ j
   spaced h l (inr k) =
@@ -82,13 +82,13 @@ module _ (X q j u : ℕ) (n : Near X q) (long : 2 ^ 104 ≤ X) (least : 2 ^ 52 �
       upto : (u c U : ℕ) → u < c * U → u + U ≤ suc c * U
       upto u c U k = omega arith
 
-  next-below : u < q * 2 ^ j → (u + q * 2 ^ j) * (u + q * 2 ^ j) < 4 * (X * (2 ^ j * 2 ^ j))
-  next-below h = go (lt-or-ge (2 ^ 52) q)
+  next_below : u < q * 2 ^ j → (u + q * 2 ^ j) * (u + q * 2 ^ j) < 4 * (X * (2 ^ j * 2 ^ j))
+  next_below h = go (lt_or_ge (2 ^ 52) q)
     where
       lowest : q ≤ 2 ^ 52 → (u + q * 2 ^ j) * (u + q * 2 ^ j) < 4 * (X * (2 ^ j * 2 ^ j))
       lowest l =
           let U = 2 ^ j in
-          lt_of_lt_of_le (square-lt (u + q * U) (2 * q * U) (omega arith))
+          lt_of_lt_of_le (square_lt (u + q * U) (2 * q * U) (omega arith))
           (le_trans (le_of_eq (product (2 * q) U))
           (le_trans (mul-le-mul_right (U * U) (le_trans (le_of_eq (four q)) (mul-le-mul_left 4 (le_trans (square_le q (2 ^ 52) l) long))))
           (le_of_eq (mul_assoc 4 X (U * U)))))
@@ -97,29 +97,29 @@ module _ (X q j u : ℕ) (n : Near X q) (long : 2 ^ 104 ≤ X) (least : 2 ^ 52 �
           four q = omega arith
 
       go : (2 ^ 52 < q) ⊎ (q ≤ 2 ^ 52) → (u + q * 2 ^ j) * (u + q * 2 ^ j) < 4 * (X * (2 ^ j * 2 ^ j))
-      go (inl l) = middle-below X q (2 ^ j) u (pow_pos j) n (spaced h l (lt-or-ge u (2 ^ 52 * 2 ^ j)))
+      go (inl l) = middle_below X q (2 ^ j) u (pow_pos j) n (spaced h l (lt_or_ge u (2 ^ 52 * 2 ^ j)))
       go (inr l) = lowest l
 
 module _ (n : ℕ) (p : 0 < n) (d : Digits53 n) (u : ℕ) (g : Digits53 u) where
   -- Any other number above the root is farther from the exact root,
-  pub neighbour-above : rootUnits n < u → 4 * (n * one) < (u + rootUnits n) * (u + rootUnits n)
-  neighbour-above h =
+  pub neighbour_above : root_units n < u → 4 * (n * one) < (u + root_units n) * (u + root_units n)
+  neighbour_above h =
       let s = scaled n p d in
       subst₂ (λ (a b : ℕ). 4 * a < (u + b) * (u + b)) (sym s.whole) (sym s.is)
-      (next-above s.X s.q s.j u s.nearest s.long s.least g (subst (λ (z : ℕ). z < u) s.is h))
+      (next_above s.X s.q s.j u s.nearest s.long s.least g (subst (λ (z : ℕ). z < u) s.is h))
 
   -- and so is any other number below it.
-  pub neighbour-below : u < rootUnits n → (u + rootUnits n) * (u + rootUnits n) < 4 * (n * one)
-  neighbour-below h =
+  pub neighbour_below : u < root_units n → (u + root_units n) * (u + root_units n) < 4 * (n * one)
+  neighbour_below h =
       let s = scaled n p d in
       subst₂ (λ (a b : ℕ). (u + b) * (u + b) < 4 * a) (sym s.whole) (sym s.is)
-      (next-below s.X s.q s.j u s.nearest s.long s.least g (subst (λ (z : ℕ). u < z) s.is h))
+      (next_below s.X s.q s.j u s.nearest s.long s.least g (subst (λ (z : ℕ). u < z) s.is h))
 
 -- ---- the root against any v of at most 53 digits, by squares
 
-pub rootUnits-zero : rootUnits 0 ≡ 0
-unfolding rootUnits
-rootUnits-zero = refl
+pub root_units_zero : root_units 0 ≡ 0
+unfolding root_units
+root_units_zero = refl
 
 -- what is not 0 is above it
 pub by_zero : (n : ℕ) → (n ≡ 0) ⊎ (0 < n)
@@ -127,11 +127,11 @@ by_zero zero = inl refl
 by_zero (suc n) = inr (omega arith)
 
 -- the middle of v and r is on r's side of v
-middle-over : (v r a : ℕ) → v < r → a ≤ v * v → (v + r) * (v + r) < 4 * a → ⊥
-middle-over v r a l h k = let g = square-lt (v + v) (v + r) (omega arith) in omega arith
+middle_over : (v r a : ℕ) → v < r → a ≤ v * v → (v + r) * (v + r) < 4 * a → ⊥
+middle_over v r a l h k = let g = square_lt (v + v) (v + r) (omega arith) in omega arith
 
-middle-under : (v r a : ℕ) → r < v → v * v ≤ a → 4 * a < (v + r) * (v + r) → ⊥
-middle-under v r a l h k = let g = square-lt (v + r) (v + v) (omega arith) in omega arith
+middle_under : (v r a : ℕ) → r < v → v * v ≤ a → 4 * a < (v + r) * (v + r) → ⊥
+middle_under v r a l h k = let g = square_lt (v + r) (v + v) (omega arith) in omega arith
 
 only_zero : (v r c : ℕ) → v * v ≤ 0 * c → v ≤ r
 only_zero zero r c h = zero-le
@@ -142,39 +142,39 @@ only_zero (suc v) r c h = absurd (none v c h)
 
 module _ (n v : ℕ) (d : Digits53 n) (g : Digits53 v) where
   -- Where n is at most the square of v, its root is at most v;
-  pub root-le : n * one ≤ v * v → rootUnits n ≤ v
-  root-le h = go (by_zero n) (lt-or-ge v (rootUnits n))
+  pub root_le : n * one ≤ v * v → root_units n ≤ v
+  root_le h = go (by_zero n) (lt_or_ge v (root_units n))
     where
-      go : (n ≡ 0) ⊎ (0 < n) → (v < rootUnits n) ⊎ (rootUnits n ≤ v) → rootUnits n ≤ v
+      go : (n ≡ 0) ⊎ (0 < n) → (v < root_units n) ⊎ (root_units n ≤ v) → root_units n ≤ v
       go z (inr l) = l
-      go (inl z) (inl l) = subst (λ (k : ℕ). k ≤ v) (sym (ap rootUnits z ∙ rootUnits-zero)) zero-le
-      go (inr p) (inl l) = absurd (middle-over v (rootUnits n) (n * one) l h (neighbour-below n p d v g l))
+      go (inl z) (inl l) = subst (λ (k : ℕ). k ≤ v) (sym (ap root_units z ∙ root_units_zero)) zero-le
+      go (inr p) (inl l) = absurd (middle_over v (root_units n) (n * one) l h (neighbour_below n p d v g l))
 
   -- where it is at least the square of v, its root is at least v.
-  pub root_ge : v * v ≤ n * one → v ≤ rootUnits n
-  root_ge h = go (by_zero n) (lt-or-ge (rootUnits n) v)
+  pub root_ge : v * v ≤ n * one → v ≤ root_units n
+  root_ge h = go (by_zero n) (lt_or_ge (root_units n) v)
     where
-      go : (n ≡ 0) ⊎ (0 < n) → (rootUnits n < v) ⊎ (v ≤ rootUnits n) → v ≤ rootUnits n
+      go : (n ≡ 0) ⊎ (0 < n) → (root_units n < v) ⊎ (v ≤ root_units n) → v ≤ root_units n
       go z (inr l) = l
-      go (inl z) (inl l) = only_zero v (rootUnits n) one (subst (λ (k : ℕ). v * v ≤ k * one) z h)
-      go (inr p) (inl l) = absurd (middle-under v (rootUnits n) (n * one) l h (neighbour-above n p d v g l))
+      go (inl z) (inl l) = only_zero v (root_units n) one (subst (λ (k : ℕ). v * v ≤ k * one) z h)
+      go (inr p) (inl l) = absurd (middle_under v (root_units n) (n * one) l h (neighbour_above n p d v g l))
 
 -- the root is itself a number of at most 53 digits
-pub root-digits : (n : ℕ) → 0 < n → Digits53 n → Digits53 (rootUnits n)
-root-digits n p d = let s = scaled n p d in subst (λ (r : ℕ). Digits53 r) (sym s.is) (digits53 s.q s.j s.most)
+pub root_digits : (n : ℕ) → 0 < n → Digits53 n → Digits53 (root_units n)
+root_digits n p d = let s = scaled n p d in subst (λ (r : ℕ). Digits53 r) (sym s.is) (digits53 s.q s.j s.most)
 
 -- The root is monotone.
-pub root-mono : (n m : ℕ) → Digits53 n → Digits53 m → n ≤ m → rootUnits n ≤ rootUnits m
-root-mono n m d e h = go (by_zero n) (lt-or-ge (rootUnits m) (rootUnits n))
+pub root_mono : (n m : ℕ) → Digits53 n → Digits53 m → n ≤ m → root_units n ≤ root_units m
+root_mono n m d e h = go (by_zero n) (lt_or_ge (root_units m) (root_units n))
   where
-    go : (n ≡ 0) ⊎ (0 < n) → (rootUnits m < rootUnits n) ⊎ (rootUnits n ≤ rootUnits m) → rootUnits n ≤ rootUnits m
+    go : (n ≡ 0) ⊎ (0 < n) → (root_units m < root_units n) ⊎ (root_units n ≤ root_units m) → root_units n ≤ root_units m
     go z (inr l) = l
-    go (inl z) (inl l) = subst (λ (k : ℕ). k ≤ rootUnits m) (sym (ap rootUnits z ∙ rootUnits-zero)) zero-le
+    go (inl z) (inl l) = subst (λ (k : ℕ). k ≤ root_units m) (sym (ap root_units z ∙ root_units_zero)) zero-le
     go (inr p) (inl l) =
         let q = lt_of_lt_of_le p h in
-        absurd (apart (rootUnits n) (rootUnits m) (n * one) (m * one)
-        (neighbour-above m q e (rootUnits n) (root-digits n p d) l)
-        (neighbour-below n p d (rootUnits m) (root-digits m q e) l)
+        absurd (apart (root_units n) (root_units m) (n * one) (m * one)
+        (neighbour_above m q e (root_units n) (root_digits n p d) l)
+        (neighbour_below n p d (root_units m) (root_digits m q e) l)
         (mul-le-mul_right one h))
       where
         apart : (r s a b : ℕ) → 4 * b < (r + s) * (r + s) → (s + r) * (s + r) < 4 * a → a ≤ b → ⊥

@@ -3,33 +3,33 @@ use Rattle.std.proofs.Common.{◌≡◌, ℕ, zero, suc, ◌+◌, ◌*◌, ◌<�
 use lib.Ieee.{Float, nan, inf, fin, binary64, up, down, fits, of_bits, lt}
 use Rattle.binary64.specs.Units.{one, mag, negative, plus, minus, Finite}
 use Rattle.binary64.specs.Constants.{zero64}
-use Rattle.binary64.proofs.Units.{mag-digits, plus-is, plus-sign, not-lt-of-units, same_float, zero64-finite, zero64-plus, above_zero}
+use Rattle.binary64.proofs.Units.{mag_digits, plus_is, plus_sign, not_lt_of_units, same_float, zero64_finite, zero64_plus, above_zero}
 use Rattle.elementary.specs.Root.{root}
 use Rattle.elementary.specs.RootPromise.{Nearest, RootPromise}
-use Rattle.elementary.proofs.root.Neighbours.{neighbour-above, neighbour-below}
-use Rattle.elementary.proofs.root.Values.{positive-mag, positive-sign, positive-finite, root-finite, root-minus}
+use Rattle.elementary.proofs.root.Neighbours.{neighbour_above, neighbour_below}
+use Rattle.elementary.proofs.root.Values.{positive_mag, positive_sign, positive_finite, root_finite, root_minus}
 
 module _ {x : Float} (f : Finite x) (s : negative x ≡ false) (p : 0 < mag x) where
-  positive-nearest : Nearest x (root x)
-  positive-nearest = record {
-    finite = positive-finite f s p;
-    sign = positive-sign f s p;
-    above = λ u g h. subst (λ (r : ℕ). 4 * (mag x * one) < (mag u + r) * (mag u + r)) (sym (positive-mag f s p))
-        (neighbour-above (mag x) p (mag-digits f) (mag u) (mag-digits g) (subst (λ (r : ℕ). r < mag u) (positive-mag f s p) h));
-    below = λ u g h. subst (λ (r : ℕ). (mag u + r) * (mag u + r) < 4 * (mag x * one)) (sym (positive-mag f s p))
-        (neighbour-below (mag x) p (mag-digits f) (mag u) (mag-digits g) (subst (λ (r : ℕ). mag u < r) (positive-mag f s p) h));
+  positive_nearest : Nearest x (root x)
+  positive_nearest = record {
+    finite = positive_finite f s p;
+    sign = positive_sign f s p;
+    above = λ u g h. subst (λ (r : ℕ). 4 * (mag x * one) < (mag u + r) * (mag u + r)) (sym (positive_mag f s p))
+        (neighbour_above (mag x) p (mag_digits f) (mag u) (mag_digits g) (subst (λ (r : ℕ). r < mag u) (positive_mag f s p) h));
+    below = λ u g h. subst (λ (r : ℕ). (mag u + r) * (mag u + r) < 4 * (mag x * one)) (sym (positive_mag f s p))
+        (neighbour_below (mag x) p (mag_digits f) (mag u) (mag_digits g) (subst (λ (r : ℕ). mag u < r) (positive_mag f s p) h));
   }
 
 -- of two floats that are nearest none is the larger
-not-larger : {x r t : Float} → Nearest x r → Nearest x t → mag r < mag t → ⊥
-not-larger {x} {r} {t} a b l = apart (mag r) (mag t) (mag x * one) (a.above t b.finite l) (b.below r a.finite l)
+not_larger : {x r t : Float} → Nearest x r → Nearest x t → mag r < mag t → ⊥
+not_larger {x} {r} {t} a b l = apart (mag r) (mag t) (mag x * one) (a.above t b.finite l) (b.below r a.finite l)
   where
     apart : (r t n : ℕ) → 4 * n < (t + r) * (t + r) → (r + t) * (r + t) < 4 * n → ⊥
     apart r t n h k = omega arith
 
-nearest-only : {x r t : Float} → Nearest x r → Nearest x t → r ≡ t
-nearest-only {x} {r} {t} a b =
-    same_float a.finite b.finite (a.sign ∙ sym b.sign) (both (mag r) (mag t) (not-larger a b) (not-larger b a))
+nearest_only : {x r t : Float} → Nearest x r → Nearest x t → r ≡ t
+nearest_only {x} {r} {t} a b =
+    same_float a.finite b.finite (a.sign ∙ sym b.sign) (both (mag r) (mag t) (not_larger a b) (not_larger b a))
   where
     both : (m n : ℕ) → (m < n → ⊥) → (n < m → ⊥) → m ≡ n
     both m n h k = omega arith
@@ -39,46 +39,46 @@ nearest-only {x} {r} {t} a b =
 positive : {x : Float} → Finite x → lt zero64 x ≡ true → (negative x ≡ false) × (0 < mag x)
 positive {x} f h =
     let p = (above_zero f h).0 in
-    let s = plus-sign x p in
-    (s, subst (λ (k : ℕ). 0 < k) (plus-is x s).0 p)
+    let s = plus_sign x p in
+    (s, subst (λ (k : ℕ). 0 < k) (plus_is x s).0 p)
 
 -- nothing is below 0 times a number
-not-below : (a c : ℕ) → ltb a (0 * c) ≡ true → ⊥
-not-below a c h = none a (0 * c) (zero-mul c) (ltb→lt a (0 * c) (subst (λ (t : Bool). T t) (sym h) tt))
+not_below : (a c : ℕ) → ltb a (0 * c) ≡ true → ⊥
+not_below a c h = none a (0 * c) (zero-mul c) (ltb→lt a (0 * c) (subst (λ (t : Bool). T t) (sym h) tt))
   where
     none : (a b : ℕ) → b ≡ 0 → a < b → ⊥
     none a b e l = omega arith
 
-no-sum : (a b : ℕ) → ltb 0 (0 * a * 1 + 0 * b) ≡ true → ⊥
-no-sum a b h = none (0 * a * 1 + 0 * b) (simp (zero-mul, zero-add)) (ltb→lt 0 (0 * a * 1 + 0 * b) (subst (λ (t : Bool). T t) (sym h) tt))
+no_sum : (a b : ℕ) → ltb 0 (0 * a * 1 + 0 * b) ≡ true → ⊥
+no_sum a b h = none (0 * a * 1 + 0 * b) (simp (zero-mul, zero-add)) (ltb→lt 0 (0 * a * 1 + 0 * b) (subst (λ (t : Bool). T t) (sym h) tt))
   where
     none : (a : ℕ) → a ≡ 0 → 0 < a → ⊥
     none a e l = omega arith
 
-below-zero : (x : Float) → lt x zero64 ≡ true → root x ≡ zero64
+below_zero : (x : Float) → lt x zero64 ≡ true → root x ≡ zero64
 unfolding lt root of_bits
-below-zero nan h = refl
-below-zero (inf s) h = refl
-below-zero (fin true zero e) h = absurd (no-sum (up e) (down e) h)
-below-zero (fin true (suc m) e) h = refl
-below-zero (fin false m e) h = absurd (not-below (m * up e * 1) (down e) h)
+below_zero nan h = refl
+below_zero (inf s) h = refl
+below_zero (fin true zero e) h = absurd (no_sum (up e) (down e) h)
+below_zero (fin true (suc m) e) h = refl
+below_zero (fin false m e) h = absurd (not_below (m * up e * 1) (down e) h)
 
-not-below-zero : (x : Float) → T (fits binary64 x) → lt (root x) zero64 ≡ false
-not-below-zero x f = not-lt-of-units (root-finite x f) zero64-finite (least (plus zero64) (minus zero64) (minus (root x)) (plus (root x)) zero64-plus (root-minus x f))
+not_below_zero : (x : Float) → T (fits binary64 x) → lt (root x) zero64 ≡ false
+not_below_zero x f = not_lt_of_units (root_finite x f) zero64_finite (least (plus zero64) (minus zero64) (minus (root x)) (plus (root x)) zero64_plus (root_minus x f))
   where
     least : (a b c d : ℕ) → a ≡ 0 → c ≡ 0 → a + c ≤ d + b
     least a b c d z e = omega arith
 
 -- Document 01's sentences on the root hold.
-pub root-promise : RootPromise
+pub root_promise : RootPromise
 unfolding root
-root-promise = record {
-  nearest = λ x f h. let a = positive f h in positive-nearest f a.0 a.1;
-  only = λ x r f h n. let a = positive f h in nearest-only n (positive-nearest f a.0 a.1);
+root_promise = record {
+  nearest = λ x f h. let a = positive f h in positive_nearest f a.0 a.1;
+  only = λ x r f h n. let a = positive f h in nearest_only n (positive_nearest f a.0 a.1);
   zeros = λ s. refl;
-  negatives = below-zero;
+  negatives = below_zero;
   no_number = refl;
   infinities = λ s. refl;
-  finite = root-finite;
-  not-below = not-below-zero;
+  finite = root_finite;
+  not_below = not_below_zero;
 }

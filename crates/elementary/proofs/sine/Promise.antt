@@ -8,18 +8,18 @@ use Rattle.binary64.specs.Constants.{zero64}
 use Rattle.binary64.specs.Functions.{absolute}
 use Rattle.binary64.specs.Units.{one, Finite, mag}
 use Rattle.binary64.specs.Magnitude.{Most}
-use Rattle.binary64.proofs.Units.{one-pos, mag-exact, plus-is, minus_is, below-zero, not-below-zero}
-use Rattle.binary64.proofs.Magnitude.{most-zero}
+use Rattle.binary64.proofs.Units.{one_pos, mag_exact, plus_is, minus_is, below_zero, not_below_zero}
+use Rattle.binary64.proofs.Magnitude.{most_zero}
 use Rattle.series.specs.Fraction.{Fraction, Within, signed, exact}
 use Rattle.series.specs.Taylor.{sin40, cos40}
-use Rattle.series.specs.Kernel.{quarter, rawSine, quarterSine, reduced, halfTurned}
-use Rattle.series.proofs.Angles.{fraction, sine-within, cosine-within}
-use Rattle.series.proofs.Fractions.{within-trans, within-weaken}
-use Rattle.elementary.specs.Sine.{sine, cosine, fixedSine, sixteen, angle}
+use Rattle.series.specs.Kernel.{quarter, raw_sine, quarter_sine, reduced, half_turned}
+use Rattle.series.proofs.Angles.{fraction, sine_within, cosine_within}
+use Rattle.series.proofs.Fractions.{within_trans, within_weaken}
+use Rattle.elementary.specs.Sine.{sine, cosine, fixed_sine, sixteen, angle}
 use Rattle.elementary.specs.SinePromise.{Domain, SinePromise, CosinePromise}
-use Rattle.elementary.proofs.sine.Arms.{sine-inside, sine-outside, cosine-inside, cosine-outside}
-use Rattle.elementary.proofs.sine.Entry.{angle-is, angle-small, inside-domain, domain-inside}
-use Rattle.elementary.proofs.sine.Exit.{made-most, made-within}
+use Rattle.elementary.proofs.sine.Arms.{sine_inside, sine_outside, cosine_inside, cosine_outside}
+use Rattle.elementary.proofs.sine.Entry.{angle_is, angle_small, inside_domain, domain_inside}
+use Rattle.elementary.proofs.sine.Exit.{made_most, made_within}
 
 -- ---- the entry, as a fraction
 
@@ -34,21 +34,21 @@ denominator nan = 1
 denominator (inf s) = 1
 denominator (fin s m e) = down e
 
-denominator-pos : (v : Float) → 0 < denominator v
+denominator_pos : (v : Float) → 0 < denominator v
 unfolding denominator
-denominator-pos nan = leb→le 1 1 tt
-denominator-pos (inf s) = leb→le 1 1 tt
-denominator-pos (fin s m e) = down_pos e
+denominator_pos nan = leb→le 1 1 tt
+denominator_pos (inf s) = leb→le 1 1 tt
+denominator_pos (fin s m e) = down_pos e
 
 -- the angle is that fraction, in units of 2^-59, cut
-angle-fraction : (v : Float) → Domain v → angle v ≡ 2 ^ 59 * numerator v / denominator v
+angle_fraction : (v : Float) → Domain v → angle v ≡ 2 ^ 59 * numerator v / denominator v
 unfolding numerator denominator
-angle-fraction nan d = absurd d.finite.number
-angle-fraction (inf s) d = absurd d.finite.number
-angle-fraction (fin s m e) d =
-    angle-is d
-    ∙ div_same (mag (fin s m e) * 2 ^ 59) one (2 ^ 59 * (m * up e)) (down e) one-pos (down_pos e)
-    (regroup (mag (fin s m e)) (down e) (m * up e) one (mag-exact s m e d.finite.fit))
+angle_fraction nan d = absurd d.finite.number
+angle_fraction (inf s) d = absurd d.finite.number
+angle_fraction (fin s m e) d =
+    angle_is d
+    ∙ div_same (mag (fin s m e) * 2 ^ 59) one (2 ^ 59 * (m * up e)) (down e) one_pos (down_pos e)
+    (regroup (mag (fin s m e)) (down e) (m * up e) one (mag_exact s m e d.finite.fit))
   where
     regroup : (a d k o : ℕ) → a * d ≡ k * o → a * 2 ^ 59 * d ≡ 2 ^ 59 * k * o
     regroup a d k o h = omega arith
@@ -60,11 +60,11 @@ sign_same false false m e f h = refl
 sign_same true false m e f h =
     ap (signed true) is_zero ∙ sym (ap (signed false) is_zero)
   where
-    mag-zero : mag (fin true m e) ≡ 0
-    mag-zero = sym (minus_is (fin true m e) refl).1 ∙ not-below-zero f h
+    mag_zero : mag (fin true m e) ≡ 0
+    mag_zero = sym (minus_is (fin true m e) refl).1 ∙ not_below_zero f h
 
     is_zero : m * up e ≡ 0
-    is_zero = none (m * up e) one (sym (mag-exact true m e f.fit) ∙ ap (λ (k : ℕ). k * down e) mag-zero ∙ zero-mul (down e)) one-pos
+    is_zero = none (m * up e) one (sym (mag_exact true m e f.fit) ∙ ap (λ (k : ℕ). k * down e) mag_zero ∙ zero-mul (down e)) one_pos
       where
         none : (k o : ℕ) → k * o ≡ 0 → 0 < o → k ≡ 0
         none zero o h p = refl
@@ -72,93 +72,93 @@ sign_same true false m e f h =
           where
             positive : (k o : ℕ) → suc k * o ≡ 0 → 0 < o → ⊥
             positive k o h p = omega arith
-sign_same false true m e f h = absurd (lt_irrefl 0 (subst (λ (k : ℕ). 0 < k) (plus-is (fin false m e) refl).1 (below-zero f h).1))
+sign_same false true m e f h = absurd (lt_irrefl 0 (subst (λ (k : ℕ). 0 < k) (plus_is (fin false m e) refl).1 (below_zero f h).1))
 
 -- v is that fraction, with the sign that the recipe reads off it
-exact-fraction : (v : Float) → Domain v → exact v ≡ fraction (lt v zero64) (numerator v) (denominator v)
+exact_fraction : (v : Float) → Domain v → exact v ≡ fraction (lt v zero64) (numerator v) (denominator v)
 unfolding exact numerator denominator
-exact-fraction nan d = absurd d.finite.number
-exact-fraction (inf s) d = absurd d.finite.number
-exact-fraction (fin s m e) d = ap (λ (z : ℤ). record { num = z; den = down e }) (sign_same s (lt (fin s m e) zero64) m e d.finite refl)
+exact_fraction nan d = absurd d.finite.number
+exact_fraction (inf s) d = absurd d.finite.number
+exact_fraction (fin s m e) d = ap (λ (z : ℤ). record { num = z; den = down e }) (sign_same s (lt (fin s m e) zero64) m e d.finite refl)
 
 -- what the fixed-point part asks of the angle
-angle-asks : (v : Float) → Domain v → 2 ^ 59 * numerator v / denominator v ≤ 2 ^ 63
-angle-asks v d = le_trans (le_of_eq (sym (angle-fraction v d))) (angle-small d)
+angle_asks : (v : Float) → Domain v → 2 ^ 59 * numerator v / denominator v ≤ 2 ^ 63
+angle_asks v d = le_trans (le_of_eq (sym (angle_fraction v d))) (angle_small d)
 
 -- ---- the exit
 
-sine-small : (w : ℕ) → quarterSine (reduced w) ≤ 2 ^ 61
-unfolding quarterSine
-sine-small w = capped (rawSine (reduced w))
+sine_small : (w : ℕ) → quarter_sine (reduced w) ≤ 2 ^ 61
+unfolding quarter_sine
+sine_small w = capped (raw_sine (reduced w))
   where
     capped : (r : ℕ) → min r (2 ^ 61) ≤ 2 ^ 61
     capped r = omega arith
 
-fixed-within : (t : Bool) (w : ℕ) → Within (fraction (unlike t (halfTurned w)) (quarterSine (reduced w)) (2 ^ 61)) (exact (fixedSine t w)) 256 (2 ^ 61)
-unfolding fixedSine
-fixed-within t w = made-within (quarterSine (reduced w)) (sine-small w) (unlike t (halfTurned w))
+fixed_within : (t : Bool) (w : ℕ) → Within (fraction (unlike t (half_turned w)) (quarter_sine (reduced w)) (2 ^ 61)) (exact (fixed_sine t w)) 256 (2 ^ 61)
+unfolding fixed_sine
+fixed_within t w = made_within (quarter_sine (reduced w)) (sine_small w) (unlike t (half_turned w))
 
-fixed-most : (t : Bool) (w : ℕ) → Most 1 1074 (fixedSine t w)
-unfolding fixedSine
-fixed-most t w = made-most (quarterSine (reduced w)) (sine-small w) (unlike t (halfTurned w))
+fixed_most : (t : Bool) (w : ℕ) → Most 1 1074 (fixed_sine t w)
+unfolding fixed_sine
+fixed_most t w = made_most (quarter_sine (reduced w)) (sine_small w) (unlike t (half_turned w))
 
 -- the two parts of the error
 joined : (f g h : Fraction) → 0 < g.den → Within f g 442 (2 ^ 61) → Within g h 256 (2 ^ 61) → Within f h 1 (2 ^ 40)
-joined f g h p x y = within-weaken f h (within-trans f g h 442 256 (2 ^ 61) p x y)
+joined f g h p x y = within_weaken f h (within_trans f g h 442 256 (2 ^ 61) p x y)
 
 -- ---- the promises
 
-two-61-pos : 0 < 2 ^ 61
-two-61-pos = leb→le 1 (2 ^ 61) tt
+two_61_pos : 0 < 2 ^ 61
+two_61_pos = leb→le 1 (2 ^ 61) tt
 
-sine-close : (v : Float) → Domain v → Within (sin40 (exact v)) (exact (sine v)) 1 (2 ^ 40)
-sine-close v d =
-    subst₂ (λ (f : Fraction) (x : Float). Within (sin40 f) (exact x) 1 (2 ^ 40)) (sym (exact-fraction v d)) (sym (sine-inside v (domain-inside d)))
-    (joined (sin40 (fraction (lt v zero64) (numerator v) (denominator v))) (fraction (unlike (lt v zero64) (halfTurned (angle v))) (quarterSine (reduced (angle v))) (2 ^ 61)) (exact (fixedSine (lt v zero64) (angle v))) two-61-pos
-    (subst (λ (w : ℕ). Within (sin40 (fraction (lt v zero64) (numerator v) (denominator v))) (fraction (unlike (lt v zero64) (halfTurned w)) (quarterSine (reduced w)) (2 ^ 61)) 442 (2 ^ 61)) (sym (angle-fraction v d))
-    (sine-within (numerator v) (denominator v) (denominator-pos v) (angle-asks v d) (lt v zero64)))
-    (fixed-within (lt v zero64) (angle v)))
+sine_close : (v : Float) → Domain v → Within (sin40 (exact v)) (exact (sine v)) 1 (2 ^ 40)
+sine_close v d =
+    subst₂ (λ (f : Fraction) (x : Float). Within (sin40 f) (exact x) 1 (2 ^ 40)) (sym (exact_fraction v d)) (sym (sine_inside v (domain_inside d)))
+    (joined (sin40 (fraction (lt v zero64) (numerator v) (denominator v))) (fraction (unlike (lt v zero64) (half_turned (angle v))) (quarter_sine (reduced (angle v))) (2 ^ 61)) (exact (fixed_sine (lt v zero64) (angle v))) two_61_pos
+    (subst (λ (w : ℕ). Within (sin40 (fraction (lt v zero64) (numerator v) (denominator v))) (fraction (unlike (lt v zero64) (half_turned w)) (quarter_sine (reduced w)) (2 ^ 61)) 442 (2 ^ 61)) (sym (angle_fraction v d))
+    (sine_within (numerator v) (denominator v) (denominator_pos v) (angle_asks v d) (lt v zero64)))
+    (fixed_within (lt v zero64) (angle v)))
 
-cosine-close : (v : Float) → Domain v → Within (cos40 (exact v)) (exact (cosine v)) 1 (2 ^ 40)
-cosine-close v d =
-    subst₂ (λ (f : Fraction) (x : Float). Within (cos40 f) (exact x) 1 (2 ^ 40)) (sym (exact-fraction v d)) (sym (cosine-inside v (domain-inside d)))
-    (joined (cos40 (fraction (lt v zero64) (numerator v) (denominator v))) (fraction (unlike false (halfTurned (angle v + quarter))) (quarterSine (reduced (angle v + quarter))) (2 ^ 61)) (exact (fixedSine false (angle v + quarter))) two-61-pos
-    (subst (λ (w : ℕ). Within (cos40 (fraction (lt v zero64) (numerator v) (denominator v))) (fraction (unlike false (halfTurned (w + quarter))) (quarterSine (reduced (w + quarter))) (2 ^ 61)) 442 (2 ^ 61)) (sym (angle-fraction v d))
-    (subst (λ (t : Bool). Within (cos40 (fraction (lt v zero64) (numerator v) (denominator v))) (fraction t (quarterSine (reduced (2 ^ 59 * numerator v / denominator v + quarter))) (2 ^ 61)) 442 (2 ^ 61)) (sym (unlike-false (halfTurned (2 ^ 59 * numerator v / denominator v + quarter))))
-    (cosine-within (numerator v) (denominator v) (denominator-pos v) (angle-asks v d) (lt v zero64))))
-    (fixed-within false (angle v + quarter)))
+cosine_close : (v : Float) → Domain v → Within (cos40 (exact v)) (exact (cosine v)) 1 (2 ^ 40)
+cosine_close v d =
+    subst₂ (λ (f : Fraction) (x : Float). Within (cos40 f) (exact x) 1 (2 ^ 40)) (sym (exact_fraction v d)) (sym (cosine_inside v (domain_inside d)))
+    (joined (cos40 (fraction (lt v zero64) (numerator v) (denominator v))) (fraction (unlike false (half_turned (angle v + quarter))) (quarter_sine (reduced (angle v + quarter))) (2 ^ 61)) (exact (fixed_sine false (angle v + quarter))) two_61_pos
+    (subst (λ (w : ℕ). Within (cos40 (fraction (lt v zero64) (numerator v) (denominator v))) (fraction (unlike false (half_turned (w + quarter))) (quarter_sine (reduced (w + quarter))) (2 ^ 61)) 442 (2 ^ 61)) (sym (angle_fraction v d))
+    (subst (λ (t : Bool). Within (cos40 (fraction (lt v zero64) (numerator v) (denominator v))) (fraction t (quarter_sine (reduced (2 ^ 59 * numerator v / denominator v + quarter))) (2 ^ 61)) 442 (2 ^ 61)) (sym (unlike_false (half_turned (2 ^ 59 * numerator v / denominator v + quarter))))
+    (cosine_within (numerator v) (denominator v) (denominator_pos v) (angle_asks v d) (lt v zero64))))
+    (fixed_within false (angle v + quarter)))
   where
-    unlike-false : (b : Bool) → unlike false b ≡ b
-    unlike-false true = refl
-    unlike-false false = refl
+    unlike_false : (b : Bool) → unlike false b ≡ b
+    unlike_false true = refl
+    unlike_false false = refl
 
 -- a function that is +0 where its test fails, and the fixed-point sine where it passes
 module _ (f : Float → Float) (fixed : Float → Float) (fixed-size : (v : Float) → Most 1 1074 (fixed v))
     (pass : (v : Float) → le (absolute v) sixteen ≡ true → f v ≡ fixed v) (fail : (v : Float) → le (absolute v) sixteen ≡ false → f v ≡ zero64) where
-  outside-zero : (v : Float) → T (fits binary64 v) → (Domain v → ⊥) → f v ≡ zero64
-  outside-zero v t n = go (le (absolute v) sixteen) refl
+  outside_zero : (v : Float) → T (fits binary64 v) → (Domain v → ⊥) → f v ≡ zero64
+  outside_zero v t n = go (le (absolute v) sixteen) refl
     where
       go : (b : Bool) → le (absolute v) sixteen ≡ b → f v ≡ zero64
-      go true e = absurd (n (inside-domain t e))
+      go true e = absurd (n (inside_domain t e))
       go false e = fail v e
 
-  everywhere-small : (v : Float) → Most 1 1074 (f v)
-  everywhere-small v = go (le (absolute v) sixteen) refl
+  everywhere_small : (v : Float) → Most 1 1074 (f v)
+  everywhere_small v = go (le (absolute v) sixteen) refl
     where
       go : (b : Bool) → le (absolute v) sixteen ≡ b → Most 1 1074 (f v)
       go true e = subst (λ (x : Float). Most 1 1074 x) (sym (pass v e)) (fixed-size v)
-      go false e = subst (λ (x : Float). Most 1 1074 x) (sym (fail v e)) most-zero
+      go false e = subst (λ (x : Float). Most 1 1074 x) (sym (fail v e)) most_zero
 
-pub sine-promise : SinePromise
-sine-promise = record {
-  close = sine-close;
-  outside = outside-zero sine (λ v. fixedSine (lt v zero64) (angle v)) (λ v. fixed-most (lt v zero64) (angle v)) sine-inside sine-outside;
-  size = everywhere-small sine (λ v. fixedSine (lt v zero64) (angle v)) (λ v. fixed-most (lt v zero64) (angle v)) sine-inside sine-outside;
+pub sine_promise : SinePromise
+sine_promise = record {
+  close = sine_close;
+  outside = outside_zero sine (λ v. fixed_sine (lt v zero64) (angle v)) (λ v. fixed_most (lt v zero64) (angle v)) sine_inside sine_outside;
+  size = everywhere_small sine (λ v. fixed_sine (lt v zero64) (angle v)) (λ v. fixed_most (lt v zero64) (angle v)) sine_inside sine_outside;
 }
 
-pub cosine-promise : CosinePromise
-cosine-promise = record {
-  close = cosine-close;
-  outside = outside-zero cosine (λ v. fixedSine false (angle v + quarter)) (λ v. fixed-most false (angle v + quarter)) cosine-inside cosine-outside;
-  size = everywhere-small cosine (λ v. fixedSine false (angle v + quarter)) (λ v. fixed-most false (angle v + quarter)) cosine-inside cosine-outside;
+pub cosine_promise : CosinePromise
+cosine_promise = record {
+  close = cosine_close;
+  outside = outside_zero cosine (λ v. fixed_sine false (angle v + quarter)) (λ v. fixed_most false (angle v + quarter)) cosine_inside cosine_outside;
+  size = everywhere_small cosine (λ v. fixed_sine false (angle v + quarter)) (λ v. fixed_most false (angle v + quarter)) cosine_inside cosine_outside;
 }

@@ -2,14 +2,14 @@
 use mathlib.Core.Path.{◌≡◌, refl, ap, ◌∙◌}
 use lib.ListN.{take}
 use Rattle.intersections.specs.Points.{collected}
-use Rattle.drawn.specs.Drawn.{planCircles}
+use Rattle.drawn.specs.Drawn.{plan_circles}
 use borrow.Author.Rules.{rules}
 use Rattle.gradients.proofs.drawing_of.Statement.{statement}
 use Rattle.gradients.proofs.drawing_of.Tie as tie
 
 -- the first n circles are the plan's
-circles : (c : tie.After-circles-of) → take c.before.before.args.plan.n c.circles-of.result ≡ planCircles c.before.before.args.plan
-unfolding planCircles
+circles : (c : tie.After-circles-of) → take c.before.before.args.plan.n c.circles-of.result ≡ plan_circles c.before.before.args.plan
+unfolding plan_circles
 circles c = ap (take c.before.before.args.plan.n) c.circles-of.ensures
 
 returns : tie.Need-returns

@@ -11,8 +11,8 @@ use Rattle.heads.proofs.relation_at.Statement.{statement}
 use Rattle.heads.proofs.relation_at.Tie as tie
 
 -- the first test failed: d is not below t²
-not-below : (c : tie.Else1) → ltb c.before.before.before.args.d (c.before.before.radius-gap.result * c.before.before.radius-gap.result) ≡ false
-not-below c = sym c.before.below-square.ensures ∙ c.if1.false
+not_below : (c : tie.Else1) → ltb c.before.before.before.args.d (c.before.before.radius-gap.result * c.before.before.radius-gap.result) ≡ false
+not_below c = sym c.before.below-square.ensures ∙ c.if1.false
 
 returns : tie.Need-returns
 returns c =
@@ -24,7 +24,7 @@ returns c =
 mul-if2 : tie.Need-overflow-mul-if2
 mul-if2 c =
     let t = c.before.before.radius-gap.result in
-    omega (arith, ltb-false c.before.before.before.args.d (t * t) (not-below c), c.before.before.before.ranges.d)
+    omega (arith, ltb-false c.before.before.before.args.d (t * t) (not_below c), c.before.before.before.ranges.d)
 
 returns-2 : tie.Need-returns-2
 returns-2 c =
@@ -43,7 +43,7 @@ returns-4 c =
     let g = c.before.before.before.before.before in
     let s = g.before.args in
     crossing s.d s.r1 s.r2 g.radius-gap.result g.radius-gap.ensures
-    (not-below c.before.before.before) c.before.before.if2.false (sym c.before.below-square2.ensures ∙ c.if4.true)
+    (not_below c.before.before.before) c.before.before.if2.false (sym c.before.below-square2.ensures ∙ c.if4.true)
 
 mul-if5 : tie.Need-overflow-mul-if5
 mul-if5 c =
@@ -56,14 +56,14 @@ returns-5 c =
     let g = c.before.before.before.before.before.before in
     let s = g.before.args in
     outside s.d s.r1 s.r2 g.radius-gap.result g.radius-gap.ensures
-    (not-below c.before.before.before.before) c.before.before.before.if2.false c.if5.true
+    (not_below c.before.before.before.before) c.before.before.before.if2.false c.if5.true
 
 returns-6 : tie.Need-returns-6
 returns-6 c =
     let g = c.before.before.before.before.before.before in
     let s = g.before.args in
     apart s.d s.r1 s.r2 g.radius-gap.result g.radius-gap.ensures
-    (not-below c.before.before.before.before) c.before.before.before.if2.false (sym c.before.before.below-square2.ensures ∙ c.before.if4.false) c.if5.false
+    (not_below c.before.before.before.before) c.before.before.before.if2.false (sym c.before.before.below-square2.ensures ∙ c.before.if4.false) c.if5.false
 
 pub relation-at-spec : {M : Type 1} → statement M
 relation-at-spec =

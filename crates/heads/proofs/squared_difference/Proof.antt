@@ -5,7 +5,7 @@ use native.Mathlib.Omega.{arith}
 use mathlib.Core.Path.{◌≡◌, ap, ◌∙◌}
 use lib.IntN.{nat_abs, ◌-ℤ◌}
 use mir.Facts.{to_z-of_z}
-use Rattle.heads.specs.Distance.{diff-below}
+use Rattle.heads.specs.Distance.{diff_below}
 use borrow.Author.Rules.{rules}
 use Rattle.heads.proofs.squared_difference.Statement.{statement}
 use Rattle.heads.proofs.squared_difference.Tie as tie
@@ -16,7 +16,7 @@ distance c = c.distance-along.ensures ∙ simp (to_z-of_z c.before.ranges.a, to_
 
 mul-result : tie.Need-overflow-mul-result
 mul-result c = let s = c.before in
-    let d : c.distance-along.result ≤ 4294967295 = omega (arith, distance c, diff-below s.args.a s.args.b s.ranges.a.sfits s.ranges.b.sfits) in
+    let d : c.distance-along.result ≤ 4294967295 = omega (arith, distance c, diff_below s.args.a s.args.b s.ranges.a.sfits s.ranges.b.sfits) in
     omega (arith, mul-le-mul d d)
 
 pub squared-difference-spec : {M : Type 1} → statement M

@@ -4,10 +4,10 @@ use Prim.Native.Nat.{◌≤◌, ◌<◌, ◌+◌, ◌%◌}
 use native.Mathlib.Omega.{arith}
 use borrow.Author.Tests.{le-ltb, lt-ltb}
 use lib.ListN.{length, length-take}
-use Rattle.intersections.specs.Counted.{circleList}
-use Rattle.boundary.specs.Counted.{angleList}
-use Rattle.boundary.specs.Gaps.{gapArc}
-use Rattle.boundary.proofs.Gaps.{next-below, gap-arc}
+use Rattle.intersections.specs.Counted.{circle_list}
+use Rattle.boundary.specs.Counted.{angle_list}
+use Rattle.boundary.specs.Gaps.{gap_arc}
+use Rattle.boundary.proofs.Gaps.{next_below, gap-arc}
 use borrow.Author.Rules.{rules}
 use Rattle.boundary.proofs.candidates.arc_from.Statement.{statement}
 use Rattle.boundary.proofs.candidates.arc_from.Tie as tie
@@ -21,12 +21,12 @@ few : (c : tie.After-count) → c.count.result ≤ 32
 few c = let l = c.before.args.t3 in omega (arith, c.count.ensures, length-take l.n l.phi, long c.before)
 
 next : (c : tie.Else1) → (c.before.before.args.i + 1) % c.before.count.result < c.before.count.result
-next c = next-below c.before.before.args.i c.before.count.result c.if1.false
+next c = next_below c.before.before.args.i c.before.count.result c.if1.false
 
 returns : tie.Need-returns
-unfolding gapArc
+unfolding gap_arc
 returns c = let n = c.before.before in let a = n.before.args in
-    rw (le-ltb a.i (length (angleList a.t3)) (omega (arith, n.count.ensures))) c.whole-circle.ensures
+    rw (le-ltb a.i (length (angle_list a.t3)) (omega (arith, n.count.ensures))) c.whole-circle.ensures
 
 mul-phi-b : tie.Need-overflow-mul-phi-b
 mul-phi-b c = omega (arith, few c.before.before, next c.before)
@@ -35,26 +35,26 @@ element-copy-out-phi-b : tie.Need-element-copy-out-phi-b
 element-copy-out-phi-b c = omega (arith, few c.before.before, next c.before)
 
 returns-2 : tie.Need-returns-2
-unfolding gapArc
+unfolding gap_arc
 returns-2 c =
     let d = c.before.before in let e = d.before.before.before.before in let s = e.before.before in let a = s.args in
     let n = e.before.count in
     rw (
-      lt-ltb a.i (length (angleList a.t3)) (omega (arith, n.ensures)),
-      gap-arc (circleList a.set) a.k a.circle a.t3.phi a.t3.n n.result a.i n.ensures e.if1.false,
+      lt-ltb a.i (length (angle_list a.t3)) (omega (arith, n.ensures)),
+      gap-arc (circle_list a.set) a.k a.circle a.t3.phi a.t3.n n.result a.i n.ensures e.if1.false,
       ← d.before.gap.ensures,
       sym d.collapsed.ensures ∙ c.before.if2.true,
     )
     c.no-arc.ensures
 
 returns-3 : tie.Need-returns-3
-unfolding gapArc
+unfolding gap_arc
 returns-3 c =
     let d = c.before.before.before.before in let e = d.before.before.before.before.before in let s = e.before.before in let a = s.args in
     let n = e.before.count in
     rw (
-      lt-ltb a.i (length (angleList a.t3)) (omega (arith, n.ensures)),
-      gap-arc (circleList a.set) a.k a.circle a.t3.phi a.t3.n n.result a.i n.ensures e.if1.false,
+      lt-ltb a.i (length (angle_list a.t3)) (omega (arith, n.ensures)),
+      gap-arc (circle_list a.set) a.k a.circle a.t3.phi a.t3.n n.result a.i n.ensures e.if1.false,
       ← d.before.before.gap.ensures,
       sym d.before.collapsed.ensures ∙ d.if2.false,
       ← c.before.before.before.point_at.ensures,
@@ -63,14 +63,14 @@ returns-3 c =
     )
 
 returns-4 : tie.Need-returns-4
-unfolding gapArc
+unfolding gap_arc
 returns-4 c =
     let o = c.before in let d = o.before.before.before in let e = d.before.before.before.before.before in let s = e.before.before in
     let a = s.args in
     let n = e.before.count in
     rw (
-      lt-ltb a.i (length (angleList a.t3)) (omega (arith, n.ensures)),
-      gap-arc (circleList a.set) a.k a.circle a.t3.phi a.t3.n n.result a.i n.ensures e.if1.false,
+      lt-ltb a.i (length (angle_list a.t3)) (omega (arith, n.ensures)),
+      gap-arc (circle_list a.set) a.k a.circle a.t3.phi a.t3.n n.result a.i n.ensures e.if1.false,
       ← d.before.before.gap.ensures,
       sym d.before.collapsed.ensures ∙ d.if2.false,
       ← o.before.before.point_at.ensures,

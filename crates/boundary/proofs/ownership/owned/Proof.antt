@@ -9,11 +9,11 @@ use lib.ListN.{get_or, length, drop, length-take}
 use lib.Seq.{get_or-take}
 use Rattle.intersections.specs.declared.members.Members.{Members}
 use Rattle.geometry.specs.declared.point.Point.{Point}
-use Rattle.intersections.specs.Members.{noCircle}
-use Rattle.boundary.specs.Outline.{ownedFrom, owned, lets}
-use Rattle.intersections.specs.Counted.{circleList}
-use Rattle.lists.proofs.Arrays.{length-of-values}
-use Rattle.boundary.proofs.Owning.{owned-on, owned-not, owned-all}
+use Rattle.intersections.specs.Members.{no_circle}
+use Rattle.boundary.specs.Outline.{owned_from, owned, lets}
+use Rattle.intersections.specs.Counted.{circle_list}
+use Rattle.lists.proofs.Arrays.{length_of_values}
+use Rattle.boundary.proofs.Owning.{owned_on, owned_not, owned_all}
 use Rattle.boundary.proofs.ownership.owned.Statement.{statement}
 use Rattle.boundary.proofs.ownership.owned.Tie as tie
 
@@ -23,7 +23,7 @@ record Asked (k : ℕ) (p : Point) (set : Members) (n l : ℕ) : Type 0 where
   count : n ≡ set.n
   few : l ≤ 10
   within : l ≤ n
-  rest : ownedFrom k p l (drop l (circleList set)) ≡ owned k p (circleList set)
+  rest : owned_from k p l (drop l (circle_list set)) ≡ owned k p (circle_list set)
 
 abbrev invariant-loop : tie.invariant-loop
 invariant-loop k p set n l₀ l = Asked k p set n l
@@ -32,36 +32,36 @@ abbrev decreases-loop : tie.decreases-loop
 decreases-loop k p set n l₀ l = 10 - l
 
 loop-holds : tie.Need-loop-init invariant-loop decreases-loop
-loop-holds c = record { places = search length-of-values; count = refl; few = omega arith; within = omega arith; rest = refl }
+loop-holds c = record { places = search length_of_values; count = refl; few = omega arith; within = omega arith; rest = refl }
 
 returns : tie.Need-returns invariant-loop decreases-loop
 returns c = let d = c.before.before in let a = d.before.args in
-    sym (owned-all a.k a.p (circleList a.t3) d.loop.l (omega (arith, length-take a.t3.n a.t3.circles))) ∙ d.loop.invariant.rest
+    sym (owned_all a.k a.p (circle_list a.t3) d.loop.l (omega (arith, length-take a.t3.n a.t3.circles))) ∙ d.loop.invariant.rest
 
 returns-2 : tie.Need-returns-2 invariant-loop decreases-loop
 returns-2 c = let d = c.before.before.before.before.before in let a = d.before.args in
     let below : d.loop.l < a.t3.n = omega arith in
-    let e : lets a.k a.p d.loop.l (get_or (circleList a.t3) d.loop.l noCircle) ≡ false =
-    rw (get_or-take a.t3.n a.t3.circles d.loop.l noCircle below) (sym c.before.lets.ensures ∙ not-true _ c.if2.true) in
-    sym (owned-not a.k a.p (circleList a.t3) d.loop.l (omega (arith, length-take a.t3.n a.t3.circles)) e) ∙ d.loop.invariant.rest
+    let e : lets a.k a.p d.loop.l (get_or (circle_list a.t3) d.loop.l no_circle) ≡ false =
+    rw (get_or-take a.t3.n a.t3.circles d.loop.l no_circle below) (sym c.before.lets.ensures ∙ not-true _ c.if2.true) in
+    sym (owned_not a.k a.p (circle_list a.t3) d.loop.l (omega (arith, length-take a.t3.n a.t3.circles)) e) ∙ d.loop.invariant.rest
 
 loop-again : tie.Need-loop-preserved invariant-loop decreases-loop
 loop-again c = let d = c.before.before.before.before.before in let a = d.before.args in
     let below : d.loop.l < a.t3.n = omega arith in
-    let e : lets a.k a.p d.loop.l (get_or (circleList a.t3) d.loop.l noCircle) ≡ true =
-    rw (get_or-take a.t3.n a.t3.circles d.loop.l noCircle below) (sym c.before.lets.ensures ∙ not-false _ c.if2.false) in
+    let e : lets a.k a.p d.loop.l (get_or (circle_list a.t3) d.loop.l no_circle) ≡ true =
+    rw (get_or-take a.t3.n a.t3.circles d.loop.l no_circle below) (sym c.before.lets.ensures ∙ not-false _ c.if2.false) in
     let many = length-take a.t3.n a.t3.circles in
     record {
       places = d.loop.invariant.places;
       count = refl;
       few = omega arith;
       within = omega arith;
-      rest = sym (owned-on a.k a.p (circleList a.t3) d.loop.l (omega (arith, many)) e) ∙ d.loop.invariant.rest;
+      rest = sym (owned_on a.k a.p (circle_list a.t3) d.loop.l (omega (arith, many)) e) ∙ d.loop.invariant.rest;
     }
 
 returns-3 : tie.Need-returns-3 invariant-loop decreases-loop
 returns-3 c = let d = c.before in let a = d.before.args in
-    sym (owned-all a.k a.p (circleList a.t3) d.loop.l (omega (arith, length-take a.t3.n a.t3.circles))) ∙ d.loop.invariant.rest
+    sym (owned_all a.k a.p (circle_list a.t3) d.loop.l (omega (arith, length-take a.t3.n a.t3.circles))) ∙ d.loop.invariant.rest
 
 pub owned-spec : {M : Type 1} → statement M
 owned-spec =

@@ -8,7 +8,7 @@ use lib.ListN.{length, drop, length-set}
 use lib.Seq.{drop-set-lt}
 use lib.Ieee.{Float, nan}
 use Rattle.boundary.specs.Marks.{Kept}
-use Rattle.boundary.proofs.Sorting.{Carried, carry-start, carry-on, carry-end, kept_self, kept_set}
+use Rattle.boundary.proofs.Sorting.{Carried, carry_start, carry_on, carry_end, kept_self, kept_set}
 use Rattle.boundary.proofs.sort.insert_marked.Statement.{statement}
 use Rattle.boundary.proofs.sort.insert_marked.Tie as tie
 
@@ -52,7 +52,7 @@ loop-holds c =
       adopters-kept = kept_self _ _ _;
       phi-high = refl;
       adopters-high = refl;
-      whole = carry-start a.phi.now a.adopters.now a.at a.n a.x a.who _ c.place.ensures;
+      whole = carry_start a.phi.now a.adopters.now a.at a.n a.x a.who _ c.place.ensures;
     }
 
 loop-again : tie.Need-loop-preserved invariant-loop decreases-loop
@@ -70,7 +70,7 @@ loop-again c =
       phi-high = drop-set-lt (a.at + a.n + 1) l.phi (a.at + l.i) l.carry (omega (arith, below)) ∙ i.phi-high;
       adopters-high = drop-set-lt (a.at + a.n + 1) l.adopters (a.at + l.i) l.carried (omega (arith, below)) ∙ i.adopters-high;
       whole =
-          carry-on a.phi.now a.adopters.now a.at a.n a.x a.who l.phi l.adopters l.i l.carry l.carried
+          carry_on a.phi.now a.adopters.now a.at a.n a.x a.who l.phi l.adopters l.i l.carry l.carried
           (omega (arith, i.fits, i.phi-kept.many)) (omega (arith, i.room, i.adopters-kept.many)) i.whole below;
     }
 
@@ -80,7 +80,7 @@ returns-4 c =
     let a = (start c.before.before.before.before).args in
     let i = l.invariant in (
       (λ h.
-          carry-end a.phi.now a.adopters.now a.at a.n a.x a.who l.phi l.adopters l.i l.carry l.carried
+          carry_end a.phi.now a.adopters.now a.at a.n a.x a.who l.phi l.adopters l.i l.carry l.carried
           (omega (arith, i.fits, i.phi-kept.many)) (omega (arith, i.room, i.adopters-kept.many)) i.whole (omega arith)),
       (
         (

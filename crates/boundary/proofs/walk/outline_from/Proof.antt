@@ -6,10 +6,10 @@ use Prim.Native.Nat.{ℕ, ◌-◌}
 use native.Mathlib.Omega.{arith}
 use lib.ListN.{length, take, get_or, length-take, length-replicate}
 use lib.Seq.{take_all}
-use Rattle.lists.proofs.Arrays.{length-of-values}
+use Rattle.lists.proofs.Arrays.{length_of_values}
 use Rattle.boundary.specs.declared.arcs.BoundaryArc.{BoundaryArc}
-use Rattle.boundary.specs.Set.{noArc}
-use Rattle.boundary.proofs.Copying.{Copied, copied_next, copied-by-count, copied-by-room}
+use Rattle.boundary.specs.Set.{no_arc}
+use Rattle.boundary.proofs.Copying.{Copied, copied_next, copied_by_count, copied_by_room}
 use Rattle.boundary.proofs.walk.outline_from.Statement.{statement}
 use Rattle.boundary.proofs.walk.outline_from.Tie as tie
 
@@ -21,11 +21,11 @@ decreases-loop arcs n all₀ i₀ all i = 180 - i
 
 loop-holds : tie.Need-loop-init invariant-loop decreases-loop
 loop-holds c =
-    let long : length c.before.args.t1.all ≡ 180 = search length-of-values in (
+    let long : length c.before.args.t1.all ≡ 180 = search length_of_values in (
       long,
       record {
         long = omega (arith, long);
-        places = rw (length-replicate {A = BoundaryArc} 320 (get_or c.before.args.t1.all 0 noArc)) (omega arith);
+        places = rw (length-replicate {A = BoundaryArc} 320 (get_or c.before.args.t1.all 0 no_arc)) (omega arith);
         count = refl;
         most = omega arith;
         within = omega arith;
@@ -41,7 +41,7 @@ returns : tie.Need-returns invariant-loop decreases-loop
 returns c =
     let inv = c.before.before.loop.invariant in
     let arcs = c.before.before.before.before.args.t1 in
-    copied-by-count inv.1 (omega arith) ∙ whole arcs.all arcs.n inv.0
+    copied_by_count inv.1 (omega arith) ∙ whole arcs.all arcs.n inv.0
 
 loop-again : tie.Need-loop-preserved invariant-loop decreases-loop
 loop-again c =
@@ -52,7 +52,7 @@ returns-2 : tie.Need-returns-2 invariant-loop decreases-loop
 returns-2 c =
     let inv = c.before.loop.invariant in
     let arcs = c.before.before.before.args.t1 in
-    copied-by-room inv.1 (omega arith) ∙ whole arcs.all arcs.n inv.0
+    copied_by_room inv.1 (omega arith) ∙ whole arcs.all arcs.n inv.0
 
 pub outline-from-spec : {M : Type 1} → statement M
 outline-from-spec =

@@ -5,15 +5,15 @@ use Prim.Native.Nat.{ℕ, min, ◌-◌, ◌≤◌}
 use native.Mathlib.Omega.{arith}
 use lib.ListN.{length, take, length-set}
 use Rattle.lists.specs.Written.{written}
-use Rattle.lists.proofs.Writing.{written_none, write-next}
-use Rattle.chords.specs.Chords.{reachOf}
+use Rattle.lists.proofs.Writing.{written_none, write_next}
+use Rattle.chords.specs.Chords.{reach_of}
 use Rattle.chords.proofs.fill.fill_chords.Statement.{statement}
 use Rattle.chords.proofs.fill.fill_chords.Tie as tie
 
 abbrev invariant-loop : tie.invariant-loop
 invariant-loop circles n-sets bounds needed reach₀ low high count edge₀ reach edge =
     (edge ≤ count) × (count ≡ min 4 (length reach₀)) × (length reach ≡ length reach₀)
-    × (reach ≡ written (reachOf bounds (take n-sets circles)) edge reach₀)
+    × (reach ≡ written (reach_of bounds (take n-sets circles)) edge reach₀)
 
 abbrev decreases-loop : tie.decreases-loop
 decreases-loop circles n-sets bounds needed reach₀ low high count edge₀ reach edge = count - edge
@@ -28,7 +28,7 @@ loop-again c =
       omega (arith, m.loop-test.true),
       l.invariant.1,
       simp length-set l.invariant.2,
-      rw l.invariant.3 (write-next _ l.edge _ _ 0 (omega (arith, m.loop-test.true, l.invariant.1)) c.reach_of.ensures),
+      rw l.invariant.3 (write_next _ l.edge _ _ 0 (omega (arith, m.loop-test.true, l.invariant.1)) c.reach_of.ensures),
     )
 
 abbrev filled : tie.After-loop invariant-loop decreases-loop → tie.After-fill-ends invariant-loop decreases-loop
@@ -40,7 +40,7 @@ returns c =
     let f = filled c in
     let a = f.before.before.before.before.before.before.args in
     let all : l.edge ≡ min 4 (length a.reach.now) = omega (arith, l.invariant.0, l.invariant.1, c.loop-test.false) in
-    (l.invariant.3 ∙ ap (λ (m : ℕ). written (reachOf a.bounds (take a.n-sets a.circles)) m a.reach.now) all, f.fill-ends.ensures)
+    (l.invariant.3 ∙ ap (λ (m : ℕ). written (reach_of a.bounds (take a.n-sets a.circles)) m a.reach.now) all, f.fill-ends.ensures)
 
 pub fill-chords-spec : {M : Type 1} → statement M
 fill-chords-spec =

@@ -7,45 +7,45 @@ use Prim.Native.Nat.{min, ◌-◌, ◌≤◌}
 use native.Mathlib.Omega.{arith}
 use lib.ListN.{length, take, length-take}
 use lib.Seq.{get_or-take}
-use Rattle.lists.proofs.Arrays.{length-of-values}
+use Rattle.lists.proofs.Arrays.{length_of_values}
 use Rattle.masks.specs.Mask.{gather}
-use Rattle.intersections.specs.Members.{noCircle, circleAt}
-use Rattle.intersections.proofs.Adopting.{gather-with, gather-without}
+use Rattle.intersections.specs.Members.{no_circle, circle_at}
+use Rattle.intersections.proofs.Adopting.{gather_with, gather_without}
 use Rattle.inside.specs.Span.{misses, seen}
-use Rattle.chords.specs.Chords.{reachOf}
+use Rattle.chords.specs.Chords.{reach_of}
 use Rattle.chords.proofs.fill.reach_of.Statement.{statement}
 use Rattle.chords.proofs.fill.reach_of.Tie as tie
 
 abbrev invariant-loop : tie.invariant-loop
 invariant-loop n-sets edge circles upright at n reach₀ l₀ reach l =
     (length circles ≡ 10) × (n ≡ min n-sets 10) × (l ≤ n)
-    × (reach ≡ gather l (λ i. not (misses at (seen upright (circleAt (take n-sets circles) i)))))
+    × (reach ≡ gather l (λ i. not (misses at (seen upright (circle_at (take n-sets circles) i)))))
 
 abbrev decreases-loop : tie.decreases-loop
 decreases-loop n-sets edge circles upright at n reach₀ l₀ reach l = n - l
 
 loop-holds : tie.Need-loop-init invariant-loop decreases-loop
 unfolding gather
-loop-holds c = (search length-of-values, c.at-most-ten.ensures, omega arith, refl)
+loop-holds c = (search length_of_values, c.at-most-ten.ensures, omega arith, refl)
 
 loop-again : tie.Need-loop-preserved invariant-loop decreases-loop
 loop-again c =
     let d = c.before.before.before.before.before in
     let a = d.before.before.before.before.args in
     let l = d.loop in
-    let own = ap (seen _) (sym (get_or-take a.n-sets a.t1 l.l noCircle (omega (arith, l.invariant.1)))) in
+    let own = ap (seen _) (sym (get_or-take a.n-sets a.t1 l.l no_circle (omega (arith, l.invariant.1)))) in
     let test = c.before.misses.ensures ∙ ap (misses _) (c.before.before.seen.ensures ∙ own) in (
       l.invariant.0,
       l.invariant.1,
       omega arith,
       ⊎_elim
-          (λ w. rw (w.1, l.invariant.3) (gather-with _ l.l (omega (arith, l.invariant.1)) (ap not (sym test) ∙ w.0.taken)))
-          (λ w. rw (w.1, l.invariant.3) (gather-without _ l.l (ap not (sym test) ∙ w.0.left)))
+          (λ w. rw (w.1, l.invariant.3) (gather_with _ l.l (omega (arith, l.invariant.1)) (ap not (sym test) ∙ w.0.taken)))
+          (λ w. rw (w.1, l.invariant.3) (gather_without _ l.l (ap not (sym test) ∙ w.0.left)))
           c.if1.branch,
     )
 
 returns : tie.Need-returns invariant-loop decreases-loop
-unfolding reachOf
+unfolding reach_of
 returns c =
     let d = c.before in
     let n = d.before in

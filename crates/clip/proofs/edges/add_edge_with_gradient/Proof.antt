@@ -2,7 +2,7 @@
 use borrow.Author.Rules.{rules}
 use mathlib.Core.Path.{◌∙◌, ap}
 use Prim.Native.Nat.{ℕ, ◌*◌}
-use Rattle.clip.specs.Gradient.{with-gradient, addSpanWithGradient}
+use Rattle.clip.specs.Gradient.{with_gradient, add_span_with_gradient}
 use Rattle.inside.specs.Span.{spans}
 use Rattle.clip.proofs.edges.add_edge_with_gradient.Statement.{statement}
 use Rattle.clip.proofs.edges.add_edge_with_gradient.Tie as tie

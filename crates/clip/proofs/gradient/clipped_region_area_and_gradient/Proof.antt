@@ -4,12 +4,12 @@ use mathlib.Core.Path.{◌≡◌, sym, ◌∙◌}
 use Prim.Native.Nat.{◌≤◌}
 use native.Mathlib.Omega.{arith}
 use lib.ListN.{length, take, length-take}
-use Rattle.intersections.specs.Counts.{heads-few}
+use Rattle.intersections.specs.Counts.{heads_few}
 use Rattle.intersections.specs.Members.{members_of}
-use Rattle.intersections.specs.Counted.{pointList, headList, circleList}
-use Rattle.outline.proofs.Walking.{circles-of-members, members-many, outline-of-set}
-use Rattle.clip.specs.Gradient.{with-gradient}
-use Rattle.clip.proofs.Rows.{gradient-of-members, gradient-of-members-nothing}
+use Rattle.intersections.specs.Counted.{point_list, head_list, circle_list}
+use Rattle.outline.proofs.Walking.{circles_of_members, members_many, outline_of_set}
+use Rattle.clip.specs.Gradient.{with_gradient}
+use Rattle.clip.proofs.Rows.{gradient_of_members, gradient_of_members_nothing}
 use Rattle.clip.proofs.gradient.clipped_region_area_and_gradient.Statement.{statement}
 use Rattle.clip.proofs.gradient.clipped_region_area_and_gradient.Tie as tie
 
@@ -24,14 +24,14 @@ few c =
     omega (
       arith,
       c.members-of.ensures.0,
-      heads-few (length (take s.args.n-sets s.args.circles)) s.args.mask,
+      heads_few (length (take s.args.n-sets s.args.circles)) s.args.mask,
       length-take s.args.n-sets s.args.circles,
       long s,
     )
 
 returns : tie.Need-returns
 returns c = let a = c.before.before.before.args in
-    gradient-of-members-nothing a.bounds (members_of (take a.n-sets a.circles) (pointList a.points) a.mask) a.grad.now
+    gradient_of_members_nothing a.bounds (members_of (take a.n-sets a.circles) (point_list a.points) a.mask) a.grad.now
     (sym c.before.empty-box.ensures ∙ c.if1.true)
 
 mul-add-edges-with-gradient : tie.Need-overflow-mul-add-edges-with-gradient
@@ -47,15 +47,15 @@ returns-2 c = let e = c.before.before in
     let m = o.before.before in
     let a = m.before.before.before.before.args in
     let circles = take a.n-sets a.circles in
-    let points = pointList a.points in
+    let points = point_list a.points in
     let given = m.members-of.ensures in
     let set = m.members-of.result in
-    gradient-of-members a.bounds (members_of circles points a.mask) a.grad.now (circleList set) set.n (with-gradient _ _) (with-gradient _ _)
+    gradient_of_members a.bounds (members_of circles points a.mask) a.grad.now (circle_list set) set.n (with_gradient _ _) (with_gradient _ _)
     (sym m.before.before.empty-box.ensures ∙ m.before.if1.false)
-    (given.1.1 ∙ sym (circles-of-members circles points a.mask))
-    (given.0 ∙ sym (members-many circles points a.mask))
+    (given.1.1 ∙ sym (circles_of_members circles points a.mask))
+    (given.0 ∙ sym (members_many circles points a.mask))
     (t.arcs-sum-with-gradient.ensures
-    ∙ rw (outline-of-set circles points a.mask (headList set) (circleList set) given.1.0 given.1.1 o.outline-of.ensures.0))
+    ∙ rw (outline_of_set circles points a.mask (head_list set) (circle_list set) given.1.0 given.1.1 o.outline-of.ensures.0))
     e.add-edges-with-gradient.ensures
 
 pub clipped-region-area-and-gradient-spec : {M : Type 1} → statement M

@@ -5,8 +5,8 @@ use native.Mathlib.Omega.{arith}
 use borrow.Author.Tests.{le-ltb, lt-ltb}
 use lib.ListN.{length, take, length-take}
 use lib.Seq.{get_or-take}
-use Rattle.intersections.specs.Members.{noCircle}
-use Rattle.clip.specs.Gradient.{onto, addClippedArcWithGradient}
+use Rattle.intersections.specs.Members.{no_circle}
+use Rattle.clip.specs.Gradient.{onto, add_clipped_arc_with_gradient}
 use Rattle.clip.proofs.slopes.add_clipped_arc_with_gradient.Statement.{statement}
 use Rattle.clip.proofs.slopes.add_clipped_arc_with_gradient.Tie as tie
 
@@ -15,12 +15,12 @@ long : (c : tie.Start) → length c.args.t4 ≡ 10
 long c = search rules
 
 returns : tie.Need-returns
-unfolding addClippedArcWithGradient
+unfolding add_clipped_arc_with_gradient
 returns c = let a = c.before.before.args in
     rw (le-ltb a.arc.circle (length (take a.n a.t4)) (omega (arith, length-take a.n a.t4)))
 
 returns-2 : tie.Need-returns-2
-unfolding addClippedArcWithGradient
+unfolding add_clipped_arc_with_gradient
 returns-2 c = let s = c.before.before.before in
     let a = s.args in
     rw (le-ltb a.arc.circle (length (take a.n a.t4)) (omega (arith, length-take a.n a.t4, long s)))
@@ -30,14 +30,14 @@ array-copy-out-arc-integral-with-gradient :
 array-copy-out-arc-integral-with-gradient c = search rules
 
 returns-3 : tie.Need-returns-3
-unfolding addClippedArcWithGradient
+unfolding add_clipped_arc_with_gradient
 returns-3 c = let p = c.before.before in
     let e = p.before.before.before.before in
     let s = e.before.before in
     let a = s.args in
     rw (
       lt-ltb a.arc.circle (length (take a.n a.t4)) (omega (arith, length-take a.n a.t4, long s)),
-      get_or-take a.n a.t4 a.arc.circle noCircle e.if1.false,
+      get_or-take a.n a.t4 a.arc.circle no_circle e.if1.false,
     )
     (ap (onto a.total) p.arc-integral-with-gradient.ensures)
 

@@ -2,12 +2,12 @@
 use borrow.Author.Rules.{rules}
 use borrow.Author.Tests.{lt-ltb, le-ltb}
 use native.Mathlib.Omega.{arith}
-use Rattle.clip.specs.Arc.{headArcIntegralWithGradient}
+use Rattle.clip.specs.Arc.{head_arc_integral_with_gradient}
 use Rattle.clip.proofs.slopes.head_arc_integral_with_gradient.Statement.{statement}
 use Rattle.clip.proofs.slopes.head_arc_integral_with_gradient.Tie as tie
 
 returns : tie.Need-returns
-unfolding headArcIntegralWithGradient
+unfolding head_arc_integral_with_gradient
 returns c =
     let p = c.before.before in
     let i = p.before.before in
@@ -15,7 +15,7 @@ returns c =
     rw (lt-ltb s.args.arc.circle 10 i.if1.true) p.arc-integral-with-gradient.ensures
 
 returns-2 : tie.Need-returns-2
-unfolding headArcIntegralWithGradient
+unfolding head_arc_integral_with_gradient
 returns-2 c = rw (le-ltb c.before.before.before.args.arc.circle 10 (omega (arith, c.if1.false)))
 
 pub head-arc-integral-with-gradient-spec : {M : Type 1} → statement M

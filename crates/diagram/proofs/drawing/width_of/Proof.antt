@@ -3,17 +3,17 @@ use mathlib.Core.Path.{◌≡◌, sym, ap, ◌∙◌}
 use Prim.Native.Nat.{ℕ, min, ◌+◌, ◌*◌}
 use native.Mathlib.Omega.{arith}
 use lib.ListN.{length, length-take}
-use Rattle.lists.proofs.Arrays.{length-of-values}
-use Rattle.diagram.specs.Drawing.{circlesOf}
+use Rattle.lists.proofs.Arrays.{length_of_values}
+use Rattle.diagram.specs.Drawing.{circles_of}
 use borrow.Author.Rules.{rules}
 use Rattle.diagram.proofs.drawing.width_of.Statement.{statement}
 use Rattle.diagram.proofs.drawing.width_of.Tie as tie
 
 ten : (s : tie.Start) → length s.args.drawing.circles ≡ 10
-ten s = search length-of-values
+ten s = search length_of_values
 
 -- as many heads as circles
-heads : (c : tie.After-at-most-ten) → c.at-most-ten.result ≡ length (circlesOf c.before.args.drawing)
+heads : (c : tie.After-at-most-ten) → c.at-most-ten.result ≡ length (circles_of c.before.args.drawing)
 heads c =
     let d = c.before.args.drawing in
     c.at-most-ten.ensures ∙ sym (length-take d.n d.circles ∙ ap (min d.n) (ten c.before))

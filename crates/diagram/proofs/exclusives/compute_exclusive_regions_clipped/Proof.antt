@@ -5,10 +5,10 @@ use Prim.Native.Nat.{ℕ}
 use lib.ListN.{take}
 use Rattle.masks.specs.Presence.{stands}
 use Rattle.intersections.specs.declared.points.IntersectionPoint.{IntersectionPoint}
-use Rattle.sets.specs.Regions.{setBytes}
+use Rattle.sets.specs.Regions.{set_bytes}
 use Rattle.diagram.specs.Rows.{Rows}
-use Rattle.diagram.specs.Drawing.{clippedRows}
-use Rattle.diagram.specs.Diagram.{presenceLeft, exclusivesLeft}
+use Rattle.diagram.specs.Drawing.{clipped_rows}
+use Rattle.diagram.specs.Diagram.{presence_left, exclusives_left}
 use borrow.Author.Rules.{rules}
 use Rattle.diagram.proofs.exclusives.compute_exclusive_regions_clipped.Statement.{
   statement,
@@ -19,13 +19,13 @@ returns : tie.Need-returns
 returns c =
     let w = c.before.before.before.before in let f = w.before.before.before.before in let p = f.before in let a = p.before.before.before.args in
     let n = a.n-sets in let cs = take n a.circles in let met = p.collect-intersections.ensures.0 in
-    let rows = ap₂ (λ (ps : List IntersectionPoint) (bs : List ℕ). clippedRows cs ps (stands bs) a.container) met (f.discover-regions.ensures
-    ∙ ap (setBytes cs) met) in
+    let rows = ap₂ (λ (ps : List IntersectionPoint) (bs : List ℕ). clipped_rows cs ps (stands bs) a.container) met (f.discover-regions.ensures
+    ∙ ap (set_bytes cs) met) in
     let e = w.exclusive-areas-of.ensures in (
       e.0,
       (
-        e.1.0 ∙ ap (λ (r : Rows). presenceLeft n r a.presence.now a.exclusives.now) rows,
-        e.1.1 ∙ ap (λ (r : Rows). exclusivesLeft n r a.presence.now a.exclusives.now) rows,
+        e.1.0 ∙ ap (λ (r : Rows). presence_left n r a.presence.now a.exclusives.now) rows,
+        e.1.1 ∙ ap (λ (r : Rows). exclusives_left n r a.presence.now a.exclusives.now) rows,
       ),
     )
 

@@ -6,9 +6,9 @@ use native.Mathlib.Omega.{arith}
 use borrow.Author.Tests.{eq-eqb, ne_eqb}
 use lib.ListN.{length}
 use Rattle.masks.specs.Presence.{stands}
-use Rattle.exclusive.specs.Exclusive.{rowsAnswer}
+use Rattle.exclusive.specs.Exclusive.{rows_answer}
 use Rattle.exclusive.proofs.Answers.{taken}
-use Rattle.diagram.specs.Rows.{presenceWritten, exclusivesWritten}
+use Rattle.diagram.specs.Rows.{presence_written, exclusives_written}
 use Rattle.diagram.specs.Drawing.{rows_of}
 use borrow.Author.Rules.{rules}
 use Rattle.diagram.proofs.exclusives.exclusive_areas_of.Statement.{statement}
@@ -17,8 +17,8 @@ use Rattle.diagram.proofs.exclusives.exclusive_areas_of.Tie as tie
 -- what was answered
 answered : (c : tie.After-rows-answer)
     → let a = c.before.before.before.before.args in
-    c.rows-answer.result ≡ rowsAnswer a.drawing.n (min (length a.presence.now) (length a.exclusives.now))
-answered c = let a = c.before.before.before.before.args in c.rows-answer.ensures ∙ ap (rowsAnswer a.drawing.n) c.before.shorter.ensures
+    c.rows-answer.result ≡ rows_answer a.drawing.n (min (length a.presence.now) (length a.exclusives.now))
+answered c = let a = c.before.before.before.before.args in c.rows-answer.ensures ∙ ap (rows_answer a.drawing.n) c.before.shorter.ensures
 
 write-exclusives-requires : tie.Need-write-exclusives-requires
 write-exclusives-requires c κs =
@@ -30,11 +30,11 @@ returns : tie.Need-returns
 returns c =
     let w = c.before.before.before.before in let t = w.before.before.before in let r = t.before in let a = r.before.before.before.before.args in
     let R = rows_of a.drawing (stands a.sets.now) in let n = a.drawing.n in let e = w.write-exclusives.ensures in
-    let yes = eq-eqb (rowsAnswer n (min (length a.presence.now) (length a.exclusives.now))) 0 (sym (answered r) ∙ t.if1.true) in (
+    let yes = eq-eqb (rows_answer n (min (length a.presence.now) (length a.exclusives.now))) 0 (sym (answered r) ∙ t.if1.true) in (
       answered r,
       (
-        e.0 ∙ sym (ap (λ (b : Bool). cond b (presenceWritten n R a.presence.now) a.presence.now) yes),
-        e.1 ∙ sym (ap (λ (b : Bool). cond b (exclusivesWritten n R a.exclusives.now) a.exclusives.now) yes),
+        e.0 ∙ sym (ap (λ (b : Bool). cond b (presence_written n R a.presence.now) a.presence.now) yes),
+        e.1 ∙ sym (ap (λ (b : Bool). cond b (exclusives_written n R a.exclusives.now) a.exclusives.now) yes),
       ),
     )
 
@@ -42,11 +42,11 @@ returns-2 : tie.Need-returns-2
 returns-2 c =
     let r = c.before in let a = r.before.before.before.before.args in
     let R = rows_of a.drawing (stands a.sets.now) in let n = a.drawing.n in
-    let no = ne_eqb (rowsAnswer n (min (length a.presence.now) (length a.exclusives.now))) 0 (λ z. c.if1.false (answered r ∙ z)) in (
+    let no = ne_eqb (rows_answer n (min (length a.presence.now) (length a.exclusives.now))) 0 (λ z. c.if1.false (answered r ∙ z)) in (
       answered r,
       (
-        sym (ap (λ (b : Bool). cond b (presenceWritten n R a.presence.now) a.presence.now) no),
-        sym (ap (λ (b : Bool). cond b (exclusivesWritten n R a.exclusives.now) a.exclusives.now) no),
+        sym (ap (λ (b : Bool). cond b (presence_written n R a.presence.now) a.presence.now) no),
+        sym (ap (λ (b : Bool). cond b (exclusives_written n R a.exclusives.now) a.exclusives.now) no),
       ),
     )
 

@@ -1,7 +1,7 @@
 -- `exclusives::write_exclusives` meets its contract.
 use mathlib.Core.Path.{ap₂, ◌∙◌}
 use Rattle.masks.specs.Presence.{stands}
-use Rattle.exclusive.specs.Exclusive.{exclusivesInPlace}
+use Rattle.exclusive.specs.Exclusive.{exclusives_in_place}
 use Rattle.diagram.specs.Drawing.{rows_of}
 use Rattle.diagram.proofs.Leaving.{in_place}
 use borrow.Author.Rules.{rules}
@@ -14,7 +14,7 @@ returns c =
     let s = w.before.before.before.before.before in let a = s.args in let d = a.drawing in let n = d.n in
     let p = s.requires in let e = w.write-rows.ensures in (
       e.0,
-      x.to-exclusive-areas-in-place.ensures.1 ∙ ap₂ (exclusivesInPlace n) e.0 e.1
+      x.to-exclusive-areas-in-place.ensures.1 ∙ ap₂ (exclusives_in_place n) e.0 e.1
           ∙ in_place n (rows_of d (stands a.sets.now)) a.presence.now a.exclusives.now p.0 p.1 p.2,
     )
 

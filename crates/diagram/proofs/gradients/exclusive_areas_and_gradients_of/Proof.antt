@@ -8,11 +8,11 @@ use borrow.Author.Tests.{eq-eqb, ne_eqb}
 use lib.Ieee.{Float}
 use lib.ListN.{length}
 use Rattle.masks.specs.Presence.{stands}
-use Rattle.exclusive_gradients.specs.Gradient.{widthAnswer}
-use Rattle.exclusive_gradients.proofs.Answers.{all-taken}
+use Rattle.exclusive_gradients.specs.Gradient.{width_answer}
+use Rattle.exclusive_gradients.proofs.Answers.{all_taken}
 use Rattle.diagram.specs.declared.drawing.Drawing.{Drawing}
-use Rattle.diagram.specs.Rows.{presenceWritten, areasWritten, slopesWritten}
-use Rattle.diagram.specs.Drawing.{rows_of, slopesBy, slopesOf, width_of}
+use Rattle.diagram.specs.Rows.{presence_written, areas_written, slopes_written}
+use Rattle.diagram.specs.Drawing.{rows_of, slopes_by, slopes_of, width_of}
 use borrow.Author.Rules.{rules}
 use Rattle.diagram.proofs.gradients.exclusive_areas_and_gradients_of.Statement.{statement}
 use Rattle.diagram.proofs.gradients.exclusive_areas_and_gradients_of.Tie as tie
@@ -20,18 +20,18 @@ use Rattle.diagram.proofs.gradients.exclusive_areas_and_gradients_of.Tie as tie
 -- what was answered
 answered : (c : tie.After-width-answer)
     → let a = c.before.before.before.before.before.before.args in
-    c.width-answer.result ≡ widthAnswer a.drawing.n (width_of a.drawing) (min (length a.presence.now) (length a.exclusives.now))
+    c.width-answer.result ≡ width_answer a.drawing.n (width_of a.drawing) (min (length a.presence.now) (length a.exclusives.now))
     (length a.gradients.now)
 answered c =
     let a = c.before.before.before.before.before.before.args in
     c.width-answer.ensures
-    ∙ ap₂ (λ (rows width : ℕ). widthAnswer a.drawing.n width rows (length a.gradients.now)) c.before.before.shorter.ensures
+    ∙ ap₂ (λ (rows width : ℕ). width_answer a.drawing.n width rows (length a.gradients.now)) c.before.before.shorter.ensures
     c.before.width_of_lem.ensures
 
 write-exclusives-with-gradients-requires : tie.Need-write-exclusives-with-gradients-requires
 write-exclusives-with-gradients-requires c κs =
     let t = c.before.before.before in let r = t.before in let a = r.before.before.before.before.before.before.args in let w = r.before.width_of_lem in
-    let z = all-taken a.drawing.n (width_of a.drawing) (min (length a.presence.now) (length a.exclusives.now)) (length a.gradients.now)
+    let z = all_taken a.drawing.n (width_of a.drawing) (min (length a.presence.now) (length a.exclusives.now)) (length a.gradients.now)
     (sym (answered r) ∙ t.if1.true) in
     let e = ap (λ (m : ℕ). 2 ^ a.drawing.n * m) w.ensures in
     (z.0, omega (arith, z.1), omega (arith, z.1), omega (arith, z.2, e))
@@ -40,18 +40,18 @@ returns : tie.Need-returns
 returns c =
     let w = c.before.before.before.before.before.before in let t = w.before.before.before.before in let r = t.before in
     let a = r.before.before.before.before.before.before.args in
-    let d = a.drawing in let n = d.n in let sets = stands a.sets.now in let G = slopesOf d sets in let e = w.write-exclusives-with-gradients.ensures in
+    let d = a.drawing in let n = d.n in let sets = stands a.sets.now in let G = slopes_of d sets in let e = w.write-exclusives-with-gradients.ensures in
     let wide = r.before.width_of_lem.ensures in
-    let yes = eq-eqb (widthAnswer n (width_of d) (min (length a.presence.now) (length a.exclusives.now)) (length a.gradients.now)) 0 (sym
+    let yes = eq-eqb (width_answer n (width_of d) (min (length a.presence.now) (length a.exclusives.now)) (length a.gradients.now)) 0 (sym
     (answered r) ∙ t.if1.true) in (
       answered r,
       (
-        e.0 ∙ sym (ap (λ (b : Bool). cond b (presenceWritten n G.rows a.presence.now) a.presence.now) yes),
+        e.0 ∙ sym (ap (λ (b : Bool). cond b (presence_written n G.rows a.presence.now) a.presence.now) yes),
         (
-          e.1.0 ∙ ap (λ (m : ℕ). areasWritten n (slopesBy m d sets) a.exclusives.now) wide
-              ∙ sym (ap (λ (b : Bool). cond b (areasWritten n G a.exclusives.now) a.exclusives.now) yes),
-          e.1.1 ∙ ap (λ (m : ℕ). slopesWritten n (slopesBy m d sets) a.gradients.now) wide
-              ∙ sym (ap (λ (b : Bool). cond b (slopesWritten n G a.gradients.now) a.gradients.now) yes),
+          e.1.0 ∙ ap (λ (m : ℕ). areas_written n (slopes_by m d sets) a.exclusives.now) wide
+              ∙ sym (ap (λ (b : Bool). cond b (areas_written n G a.exclusives.now) a.exclusives.now) yes),
+          e.1.1 ∙ ap (λ (m : ℕ). slopes_written n (slopes_by m d sets) a.gradients.now) wide
+              ∙ sym (ap (λ (b : Bool). cond b (slopes_written n G a.gradients.now) a.gradients.now) yes),
         ),
       ),
     )
@@ -59,15 +59,15 @@ returns c =
 returns-2 : tie.Need-returns-2
 returns-2 c =
     let r = c.before in let a = r.before.before.before.before.before.before.args in let d = a.drawing in let n = d.n in
-    let G = slopesOf d (stands a.sets.now) in
-    let no = ne_eqb (widthAnswer n (width_of d) (min (length a.presence.now) (length a.exclusives.now)) (length a.gradients.now)) 0
+    let G = slopes_of d (stands a.sets.now) in
+    let no = ne_eqb (width_answer n (width_of d) (min (length a.presence.now) (length a.exclusives.now)) (length a.gradients.now)) 0
     (λ z. c.if1.false (answered r ∙ z)) in (
       answered r,
       (
-        sym (ap (λ (b : Bool). cond b (presenceWritten n G.rows a.presence.now) a.presence.now) no),
+        sym (ap (λ (b : Bool). cond b (presence_written n G.rows a.presence.now) a.presence.now) no),
         (
-          sym (ap (λ (b : Bool). cond b (areasWritten n G a.exclusives.now) a.exclusives.now) no),
-          sym (ap (λ (b : Bool). cond b (slopesWritten n G a.gradients.now) a.gradients.now) no),
+          sym (ap (λ (b : Bool). cond b (areas_written n G a.exclusives.now) a.exclusives.now) no),
+          sym (ap (λ (b : Bool). cond b (slopes_written n G a.gradients.now) a.gradients.now) no),
         ),
       ),
     )

@@ -1,8 +1,8 @@
 -- `gradients::write_exclusives_with_gradients` meets its contract.
 use mathlib.Core.Path.{◌∙◌}
 use Rattle.masks.specs.Presence.{stands}
-use Rattle.diagram.specs.Drawing.{slopesBy}
-use Rattle.diagram.proofs.Leaving.{left-with}
+use Rattle.diagram.specs.Drawing.{slopes_by}
+use Rattle.diagram.proofs.Leaving.{left_with}
 use borrow.Author.Rules.{rules}
 use Rattle.diagram.proofs.gradients.write_exclusives_with_gradients.Statement.{statement}
 use Rattle.diagram.proofs.gradients.write_exclusives_with_gradients.Tie as tie
@@ -20,10 +20,10 @@ returns c =
     let s = entry w in
     let a = s.args in
     let d = a.drawing in
-    let G = slopesBy a.width d (stands a.sets.now) in
+    let G = slopes_by a.width d (stands a.sets.now) in
     let p = s.pre in
     let f = w.write-rows-with-gradients.ensures in
-    let z = left-with d.n G a.presence.now a.exclusives.now a.gradients.now p.0 p.1 p.2 p.3 _ _ _
+    let z = left_with d.n G a.presence.now a.exclusives.now a.gradients.now p.0 p.1 p.2 p.3 _ _ _
     f.0 f.1.0 f.1.1 in
     let y = x.to-exclusive-areas-and-gradients.ensures in
     (f.0, (y.1.0 ∙ z.0, y.1.1 ∙ z.1))

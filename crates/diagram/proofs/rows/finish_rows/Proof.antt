@@ -8,8 +8,8 @@ use lib.Seq.{drop-set-lt}
 use Rattle.masks.specs.Presence.{stands}
 use Rattle.geometry.specs.Rectangle.{area}
 use Rattle.sums.specs.Presence.{among}
-use Rattle.sums.proofs.Passes.{bytes-all, cleared-all}
-use Rattle.diagram.proofs.Laying.{row-cleared}
+use Rattle.sums.proofs.Passes.{bytes_all, cleared_all}
+use Rattle.diagram.proofs.Laying.{row_cleared}
 use borrow.Author.Rules.{rules}
 use Rattle.diagram.proofs.rows.finish_rows.Statement.{statement}
 use Rattle.diagram.proofs.rows.finish_rows.Tie as tie
@@ -42,11 +42,11 @@ returns c =
     let sets = stands a.sets.now in
     let l = a.areas.now in
     let x = r.area.result in (
-      c.before.before.write-presence.ensures ∙ bytes-all n few (among d.boxed sets) a.presence.now s.pre.1,
+      c.before.before.write-presence.ensures ∙ bytes_all n few (among d.boxed sets) a.presence.now s.pre.1,
       k.clear-absent.ensures
-          ∙ cleared-all n few (among d.boxed sets) (set l 0 x) l _ (omega (arith, length-set l 0 x, s.pre.2))
+          ∙ cleared_all n few (among d.boxed sets) (set l 0 x) l _ (omega (arith, length-set l 0 x, s.pre.2))
           (drop-set-lt (2 ^ n) l 0 x (pow_pos n))
-          (λ S h. row-cleared d.boxed sets x (area d.container) l (some-row r) r.area.ensures S),
+          (λ S h. row_cleared d.boxed sets x (area d.container) l (some-row r) r.area.ensures S),
     )
 
 pub finish-rows-spec : {M : Type 1} → statement M

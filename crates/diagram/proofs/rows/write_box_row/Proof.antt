@@ -5,17 +5,17 @@ use mathlib.Core.List.{List}
 use Prim.Native.Nat.{ℕ, min, ◌+◌, ◌*◌}
 use lib.Ieee.{Float}
 use lib.ListN.{length, set, replicate, length-take}
-use Rattle.lists.proofs.Arrays.{length-of-values}
+use Rattle.lists.proofs.Arrays.{length_of_values}
 use Rattle.binary64.specs.Constants.{zero64}
 use Rattle.geometry.specs.Rectangle.{area}
-use Rattle.diagram.specs.Drawing.{circlesOf}
+use Rattle.diagram.specs.Drawing.{circles_of}
 use borrow.Author.Rules.{rules}
 use Rattle.diagram.proofs.rows.write_box_row.Statement.{statement}
 use Rattle.diagram.proofs.rows.write_box_row.Tie as tie
 
 -- ten circles
 ten : (s : tie.Start) → length s.args.drawing.circles ≡ 10
-ten s = search length-of-values
+ten s = search length_of_values
 
 abbrev entry : tie.After-clear → tie.Start
 entry c = c.before.before.before
@@ -24,7 +24,7 @@ entry c = c.before.before.before
 abbrev boxed : tie.Start → List Float
 boxed s =
     let d = s.args.drawing in
-    set (replicate (length s.args.grad.now) zero64) (length (circlesOf d) * 3 + 2) (area d.container)
+    set (replicate (length s.args.grad.now) zero64) (length (circles_of d) * 3 + 2) (area d.container)
 
 returns : tie.Need-returns
 returns c =

@@ -3,10 +3,10 @@ use mathlib.Core.Path.{ap, ◌∙◌}
 use Prim.Native.Nat.{◌^◌}
 use Rattle.masks.specs.Presence.{stands}
 use Rattle.intersections.specs.Members.{members_of}
-use Rattle.sums.specs.Rows.{areaOf, areasWritten}
-use Rattle.sums.proofs.Passes.{areas-all}
-use Rattle.diagram.specs.Drawing.{circlesOf, points_of, setArea, boxAreaOf}
-use Rattle.diagram.proofs.Laying.{areas-read}
+use Rattle.sums.specs.Rows.{area_of, areas_written}
+use Rattle.sums.proofs.Passes.{areas_all}
+use Rattle.diagram.specs.Drawing.{circles_of, points_of, set_area, box_area_of}
+use Rattle.diagram.proofs.Laying.{areas_read}
 use borrow.Author.Rules.{rules}
 use Rattle.diagram.proofs.rows.write_rows.Statement.{statement}
 use Rattle.diagram.proofs.rows.write_rows.Tie as tie
@@ -28,11 +28,11 @@ returns c =
     let n = d.n in
     let sets = stands a.sets.now in
     let areas = w.write-areas.ensures
-    ∙ ap (λ box. areasWritten n sets (λ S. areaOf d.boxed box (members_of (circlesOf d) (points_of d) S)) a.areas.now)
+    ∙ ap (λ box. areas_written n sets (λ S. area_of d.boxed box (members_of (circles_of d) (points_of d) S)) a.areas.now)
     b.bounds.ensures
-    ∙ areas-all n s.pre.0 sets (setArea d) a.areas.now s.pre.2 in (
+    ∙ areas_all n s.pre.0 sets (set_area d) a.areas.now s.pre.2 in (
       f.finish-rows.ensures.0,
-      f.finish-rows.ensures.1 ∙ areas-read d.boxed sets (boxAreaOf d) (setArea d) (2 ^ n) _ a.areas.now areas,
+      f.finish-rows.ensures.1 ∙ areas_read d.boxed sets (box_area_of d) (set_area d) (2 ^ n) _ a.areas.now areas,
     )
 
 pub write-rows-spec : {M : Type 1} → statement M

@@ -1,6 +1,6 @@
 -- `horner` meets its contract: each step is one of the definition's, and its result is no more than its coefficient.
 use Rattle.std.proofs.Common.{le_trans, lit≤, rules}
-use Rattle.cells.specs.Arc.{firstArc, arcs}
+use Rattle.cells.specs.Arc.{first_arc, arcs}
 use Rattle.elementary.proofs.fixed.Horner.{Value, next}
 use Rattle.elementary.proofs.arctangent.horner.Statement.{statement}
 use Rattle.elementary.proofs.arctangent.horner.Tie as tie
@@ -10,7 +10,7 @@ step-requires c κs = le_trans c.later-half.ensures.1 (lit≤ tt)
 
 returns : tie.Need-returns
 returns c =
-    let v : Value firstArc arcs c.before.before.before.before.before.before.before.before.before.before.before.before.args.z c.step11.result =
+    let v : Value first_arc arcs c.before.before.before.before.before.before.before.before.before.before.before.before.args.z c.step11.result =
     next c.step11.ensures.0
     (next c.before.step10.ensures.0
     (next c.before.before.step9.ensures.0

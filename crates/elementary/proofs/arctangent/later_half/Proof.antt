@@ -1,13 +1,13 @@
 -- `later_half` meets its contract: each step is one of the definition's, and its result is no more than its coefficient.
 use Rattle.std.proofs.Common.{le_trans, lit≤}
-use Rattle.cells.specs.Arc.{middleArc, laterArcs}
+use Rattle.cells.specs.Arc.{middle_arc, later_arcs}
 use Rattle.elementary.proofs.fixed.Horner.{Value, constant, next}
 use Rattle.elementary.proofs.arctangent.later_half.Statement.{statement}
 use Rattle.elementary.proofs.arctangent.later_half.Tie as tie
 
 returns : tie.Need-returns
 returns c =
-    let v : Value middleArc laterArcs c.before.before.before.before.before.before.before.before.before.before.args.z c.step10.result =
+    let v : Value middle_arc later_arcs c.before.before.before.before.before.before.before.before.before.before.args.z c.step10.result =
     next c.step10.ensures.0
     (next c.before.step9.ensures.0
     (next c.before.before.step8.ensures.0

@@ -5,11 +5,11 @@ use Rattle.elementary.proofs.arctangent.upper_half.Statement.{statement}
 use Rattle.elementary.proofs.arctangent.upper_half.Tie as tie
 
 returns : tie.Need-returns
-unfolding recipe.upperHalf
+unfolding recipe.upper_half
 returns c = rw (← c.before.is_sign_negative.ensures, c.if1.true, c.before.before.first-quarter.ensures.0) refl
 
 returns-2 : tie.Need-returns-2
-unfolding recipe.upperHalf
+unfolding recipe.upper_half
 returns-2 c = rw (← c.before.is_sign_negative.ensures, c.if1.false, c.before.before.first-quarter.ensures.0) refl
 
 pub upper-half-spec : {M : Type 1} → statement M

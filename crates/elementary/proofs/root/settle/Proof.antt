@@ -1,6 +1,6 @@
 -- `root::settle` meets its contract: each number that it returns passes both tests of `Near`.
 use Rattle.std.proofs.Common.{◌≡◌, ◌+◌, ◌*◌, ◌^◌, arith, rules}
-use Rattle.elementary.proofs.root.Certificate.{settled, settled_up, settled-down}
+use Rattle.elementary.proofs.root.Certificate.{settled, settled_up, settled_down}
 use Rattle.elementary.proofs.root.settle.Statement.{statement}
 use Rattle.elementary.proofs.root.settle.Tie as tie
 
@@ -14,7 +14,7 @@ returns c = search rules
 returns-2 : tie.Need-returns-2
 returns-2 c = λ p.
     let e = c.before.before in
-    settled-down _ e.before.before.args.q e.before.weigh.result.square e.before.weigh.result.radicand (level e) (omega arith) c.before.if2.true c.if3.true
+    settled_down _ e.before.before.args.q e.before.weigh.result.square e.before.weigh.result.radicand (level e) (omega arith) c.before.if2.true c.if3.true
 
 returns-4 : tie.Need-returns-4
 returns-4 c = λ p.

@@ -1,13 +1,13 @@
 -- `horner` meets its contract: each step is one of the definition's, and its result is no more than its coefficient.
 use Rattle.std.proofs.Common.{le_trans, lit≤}
-use Rattle.series.specs.Kernel.{firstCoefficient, coefficients}
+use Rattle.series.specs.Kernel.{first_coefficient, coefficients}
 use Rattle.elementary.proofs.fixed.Horner.{Value, constant, next}
 use Rattle.elementary.proofs.sine.horner.Statement.{statement}
 use Rattle.elementary.proofs.sine.horner.Tie as tie
 
 returns : tie.Need-returns
 returns c =
-    let v : Value firstCoefficient coefficients c.before.before.before.before.before.before.before.before.before.before.args.z c.step10.result =
+    let v : Value first_coefficient coefficients c.before.before.before.before.before.before.before.before.before.before.args.z c.step10.result =
     next c.step10.ensures.0
     (next c.before.step9.ensures.0
     (next c.before.before.step8.ensures.0

@@ -8,17 +8,17 @@ use native.Mathlib.Omega.{arith}
 use lib.Ieee.{Float, nan}
 use lib.ListN.{length, get_or, set, length-set}
 use Rattle.lists.specs.Written.{written}
-use Rattle.lists.proofs.Writing.{written_none, written-past, write-next}
+use Rattle.lists.proofs.Writing.{written_none, written_past, write_next}
 use Rattle.masks.specs.Presence.{stands}
 use Rattle.binary64.specs.Constants.{zero64}
-use Rattle.binary64.specs.Functions.{clampToZero}
+use Rattle.binary64.specs.Functions.{clamp_to_zero}
 use borrow.Author.Rules.{rules}
 use Rattle.exclusive.proofs.areas.clamp_rows.Statement.{statement}
 use Rattle.exclusive.proofs.areas.clamp_rows.Tie as tie
 
 -- row S of the table
 abbrev row : List ℕ → List Float → ℕ → Float
-row present numbers S = cond (stands present S) (clampToZero (get_or numbers S nan)) zero64
+row present numbers S = cond (stands present S) (clamp_to_zero (get_or numbers S nan)) zero64
 
 abbrev invariant-loop : tie.invariant-loop
 invariant-loop present numbers₀ n masks s₀ numbers s =
@@ -41,7 +41,7 @@ loop-again c =
     let m = c.before.before.before in let l = m.before.loop in let i = l.invariant in let a = (start m.before.before).args in
     let f = row a.present.now a.numbers.now in
     let v = c.clamped.result in
-    let old = ap (λ (t : List Float). get_or t l.s nan) i.6 ∙ written-past f l.s l.s a.numbers.now nan (le_refl l.s) in (
+    let old = ap (λ (t : List Float). get_or t l.s nan) i.6 ∙ written_past f l.s l.s a.numbers.now nan (le_refl l.s) in (
       i.0,
       i.1,
       i.2,
@@ -49,8 +49,8 @@ loop-again c =
       omega arith,
       length-set l.numbers l.s v ∙ i.5,
       ap (λ (t : List Float). set t l.s v) i.6
-          ∙ write-next f l.s a.numbers.now v nan (omega (arith, i.1, i.3))
-          (c.clamped.ensures ∙ ap (λ (x : Float). cond (stands a.present.now l.s) (clampToZero x) zero64) old),
+          ∙ write_next f l.s a.numbers.now v nan (omega (arith, i.1, i.3))
+          (c.clamped.ensures ∙ ap (λ (x : Float). cond (stands a.present.now l.s) (clamp_to_zero x) zero64) old),
     )
 
 returns : tie.Need-returns invariant-loop decreases-loop

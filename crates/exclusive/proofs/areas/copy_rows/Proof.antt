@@ -6,7 +6,7 @@ use native.Mathlib.Omega.{arith}
 use lib.Ieee.{Float, nan}
 use lib.ListN.{length, get_or, set, length-set}
 use Rattle.lists.specs.Written.{written}
-use Rattle.lists.proofs.Writing.{written_none, write-next}
+use Rattle.lists.proofs.Writing.{written_none, write_next}
 use borrow.Author.Rules.{rules}
 use Rattle.exclusive.proofs.areas.copy_rows.Statement.{statement}
 use Rattle.exclusive.proofs.areas.copy_rows.Tie as tie
@@ -38,7 +38,7 @@ loop-again c =
       omega arith,
       length-set l.exclusives l.s v ∙ i.5,
       ap (λ (t : List Float). set t l.s v) i.6
-          ∙ write-next (λ S. get_or a.areas.now S nan) l.s a.exclusives.now v nan (omega (arith, i.1, i.3)) refl,
+          ∙ write_next (λ S. get_or a.areas.now S nan) l.s a.exclusives.now v nan (omega (arith, i.1, i.3)) refl,
     )
 
 returns : tie.Need-returns invariant-loop decreases-loop

@@ -9,7 +9,7 @@ use lib.Ieee.{nan}
 use lib.ListN.{length, get_or}
 use Rattle.lists.specs.Written.{written}
 use Rattle.masks.specs.Presence.{stands}
-use Rattle.exclusive.specs.Exclusive.{exclusiveRow, rowsAnswer}
+use Rattle.exclusive.specs.Exclusive.{exclusive_row, rows_answer}
 use Rattle.exclusive.proofs.Answers.{taken}
 use borrow.Author.Rules.{rules}
 use Rattle.exclusive.proofs.areas.to_exclusive_areas.Statement.{statement}
@@ -18,11 +18,11 @@ use Rattle.exclusive.proofs.areas.to_exclusive_areas.Tie as tie
 -- what was answered
 answered : (c : tie.After-rows-answer)
     → let a = c.before.before.before.before.before.before.args in
-    c.rows-answer.result ≡ rowsAnswer a.n (min (length a.present.now) (min (length a.areas.now) (length a.exclusives.now)))
+    c.rows-answer.result ≡ rows_answer a.n (min (length a.present.now) (min (length a.areas.now) (length a.exclusives.now)))
 answered c =
     let a = c.before.before.before.before.before.before.args in
     c.rows-answer.ensures
-    ∙ ap (rowsAnswer a.n) (c.before.shorter2.ensures ∙ ap (min (length a.present.now)) c.before.before.shorter.ensures)
+    ∙ ap (rows_answer a.n) (c.before.shorter2.ensures ∙ ap (min (length a.present.now)) c.before.before.shorter.ensures)
 
 write-exclusives-requires : tie.Need-write-exclusives-requires
 write-exclusives-requires c κs =
@@ -35,7 +35,7 @@ returns c =
     let w = c.before.before in let r = w.before.before.before in let a = r.before.before.before.before.before.before.args in (
       answered r,
       w.write-exclusives.ensures
-          ∙ sym (ap (λ (b : Bool). cond b (written (exclusiveRow a.n (stands a.present.now) (λ S. get_or a.areas.now S nan)) (2 ^ a.n) a.exclusives.now) a.exclusives.now)
+          ∙ sym (ap (λ (b : Bool). cond b (written (exclusive_row a.n (stands a.present.now) (λ S. get_or a.areas.now S nan)) (2 ^ a.n) a.exclusives.now) a.exclusives.now)
           (eq-eqb _ 0 (sym (answered r) ∙ w.before.before.if1.true))),
     )
 
@@ -43,7 +43,7 @@ returns-2 : tie.Need-returns-2
 returns-2 c =
     let r = c.before in let a = r.before.before.before.before.before.before.args in (
       answered r,
-      sym (ap (λ (b : Bool). cond b (written (exclusiveRow a.n (stands a.present.now) (λ S. get_or a.areas.now S nan)) (2 ^ a.n) a.exclusives.now) a.exclusives.now)
+      sym (ap (λ (b : Bool). cond b (written (exclusive_row a.n (stands a.present.now) (λ S. get_or a.areas.now S nan)) (2 ^ a.n) a.exclusives.now) a.exclusives.now)
           (ne_eqb _ 0 (λ e. c.if1.false (answered r ∙ e)))),
     )
 

@@ -7,7 +7,7 @@ use native.Mathlib.Omega.{arith}
 use lib.Ieee.{Float, nan}
 use lib.ListN.{length, get_or, set, length-set}
 use Rattle.binary64.specs.Constants.{zero64}
-use Rattle.exclusive.proofs.LevelSums.{Adding, adding-start, adding-next, adding-end}
+use Rattle.exclusive.proofs.LevelSums.{Adding, adding_start, adding_next, adding_end}
 use borrow.Author.Rules.{rules}
 use Rattle.exclusive.proofs.levels.add_to_level.Statement.{statement}
 use Rattle.exclusive.proofs.levels.add_to_level.Tie as tie
@@ -21,7 +21,7 @@ decreases-loop order lo hi t number sums₀ i₀ sums i = hi - i
 loop-holds : tie.Need-loop-init invariant-loop decreases-loop
 loop-holds c =
     let p = c.requires in let a = c.args in
-    (p.0, p.1, p.2, omega arith, adding-start a.order.now a.lo a.t a.number a.sums.now)
+    (p.0, p.1, p.2, omega arith, adding_start a.order.now a.lo a.t a.number a.sums.now)
 
 loop-again : tie.Need-loop-preserved invariant-loop decreases-loop
 loop-again c =
@@ -31,7 +31,7 @@ loop-again c =
       i.1,
       length-set l.sums l.i _ ∙ i.2,
       omega arith,
-      adding-next a.order.now a.lo a.t a.number a.sums.now l.i l.sums j.if1.part i.3 (omega (arith, i.2))
+      adding_next a.order.now a.lo a.t a.number a.sums.now l.i l.sums j.if1.part i.3 (omega (arith, i.2))
           (⊎_elim (λ w. w.1 ∙ sym (ap (λ (b : Bool). cond b a.number zero64) (test ∙ w.0.taken)))
           (λ w. w.1 ∙ sym (ap (λ (b : Bool). cond b a.number zero64) (test ∙ w.0.left))) j.if1.branch) i.4,
     )
@@ -39,7 +39,7 @@ loop-again c =
 returns : tie.Need-returns invariant-loop decreases-loop
 returns c =
     let l = c.before.loop in let a = c.before.before.args in
-    adding-end a.order.now a.lo a.t a.number a.sums.now l.i a.hi l.sums (omega arith) l.invariant.4
+    adding_end a.order.now a.lo a.t a.number a.sums.now l.i a.hi l.sums (omega arith) l.invariant.4
 
 pub add-to-level-spec : {M : Type 1} → statement M
 add-to-level-spec =

@@ -8,18 +8,18 @@ use lib.ListN.{length, get_or, take, length-take, length-set, length-replicate, 
 use Rattle.lists.specs.Every.{Every}
 use Rattle.masks.specs.Presence.{stands}
 use Rattle.binary64.specs.Constants.{zero64}
-use Rattle.exclusive.specs.RowOrder.{rowOrder}
-use Rattle.exclusive.proofs.RowOrder.{every-row}
+use Rattle.exclusive.specs.RowOrder.{row_order}
+use Rattle.exclusive.proofs.RowOrder.{every_row}
 use Rattle.exclusive.proofs.Places.{row_lt}
-use Rattle.exclusive.proofs.Passing.{Pass, due, pass-start, pass-end}
-use Rattle.exclusive.proofs.LevelSums.{row_at, level-sums, level-next}
+use Rattle.exclusive.proofs.Passing.{Pass, due, pass_start, pass_end}
+use Rattle.exclusive.proofs.LevelSums.{row_at, level_sums, level_next}
 use borrow.Author.Rules.{rules}
 use Rattle.exclusive.proofs.levels.subtract_levels.Statement.{statement}
 use Rattle.exclusive.proofs.levels.subtract_levels.Tie as tie
 
 abbrev invariant-loop2 : tie.invariant-loop2
 invariant-loop2 present areas₀ n order count sums hi₀ lo areas hi =
-    (n ≤ 10) × (2 ^ n ≤ length areas) × (length order ≡ 1024) × (count ≤ 1024) × (take count order ≡ rowOrder (stands present) n) × (hi ≤ count)
+    (n ≤ 10) × (2 ^ n ≤ length areas) × (length order ≡ 1024) × (count ≤ 1024) × (take count order ≡ row_order (stands present) n) × (hi ≤ count)
     × (length sums ≡ 1024) × (lo ≤ hi) × (hi ≤ hi₀) × ((i : ℕ) → i < lo → get_or sums i nan ≡ zero64)
     × ((first : List Float) → Pass n (stands present) 1 hi₀ first areas₀
     → ((i : ℕ) → lo ≤ i → i < hi₀ → get_or sums i nan ≡ due n (stands present) 1 (get_or order i 0) first 0) → Pass n (stands present) 1 hi first areas)
@@ -29,7 +29,7 @@ decreases-loop2 present areas₀ n order count sums hi₀ lo areas hi = hi
 
 abbrev invariant-loop : tie.invariant-loop
 invariant-loop present areas₀ n order count sums₀ hi₀ areas sums hi =
-    (n ≤ 10) × (2 ^ n ≤ length areas) × (length order ≡ 1024) × (count ≤ 1024) × (take count order ≡ rowOrder (stands present) n) × (hi ≤ count)
+    (n ≤ 10) × (2 ^ n ≤ length areas) × (length order ≡ 1024) × (count ≤ 1024) × (take count order ≡ row_order (stands present) n) × (hi ≤ count)
     × (length sums ≡ 1024) × Pass n (stands present) 1 hi areas₀ areas × ((i : ℕ) → i < hi → get_or sums i nan ≡ zero64)
 
 abbrev decreases-loop : tie.decreases-loop
@@ -46,7 +46,7 @@ loop-holds c =
       e.0,
       omega arith,
       length-replicate {A = Float} 1024 zero64,
-      pass-start a.n (stands a.present.now) 1 rows.n a.areas.now (omega (arith, length-take rows.n rows.all, ap length e.0)),
+      pass_start a.n (stands a.present.now) 1 rows.n a.areas.now (omega (arith, length-take rows.n rows.all, ap length e.0)),
       λ i h. get_or-replicate 1024 i zero64 nan (omega (arith, e.1.0)),
     )
 
@@ -58,7 +58,7 @@ sum-level-requires c κs =
       i.2,
       i.6,
       subst (Every (λ T. T < length l.areas)) (sym i.4)
-          (every-row (stands a.present.now) (λ T. T < length l.areas) a.n (λ T h p. omega (arith, h, i.1))),
+          (every_row (stands a.present.now) (λ T. T < length l.areas) a.n (λ T h p. omega (arith, h, i.1))),
     )
 
 loop2-holds : tie.Need-loop2-init invariant-loop2 decreases-loop2 invariant-loop decreases-loop
@@ -89,7 +89,7 @@ loop-again c =
       j.5,
       j.6,
       j.10 a.areas.now i.7
-          (level-sums a.n (stands a.present.now) r.all r.n (omega (arith, i.2, i.3)) i.4 a.areas.now l.areas v.level-start.result l.hi l.sums _
+          (level_sums a.n (stands a.present.now) r.all r.n (omega (arith, i.2, i.3)) i.4 a.areas.now l.areas v.level-start.result l.hi l.sums _
           i.0 i.5 i.7 i.8 v.level-start.ensures.1 t.sum_level.ensures),
       λ k h. j.9 k (omega (arith, h, c.loop2-test.false)),
     )
@@ -126,7 +126,7 @@ loop2-again c =
       omega (arith, t.loop2-test.true),
       omega (arith, j.8),
       j.9,
-      λ first p d. level-next a.n (stands a.present.now) r.all r.n (omega (arith, j.2, j.3)) j.4 first l.areas (l.hi - 1) _ (omega (arith, z, j.5)) j.1
+      λ first p d. level_next a.n (stands a.present.now) r.all r.n (omega (arith, j.2, j.3)) j.4 first l.areas (l.hi - 1) _ (omega (arith, z, j.5)) j.1
           (d (l.hi - 1) (omega (arith, t.loop2-test.true)) (omega (arith, z, j.8)))
           (subst (λ (i : ℕ). Pass a.n (stands a.present.now) 1 i first l.areas) z (j.10 first p d)),
     )
@@ -135,7 +135,7 @@ returns : tie.Need-returns invariant-loop2 decreases-loop2 invariant-loop decrea
 returns c =
     let l = c.before.loop in let a = c.before.before.before.before.before.before.args in
     let z : l.hi ≡ 0 = omega arith in
-    pass-end a.n (stands a.present.now) 1 a.areas.now l.areas
+    pass_end a.n (stands a.present.now) 1 a.areas.now l.areas
     (subst (λ (i : ℕ). Pass a.n (stands a.present.now) 1 i a.areas.now l.areas) z l.invariant.7)
 
 pub subtract-levels-spec : {M : Type 1} → statement M

@@ -5,8 +5,8 @@ use native.Mathlib.Omega.{arith}
 use lib.Ieee.{Float, nan}
 use lib.ListN.{length, get_or, take, drop, length-take}
 use lib.Seq.{get_or-take}
-use Rattle.lists.specs.Every.{Every, every-at}
-use Rattle.exclusive.proofs.LevelSums.{Summing, summing_start, summing-next, summing-end}
+use Rattle.lists.specs.Every.{Every, every_at}
+use Rattle.exclusive.proofs.LevelSums.{Summing, summing_start, summing_next, summing_end}
 use borrow.Author.Rules.{rules}
 use Rattle.exclusive.proofs.levels.sum_level.Statement.{statement}
 use Rattle.exclusive.proofs.levels.sum_level.Tie as tie
@@ -37,7 +37,7 @@ inside : (c : tie.In-loop invariant-loop decreases-loop) → get_or c.before.bef
 inside c =
     let l = c.before.loop in let i = l.invariant in let a = c.before.before.before.args in
     subst (λ (t : ℕ). t < length a.areas.now) (get_or-take a.count a.order.now l.j 0 c.loop-test.true)
-    (every-at (λ T. T < length a.areas.now) (take a.count a.order.now) l.j 0 (omega (arith, i.5)) i.4)
+    (every_at (λ T. T < length a.areas.now) (take a.count a.order.now) l.j 0 (omega (arith, i.5)) i.4)
 
 add-to-level-requires : tie.Need-add-to-level-requires invariant-loop decreases-loop
 add-to-level-requires c κs =
@@ -54,14 +54,14 @@ loop-again c =
       i.4,
       i.5,
       omega (arith, i.6),
-      summing-next a.order.now a.lo a.hi (λ T. get_or a.areas.now T nan) (take a.count a.order.now) a.sums.now l.j _ l.sums _ (omega (arith, i.5))
+      summing_next a.order.now a.lo a.hi (λ T. get_or a.areas.now T nan) (take a.count a.order.now) a.sums.now l.j _ l.sums _ (omega (arith, i.5))
           (get_or-take a.count a.order.now l.j 0 m.loop-test.true) e i.7,
     )
 
 returns : tie.Need-returns invariant-loop decreases-loop
 returns c =
     let l = c.before.loop in let i = l.invariant in let a = c.before.before.before.args in
-    summing-end a.order.now a.lo a.hi (λ T. get_or a.areas.now T nan) (take a.count a.order.now) a.sums.now l.j l.sums (omega (arith, i.5)) i.7
+    summing_end a.order.now a.lo a.hi (λ T. get_or a.areas.now T nan) (take a.count a.order.now) a.sums.now l.j l.sums (omega (arith, i.5)) i.7
 
 pub sum-level-spec : {M : Type 1} → statement M
 sum-level-spec =

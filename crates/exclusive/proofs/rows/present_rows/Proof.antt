@@ -11,14 +11,14 @@ use lib.Seq.{take-set-le}
 use Rattle.lists.specs.Lists.{keep}
 use Rattle.lists.specs.Written.{tab}
 use Rattle.masks.specs.Presence.{stands}
-use Rattle.exclusive.proofs.Places.{masks-le, rowsBelow, below-with, below-without, put}
+use Rattle.exclusive.proofs.Places.{masks_le, rows_below, below_with, below_without, put}
 use Rattle.exclusive.proofs.rows.present_rows.Statement.{statement}
 use Rattle.exclusive.proofs.rows.present_rows.Tie as tie
 
 abbrev invariant-loop : tie.invariant-loop
 invariant-loop present n masks all₀ found₀ s₀ all found s =
     (n ≤ 10) × (masks ≡ 2 ^ n) × (2 ^ n ≤ length present) × (s ≤ masks) × (found ≤ s) × (length all ≡ 1024)
-    × (take found all ≡ rowsBelow (stands present) s)
+    × (take found all ≡ rows_below (stands present) s)
 
 abbrev decreases-loop : tie.decreases-loop
 decreases-loop present n masks all₀ found₀ s₀ all found s = masks - s
@@ -35,7 +35,7 @@ loop-holds c =
 -- there is a place for each mask
 free : (c : tie.In-loop invariant-loop decreases-loop) → c.before.loop.found < 1024
 free c =
-    let i = c.before.loop.invariant in omega (arith, c.loop-test.true, i.1, i.4, masks-le (start c.before.before).args.n i.0)
+    let i = c.before.loop.invariant in omega (arith, c.loop-test.true, i.1, i.4, masks_le (start c.before.before).args.n i.0)
 
 -- one row at most is found
 one_more : (c : tie.Joined1 invariant-loop decreases-loop) → c.if1.one ≤ 1
@@ -57,13 +57,13 @@ loop-again c =
       ⊎_elim
           (λ w.
           ap (λ (n : ℕ). take (l.found + n) (set l.all l.found s)) w.1
-          ∙ put l.all (rowsBelow (stands P) s) l.found s (omega (arith, free m, i.5)) i.6
-          ∙ below-with (stands P) s (eq-eqb (get_or P s 0) 1 w.0.taken))
+          ∙ put l.all (rows_below (stands P) s) l.found s (omega (arith, free m, i.5)) i.6
+          ∙ below_with (stands P) s (eq-eqb (get_or P s 0) 1 w.0.taken))
           (λ w.
           let z : l.found + j.if1.one ≡ l.found = omega (arith, w.1) in
           ap (λ (n : ℕ). take n (set l.all l.found s)) z
           ∙ take-set-le l.found l.all l.found s (le_refl l.found)
-          ∙ i.6 ∙ below-without (stands P) s (ne_eqb (get_or P s 0) 1 w.0.left))
+          ∙ i.6 ∙ below_without (stands P) s (ne_eqb (get_or P s 0) 1 w.0.left))
           j.if1.branch,
     )
 
@@ -71,7 +71,7 @@ returns : tie.Need-returns invariant-loop decreases-loop
 returns c =
     let l = c.before.loop in let i = l.invariant in let a = (start c.before.before).args in
     let e : l.s ≡ 2 ^ a.n = omega (arith, i.1) in
-    (i.6 ∙ ap (rowsBelow (stands a.present.now)) e, (omega (arith, i.1, i.3, i.4, masks-le a.n i.0), i.5))
+    (i.6 ∙ ap (rows_below (stands a.present.now)) e, (omega (arith, i.1, i.3, i.4, masks_le a.n i.0), i.5))
 
 pub present-rows-spec : {M : Type 1} → statement M
 present-rows-spec =

@@ -7,7 +7,7 @@ use borrow.Author.Rules.{rules}
 use lib.Count.{ones}
 use lib.ListN.{length, get_or, set, replicate, length-replicate}
 use Rattle.lists.specs.Written.{written}
-use Rattle.lists.proofs.Writing.{written_none, write-next}
+use Rattle.lists.proofs.Writing.{written_none, write_next}
 use Rattle.exclusive.proofs.rows.row_heads.Statement.{statement}
 use Rattle.exclusive.proofs.rows.row_heads.Tie as tie
 
@@ -31,7 +31,7 @@ loop-again c =
       i.1,
       omega (arith, m.loop-test.true),
       ap (λ (t : List ℕ). set t l.i v) i.3
-          ∙ write-next (λ i. ones (get_or M i 0)) l.i (replicate 1024 0) v 0 room refl,
+          ∙ write_next (λ i. ones (get_or M i 0)) l.i (replicate 1024 0) v 0 room refl,
     )
 
 returns : tie.Need-returns invariant-loop decreases-loop

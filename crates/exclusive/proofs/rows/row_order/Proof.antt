@@ -13,11 +13,11 @@ use lib.Dec.{eqb}
 use lib.ListN.{length, get_or, take, drop, set, replicate, length-take, length-set, length-append, length-replicate}
 use lib.Seq.{get_or-take}
 use Rattle.lists.specs.Lists.{up_to, keep}
-use Rattle.lists.proofs.Writing.{written-before}
+use Rattle.lists.proofs.Writing.{written_before}
 use Rattle.masks.specs.Presence.{stands}
-use Rattle.exclusive.specs.RowOrder.{rows_of, rowOrder}
-use Rattle.exclusive.proofs.Places.{few-rows, rows_next, level-kept, rowsBelow, masks-le, put}
-use Rattle.exclusive.proofs.Sums.{kept-with, kept-without, kept-end}
+use Rattle.exclusive.specs.RowOrder.{rows_of, row_order}
+use Rattle.exclusive.proofs.Places.{few_rows, rows_next, level_kept, rows_below, masks_le, put}
+use Rattle.exclusive.proofs.Sums.{kept_with, kept_without, kept_end}
 use Rattle.exclusive.proofs.rows.row_order.Statement.{statement}
 use Rattle.exclusive.proofs.rows.row_order.Tie as tie
 
@@ -77,7 +77,7 @@ loop2-holds c =
       i.5,
       omega (arith, c.loop-test.true),
       ap₂ (λ (R F : List ℕ). R ++ keep (Has l.c) F) i.7 r.present-rows.ensures.0
-          ∙ ap (λ (t : List ℕ). Before P n l.c ++ t) (level-kept (stands P) l.c (2 ^ n))
+          ∙ ap (λ (t : List ℕ). Before P n l.c ++ t) (level_kept (stands P) l.c (2 ^ n))
           ∙ sym (rows_next (stands P) (2 ^ n) l.c),
     )
 
@@ -105,7 +105,7 @@ module _ (c : tie.In-loop2 invariant-loop2 decreases-loop2 invariant-loop decrea
   counted : get_or c.before.before.before.before.row-heads.result c.before.loop2.i 0 ≡ ones S
   counted =
       ap (λ (t : List ℕ). get_or t c.before.loop2.i 0) c.before.before.before.before.row-heads.ensures
-      ∙ written-before (λ i. ones (get_or masks i 0)) count c.before.loop2.i (replicate 1024 0) 0 c.loop2-test.true
+      ∙ written_before (λ i. ones (get_or masks i 0)) count c.before.loop2.i (replicate 1024 0) 0 c.loop2-test.true
       ∙ ap ones (sym same)
 
   inside : c.before.loop2.i < length (take count masks)
@@ -121,15 +121,15 @@ module _ (c : tie.In-loop2 invariant-loop2 decreases-loop2 invariant-loop decrea
   abbrev rest : List ℕ
   rest = keep (Has heads) (drop (c.before.loop2.i + 1) (take count masks))
 
-  abbrev upToThese : List ℕ
-  upToThese = Before found.before.before.args.present.now found.before.before.args.n (heads + 1)
+  abbrev up_to_these : List ℕ
+  up_to_these = Before found.before.before.args.present.now found.before.before.args.n (heads + 1)
 
 -- a row of so many heads goes to the end of the list
 module _ (c : tie.Then1 invariant-loop2 decreases-loop2 invariant-loop decreases-loop) where
-  put-there : (listed c.before ++ (S c.before ∷ [])) ++ rest c.before ≡ upToThese c.before
+  put-there : (listed c.before ++ (S c.before ∷ [])) ++ rest c.before ≡ up_to_these c.before
   put-there =
       let m = c.before in
-      kept-with (Has (heads m)) (listed m) (take (count m) (masks m)) m.before.loop2.i (inside m)
+      kept_with (Has (heads m)) (listed m) (take (count m) (masks m)) m.before.loop2.i (inside m)
       (eq-eqb (ones (S m)) (heads m) (sym (counted m) ∙ c.if1.true))
       ∙ m.before.loop2.invariant.7
 
@@ -145,8 +145,8 @@ module _ (c : tie.Then1 invariant-loop2 decreases-loop2 invariant-loop decreases
         length-take l.k l.all,
         l.invariant.4,
         l.invariant.5,
-        few-rows (stands a.present.now) (2 ^ a.n) (heads m + 1),
-        masks-le a.n l.invariant.0,
+        few_rows (stands a.present.now) (2 ^ a.n) (heads m + 1),
+        masks_le a.n l.invariant.0,
       )
 
 loop2-again : tie.Need-loop2-preserved invariant-loop2 decreases-loop2 invariant-loop decreases-loop
@@ -176,7 +176,7 @@ loop2-again c =
       omega (arith, w.2, i.5),
       i.6,
       ap₂ (λ (n : ℕ) (t : List ℕ). take n t ++ rest m) w.2 w.1
-          ∙ kept-without (Has (heads m)) (listed m) (take (count m) (masks m)) l.i (inside m)
+          ∙ kept_without (Has (heads m)) (listed m) (take (count m) (masks m)) l.i (inside m)
           (ne_eqb (ones (S m)) (heads m) (λ e. w.0.left (counted m ∙ e)))
           ∙ i.7,
     ))
@@ -194,11 +194,11 @@ loop-again c =
       i.4,
       i.5,
       omega (arith, i.6),
-      sym (append-nil R) ∙ ap (λ (t : List ℕ). R ++ t) (sym (kept-end (Has d) (take r.n r.all) l.i (omega (arith, i.1)))) ∙ i.7,
+      sym (append-nil R) ∙ ap (λ (t : List ℕ). R ++ t) (sym (kept_end (Has d) (take r.n r.all) l.i (omega (arith, i.1)))) ∙ i.7,
     )
 
 returns : tie.Need-returns invariant-loop2 decreases-loop2 invariant-loop decreases-loop
-unfolding rowOrder
+unfolding row_order
 returns c =
     let l = c.before.loop in let i = l.invariant in let a = c.before.before.before.before.before.before.before.args in
     let e : l.c ≡ suc a.n = omega arith in (i.7 ∙ ap (Before a.present.now a.n) e, (i.5, i.4))

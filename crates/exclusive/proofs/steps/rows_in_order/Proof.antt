@@ -7,8 +7,8 @@ use native.Mathlib.Omega.{arith}
 use borrow.Author.Tests.{eq-eqb, ne_eqb}
 use lib.ListN.{length, length-replicate}
 use Rattle.masks.specs.Presence.{stands}
-use Rattle.exclusive.specs.RowOrder.{rowOrder}
-use Rattle.exclusive.specs.Exclusive.{rowsAnswer}
+use Rattle.exclusive.specs.RowOrder.{row_order}
+use Rattle.exclusive.specs.Exclusive.{rows_answer}
 use Rattle.exclusive.proofs.Answers.{taken}
 use borrow.Author.Rules.{rules}
 use Rattle.exclusive.proofs.steps.rows_in_order.Statement.{statement}
@@ -16,7 +16,7 @@ use Rattle.exclusive.proofs.steps.rows_in_order.Tie as tie
 
 -- the rows, or none
 abbrev rows_by : ℕ → List ℕ → Bool → List ℕ
-rows_by n bytes taken = cond taken (rowOrder (stands bytes) n) []
+rows_by n bytes taken = cond taken (row_order (stands bytes) n) []
 
 row-order-requires : tie.Need-row-order-requires
 row-order-requires c κs =

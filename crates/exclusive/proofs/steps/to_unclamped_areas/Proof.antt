@@ -3,7 +3,7 @@ use mathlib.Core.Path.{◌≡◌, refl, sym, ap, ◌∙◌}
 use Prim.Native.Nat.{ℕ, min, ◌^◌, ◌≤◌}
 use native.Mathlib.Omega.{arith}
 use lib.ListN.{length}
-use Rattle.exclusive.specs.Exclusive.{rowsAnswer}
+use Rattle.exclusive.specs.Exclusive.{rows_answer}
 use Rattle.exclusive.proofs.Answers.{taken}
 use borrow.Author.Rules.{rules}
 use Rattle.exclusive.proofs.steps.to_unclamped_areas.Statement.{statement}
@@ -12,10 +12,10 @@ use Rattle.exclusive.proofs.steps.to_unclamped_areas.Tie as tie
 -- what was answered
 answered : (c : tie.After-rows-answer)
     → let a = c.before.before.before.before.args in
-    c.rows-answer.result ≡ rowsAnswer a.n (min (length a.present.now) (length a.areas.now))
+    c.rows-answer.result ≡ rows_answer a.n (min (length a.present.now) (length a.areas.now))
 answered c =
     let a = c.before.before.before.before.args in
-    c.rows-answer.ensures ∙ ap (rowsAnswer a.n) c.before.shorter.ensures
+    c.rows-answer.ensures ∙ ap (rows_answer a.n) c.before.shorter.ensures
 
 subtract-levels-requires : tie.Need-subtract-levels-requires
 subtract-levels-requires c κs =

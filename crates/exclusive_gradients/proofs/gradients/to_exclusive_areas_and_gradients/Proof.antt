@@ -9,8 +9,8 @@ use lib.Ieee.{Float, nan}
 use lib.ListN.{length, get_or}
 use Rattle.lists.specs.Written.{written}
 use Rattle.masks.specs.Presence.{stands}
-use Rattle.exclusive_gradients.specs.Gradient.{exclusiveWithGradient, gradientEntry, widthAnswer, gradientAnswer}
-use Rattle.exclusive_gradients.proofs.Answers.{all-taken}
+use Rattle.exclusive_gradients.specs.Gradient.{exclusive_with_gradient, gradient_entry, width_answer, gradient_answer}
+use Rattle.exclusive_gradients.proofs.Answers.{all_taken}
 use borrow.Author.Rules.{rules}
 use Rattle.exclusive_gradients.proofs.gradients.to_exclusive_areas_and_gradients.Statement.{
   statement,
@@ -20,23 +20,23 @@ use Rattle.exclusive_gradients.proofs.gradients.to_exclusive_areas_and_gradients
 -- what was answered
 answered : (c : tie.After-width-answer)
     → let a = c.before.before.before.before.before.args in
-    c.width-answer.result ≡ gradientAnswer a.n a.width a.present.now a.areas.now a.gradients.now
+    c.width-answer.result ≡ gradient_answer a.n a.width a.present.now a.areas.now a.gradients.now
 answered c =
     let a = c.before.before.before.before.before.args in
-    c.width-answer.ensures ∙ ap (λ (rows : ℕ). widthAnswer a.n a.width rows (length a.gradients.now)) c.before.shorter.ensures
+    c.width-answer.ensures ∙ ap (λ (rows : ℕ). width_answer a.n a.width rows (length a.gradients.now)) c.before.shorter.ensures
 
 -- the tables, taken or not
 module _ (n width : ℕ) (bytes : List ℕ) (areas gradients : List Float) where
-  abbrev areasBy : Bool → List Float
-  areasBy taken = cond taken (written (exclusiveWithGradient n (stands bytes) (λ S. get_or areas S nan)) (2 ^ n) areas) areas
+  abbrev areas_by : Bool → List Float
+  areas_by taken = cond taken (written (exclusive_with_gradient n (stands bytes) (λ S. get_or areas S nan)) (2 ^ n) areas) areas
 
-  abbrev gradientsBy : Bool → List Float
-  gradientsBy taken = cond taken (written (gradientEntry n width bytes areas gradients) (2 ^ n * width) gradients) gradients
+  abbrev gradients_by : Bool → List Float
+  gradients_by taken = cond taken (written (gradient_entry n width bytes areas gradients) (2 ^ n * width) gradients) gradients
 
 write-exclusives-and-gradients-requires : tie.Need-write-exclusives-and-gradients-requires
 write-exclusives-and-gradients-requires c κs =
     let r = c.before.before.before in let a = r.before.before.before.before.before.args in
-    let t = all-taken a.n a.width (min (length a.present.now) (length a.areas.now)) (length a.gradients.now)
+    let t = all_taken a.n a.width (min (length a.present.now) (length a.areas.now)) (length a.gradients.now)
     (sym (answered r) ∙ c.before.before.if1.true) in
     (t.0, omega (arith, t.1), omega (arith, t.1), omega (arith, t.2))
 
@@ -47,8 +47,8 @@ returns c =
     let e = w.write-exclusives-and-gradients.ensures in let yes = eq-eqb _ 0 (sym (answered r) ∙ t.if1.true) in (
       answered r,
       (
-        e.0 ∙ sym (ap (areasBy a.n a.width a.present.now a.areas.now a.gradients.now) yes),
-        e.1 ∙ sym (ap (gradientsBy a.n a.width a.present.now a.areas.now a.gradients.now) yes),
+        e.0 ∙ sym (ap (areas_by a.n a.width a.present.now a.areas.now a.gradients.now) yes),
+        e.1 ∙ sym (ap (gradients_by a.n a.width a.present.now a.areas.now a.gradients.now) yes),
       ),
     )
 
@@ -58,8 +58,8 @@ returns-2 c =
     let no = ne_eqb _ 0 (λ z. c.if1.false (answered r ∙ z)) in (
       answered r,
       (
-        sym (ap (areasBy a.n a.width a.present.now a.areas.now a.gradients.now) no),
-        sym (ap (gradientsBy a.n a.width a.present.now a.areas.now a.gradients.now) no),
+        sym (ap (areas_by a.n a.width a.present.now a.areas.now a.gradients.now) no),
+        sym (ap (gradients_by a.n a.width a.present.now a.areas.now a.gradients.now) no),
       ),
     )
 

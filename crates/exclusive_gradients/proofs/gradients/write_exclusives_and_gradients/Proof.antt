@@ -4,7 +4,7 @@ use Prim.Native.Nat.{min, ◌*◌, ◌^◌}
 use native.Mathlib.Omega.{arith}
 use lib.ListN.{length}
 use Rattle.exclusive.proofs.Answers.{room}
-use Rattle.exclusive_gradients.proofs.Replacing.{areas-are, gradients-are}
+use Rattle.exclusive_gradients.proofs.Replacing.{areas_are, gradients_are}
 use borrow.Author.Rules.{rules}
 use Rattle.exclusive_gradients.proofs.gradients.write_exclusives_and_gradients.Statement.{statement}
 use Rattle.exclusive_gradients.proofs.gradients.write_exclusives_and_gradients.Tie as tie
@@ -16,8 +16,8 @@ returns c =
     let u = f.to-unclamped-areas.ensures in
     let fits = room a.n (min (length a.present.now) (length a.areas.now)) p.0 (omega (arith, p.1, p.2)) in
     let one = u.1.0 (u.0 ∙ sym fits) in let more = g.subtract-supersets.ensures in (
-      e.0 ∙ areas-are a.n a.width a.present.now a.areas.now a.gradients.now _ _ one more,
-      e.1 ∙ gradients-are a.n a.width a.present.now a.areas.now a.gradients.now _ _ one more,
+      e.0 ∙ areas_are a.n a.width a.present.now a.areas.now a.gradients.now _ _ one more,
+      e.1 ∙ gradients_are a.n a.width a.present.now a.areas.now a.gradients.now _ _ one more,
     )
 
 pub write-exclusives-and-gradients-spec : {M : Type 1} → statement M

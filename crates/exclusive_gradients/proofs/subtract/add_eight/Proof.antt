@@ -6,7 +6,7 @@ use native.Mathlib.Omega.{arith}
 use lib.Ieee.{Float, nan}
 use lib.ListN.{length, get_or, set}
 use Rattle.lists.specs.Written.{tab, written}
-use Rattle.lists.proofs.Writing.{written_none, write-next, written-past, written-whole}
+use Rattle.lists.proofs.Writing.{written_none, write_next, written_past, written_whole}
 use Rattle.binary64.specs.Floats.{◌+ᶠ◌}
 use borrow.Author.Rules.{rules}
 use Rattle.exclusive_gradients.proofs.subtract.add_eight.Statement.{statement}
@@ -32,9 +32,9 @@ loop-again c =
       i.1,
       i.2,
       ap (λ (t : List Float). set t l.q v) i.3
-          ∙ write-next f l.q a.sums.now v nan (omega (arith, i.2))
+          ∙ write_next f l.q a.sums.now v nan (omega (arith, i.2))
           (ap (λ (x : Float). x +ᶠ get_or a.numbers.now (a.at + l.q) nan)
-          (ap (λ (t : List Float). get_or t l.q nan) i.3 ∙ written-past f l.q l.q a.sums.now nan (omega arith))),
+          (ap (λ (t : List Float). get_or t l.q nan) i.3 ∙ written_past f l.q l.q a.sums.now nan (omega arith))),
     )
 
 returns : tie.Need-returns invariant-loop decreases-loop
@@ -42,7 +42,7 @@ returns c =
     let l = c.before.loop in let i = l.invariant in let a = c.before.before.args in
     let f : ℕ → Float = λ q. get_or a.sums.now q nan +ᶠ get_or a.numbers.now (a.at + q) nan in
     let e : l.q ≡ 8 = omega arith in
-    i.3 ∙ written-whole f l.q 8 a.sums.now e i.2
+    i.3 ∙ written_whole f l.q 8 a.sums.now e i.2
 
 pub add-eight-spec : {M : Type 1} → statement M
 add-eight-spec =

@@ -10,7 +10,7 @@ use lib.Seq.{get_or-take, take-set-le}
 use Rattle.lists.specs.Lists.{keep}
 use Rattle.masks.specs.Mask.{subset}
 use Rattle.exclusive.proofs.Places.{put}
-use Rattle.exclusive.proofs.Sums.{kept-with, kept-without, kept-end}
+use Rattle.exclusive.proofs.Sums.{kept_with, kept_without, kept_end}
 use borrow.Author.Rules.{rules}
 use Rattle.exclusive_gradients.proofs.subtract.collect_supersets.Statement.{statement}
 use Rattle.exclusive_gradients.proofs.subtract.collect_supersets.Tie as tie
@@ -52,12 +52,12 @@ loop-again c =
           ap (λ (n : ℕ). take (l.found + n) (set l.supersets l.found t) ++ rest) w.1
           ∙ ap (λ (r : List ℕ). r ++ rest)
           (put l.supersets F l.found t (omega (arith, i.1, i.2, i.3, m.loop-test.true)) refl ∙ ap (λ (x : ℕ). F ++ (x ∷ [])) (sym at))
-          ∙ kept-with (subset 64 a.s) F L l.j (omega (arith, i.0, m.loop-test.true)) (test ∙ w.0.taken) ∙ i.5)
+          ∙ kept_with (subset 64 a.s) F L l.j (omega (arith, i.0, m.loop-test.true)) (test ∙ w.0.taken) ∙ i.5)
           (λ w.
           let z : l.found + j.if1.one ≡ l.found = omega (arith, w.1) in
           ap (λ (n : ℕ). take n (set l.supersets l.found t) ++ rest) z
           ∙ ap (λ (r : List ℕ). r ++ rest) (take-set-le l.found l.supersets l.found t (le_refl l.found))
-          ∙ kept-without (subset 64 a.s) F L l.j (omega (arith, i.0, m.loop-test.true)) (test ∙ w.0.left) ∙ i.5)
+          ∙ kept_without (subset 64 a.s) F L l.j (omega (arith, i.0, m.loop-test.true)) (test ∙ w.0.left) ∙ i.5)
           j.if1.branch,
     )
 
@@ -65,7 +65,7 @@ returns : tie.Need-returns invariant-loop decreases-loop
 returns c =
     let l = c.before.loop in let i = l.invariant in let a = c.before.before.args in (
       sym (append-nil (take l.found l.supersets))
-          ∙ ap (λ (t : List ℕ). take l.found l.supersets ++ t) (sym (kept-end (subset 64 a.s) (take a.count a.order.now) l.j (omega (arith, i.0)))) ∙ i.5,
+          ∙ ap (λ (t : List ℕ). take l.found l.supersets ++ t) (sym (kept_end (subset 64 a.s) (take a.count a.order.now) l.j (omega (arith, i.0)))) ∙ i.5,
       (i.4, i.2),
     )
 

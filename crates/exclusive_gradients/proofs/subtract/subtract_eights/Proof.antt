@@ -7,9 +7,9 @@ use lib.Ieee.{Float, nan}
 use lib.ListN.{length, get_or, take, length-set}
 use Rattle.lists.specs.Every.{Every}
 use Rattle.lists.specs.Written.{tab}
-use Rattle.lists.proofs.Writing.{length-tab, getD-tab}
-use Rattle.exclusive.specs.Entries.{rowSums, RowSubtracted}
-use Rattle.exclusive.proofs.Entries.{row-start, row_next, sums-stay}
+use Rattle.lists.proofs.Writing.{length_tab, get_d_tab}
+use Rattle.exclusive.specs.Entries.{row_sums, RowSubtracted}
+use Rattle.exclusive.proofs.Entries.{row_start, row_next, sums_stay}
 use borrow.Author.Rules.{rules}
 use Rattle.exclusive_gradients.proofs.subtract.subtract_eights.Statement.{statement}
 use Rattle.exclusive_gradients.proofs.subtract.subtract_eights.Tie as tie
@@ -18,9 +18,9 @@ abbrev invariant-loop2 : tie.invariant-loop2
 invariant-loop2 s rows count numbers₀ width k₀ from sums numbers k =
     (8 ≤ width) × (count ≤ 1024) × (length rows ≡ 1024) × (suc s * width ≤ length numbers) × Every (λ T. suc T * width ≤ length numbers) (take count rows)
     × Every (λ T. T ≡ s → ⊥) (take count rows) × (from ≤ k) × (k ≤ from + 8) × (from + 8 ≤ width)
-    × (sums ≡ tab (λ q. rowSums width numbers₀ (take count rows) (from + q)) 8)
-    × ((first : List Float) → RowSubtracted width s (rowSums width first (take count rows)) k₀ first numbers₀
-    → RowSubtracted width s (rowSums width first (take count rows)) k first numbers)
+    × (sums ≡ tab (λ q. row_sums width numbers₀ (take count rows) (from + q)) 8)
+    × ((first : List Float) → RowSubtracted width s (row_sums width first (take count rows)) k₀ first numbers₀
+    → RowSubtracted width s (row_sums width first (take count rows)) k first numbers)
 
 abbrev decreases-loop2 : tie.decreases-loop2
 decreases-loop2 s rows count numbers₀ width k₀ from sums numbers k = from + 8 - k
@@ -28,7 +28,7 @@ decreases-loop2 s rows count numbers₀ width k₀ from sums numbers k = from + 
 abbrev invariant-loop : tie.invariant-loop
 invariant-loop s rows count numbers₀ width k₀ numbers k =
     (8 ≤ width) × (count ≤ 1024) × (length rows ≡ 1024) × (suc s * width ≤ length numbers) × Every (λ T. suc T * width ≤ length numbers) (take count rows)
-    × Every (λ T. T ≡ s → ⊥) (take count rows) × (k ≤ width) × RowSubtracted width s (rowSums width numbers₀ (take count rows)) k numbers₀ numbers
+    × Every (λ T. T ≡ s → ⊥) (take count rows) × (k ≤ width) × RowSubtracted width s (row_sums width numbers₀ (take count rows)) k numbers₀ numbers
 
 abbrev decreases-loop : tie.decreases-loop
 decreases-loop s rows count numbers₀ width k₀ numbers k = width - k
@@ -43,7 +43,7 @@ loop-holds c =
       p.4,
       p.5,
       omega arith,
-      row-start a.width a.s (rowSums a.width a.numbers.now (take a.count a.rows.now)) a.numbers.now a.numbers.now,
+      row_start a.width a.s (row_sums a.width a.numbers.now (take a.count a.rows.now)) a.numbers.now a.numbers.now,
     )
 
 sum-eight-requires : tie.Need-sum-eight-requires invariant-loop2 decreases-loop2 invariant-loop decreases-loop
@@ -77,18 +77,18 @@ loop2-again c =
       omega (arith, c.before.loop2-test.true),
       j.8,
       j.9,
-      λ first r. row_next a.width a.s (rowSums a.width first R) first l.numbers l.k _ inside (omega (arith, j.3, (j.10 first r).many))
+      λ first r. row_next a.width a.s (row_sums a.width first R) first l.numbers l.k _ inside (omega (arith, j.3, (j.10 first r).many))
           (ap (λ (t : List Float). get_or t (l.k - from) nan) j.9
-          ∙ getD-tab (λ q. rowSums a.width m.numbers R (from + q)) 8 (l.k - from) nan (omega (arith, c.before.loop2-test.true, j.6))
-          ∙ ap (rowSums a.width m.numbers R) z
-          ∙ sums-stay a.width a.s (rowSums a.width first R) first m.numbers R m.k l.k inside j.5 r) (j.10 first r),
+          ∙ get_d_tab (λ q. row_sums a.width m.numbers R (from + q)) 8 (l.k - from) nan (omega (arith, c.before.loop2-test.true, j.6))
+          ∙ ap (row_sums a.width m.numbers R) z
+          ∙ sums_stay a.width a.s (row_sums a.width first R) first m.numbers R m.k l.k inside j.5 r) (j.10 first r),
     )
 
 returns : tie.Need-returns invariant-loop2 decreases-loop2 invariant-loop decreases-loop
 returns c =
     let l = c.before.loop in let i = l.invariant in let a = c.before.before.before.args in
     let e : l.k ≡ a.width = omega arith in
-    subst (λ (k : ℕ). RowSubtracted a.width a.s (rowSums a.width a.numbers.now (take a.count a.rows.now)) k a.numbers.now l.numbers) e i.7
+    subst (λ (k : ℕ). RowSubtracted a.width a.s (row_sums a.width a.numbers.now (take a.count a.rows.now)) k a.numbers.now l.numbers) e i.7
 
 pub subtract-eights-spec : {M : Type 1} → statement M
 subtract-eights-spec =

@@ -11,15 +11,15 @@ use lib.Count.{ones}
 use lib.ListN.{length, get_or, take, drop, length-take, length-replicate}
 use Rattle.lists.specs.Lists.{keep}
 use Rattle.lists.specs.Every.{Every}
-use Rattle.masks.specs.Mask.{subset, strictSubset}
+use Rattle.masks.specs.Mask.{subset, strict_subset}
 use Rattle.masks.specs.Presence.{stands}
-use Rattle.exclusive.specs.RowOrder.{rowOrder}
+use Rattle.exclusive.specs.RowOrder.{row_order}
 use Rattle.exclusive.specs.Exclusive.{above}
-use Rattle.exclusive.proofs.RowOrder.{rows-ordered}
+use Rattle.exclusive.proofs.RowOrder.{rows_ordered}
 use Rattle.exclusive.proofs.Places.{row_lt}
-use Rattle.exclusive.proofs.Unclamped.{above-every}
-use Rattle.exclusive.proofs.Sums.{supersets-after}
-use Rattle.exclusive.proofs.Passing.{Pass, pass-start, pass-next, pass-end, all_above, sums-due}
+use Rattle.exclusive.proofs.Unclamped.{above_every}
+use Rattle.exclusive.proofs.Sums.{supersets_after}
+use Rattle.exclusive.proofs.Passing.{Pass, pass_start, pass_next, pass_end, all_above, sums_due}
 use Rattle.exclusive.proofs.LevelSums.{row_at}
 use Rattle.exclusive.proofs.Answers.{room}
 use borrow.Author.Rules.{rules}
@@ -28,7 +28,7 @@ use Rattle.exclusive_gradients.proofs.subtract.subtract_supersets.Tie as tie
 
 abbrev invariant-loop : tie.invariant-loop
 invariant-loop present numbers₀ n width order count supersets₀ i₀ numbers supersets i =
-    (n ≤ 10) × (2 ^ n * width ≤ length numbers₀) × (length order ≡ 1024) × (count ≤ 1024) × (take count order ≡ rowOrder (stands present) n) × (i ≤ count)
+    (n ≤ 10) × (2 ^ n * width ≤ length numbers₀) × (length order ≡ 1024) × (count ≤ 1024) × (take count order ≡ row_order (stands present) n) × (i ≤ count)
     × (length supersets ≡ 1024) × Pass n (stands present) width i numbers₀ numbers
 
 abbrev decreases-loop : tie.decreases-loop
@@ -39,7 +39,7 @@ loop-holds c =
     let r = c.before in let s = r.before.before.before in let p = s.requires in let a = s.args in
     let rows = r.rows-in-order.result in let e = r.rows-in-order.ensures in
     let here = eq-eqb _ 0 (sym (room a.n (length a.present.now) p.0 p.1)) in
-    let listed = e.0 ∙ ap (λ (b : Bool). cond b (rowOrder (stands a.present.now) a.n) []) here in (
+    let listed = e.0 ∙ ap (λ (b : Bool). cond b (row_order (stands a.present.now) a.n) []) here in (
       p.0,
       p.2,
       e.1.1,
@@ -47,7 +47,7 @@ loop-holds c =
       listed,
       omega arith,
       length-replicate {A = ℕ} 1024 0,
-      pass-start a.n (stands a.present.now) a.width rows.n a.numbers.now (omega (arith, length-take rows.n rows.all, ap length listed)),
+      pass_start a.n (stands a.present.now) a.width rows.n a.numbers.now (omega (arith, length-take rows.n rows.all, ap length listed)),
     )
 
 -- the place before i is one of the order, and the row there a mask of the table
@@ -64,15 +64,15 @@ module _ (c : tie.In-loop invariant-loop decreases-loop) where
   abbrev bytes : List ℕ
   bytes = c.before.before.before.before.before.before.args.present.now
 
-  found_at : (at < length (rowOrder (stands bytes) n)) × (get_or (rowOrder (stands bytes) n) at 0 ≡ rows at) × (rows at < 2 ^ n)
+  found_at : (at < length (row_order (stands bytes) n)) × (get_or (row_order (stands bytes) n) at 0 ≡ rows at) × (rows at < 2 ^ n)
   found_at =
       let i = c.before.loop.invariant in let r = c.before.before.before.rows-in-order.result in
       row_at n (stands bytes) r.all r.n at (omega (arith, i.2, i.3)) i.4 (omega (arith, c.loop-test.true, i.5))
 
-  inside : at < length (rowOrder (stands bytes) n)
+  inside : at < length (row_order (stands bytes) n)
   inside = found_at.0
 
-  here : get_or (rowOrder (stands bytes) n) at 0 ≡ rows at
+  here : get_or (row_order (stands bytes) n) at 0 ≡ rows at
   here = found_at.1
 
   own : rows at < 2 ^ n
@@ -80,11 +80,11 @@ module _ (c : tie.In-loop invariant-loop decreases-loop) where
 
   -- what is collected there is what is above the row
   collected : (l : List ℕ) → l ≡ keep (subset 64 (rows at)) (drop (at + 1) (take c.before.before.before.rows-in-order.result.n c.before.before.before.rows-in-order.result.all))
-      → l ≡ keep (strictSubset n (rows at)) (drop (at + 1) (rowOrder (stands bytes) n))
+      → l ≡ keep (strict_subset n (rows at)) (drop (at + 1) (row_order (stands bytes) n))
   collected l e =
       let i = c.before.loop.invariant in
       e ∙ ap (λ (r : List ℕ). keep (subset 64 (rows at)) (drop (at + 1) r)) i.4
-      ∙ supersets-after (rowOrder (stands bytes) n) at (rows at) inside here (at + 1) n own (omega (arith, row_lt n (rows at) i.0 own)) (omega arith) (rows-ordered (stands bytes) n)
+      ∙ supersets_after (row_order (stands bytes) n) at (rows at) inside here (at + 1) n own (omega (arith, row_lt n (rows at) i.0 own)) (omega arith) (rows_ordered (stands bytes) n)
 
 add-collect-supersets : tie.Need-overflow-add-collect-supersets invariant-loop decreases-loop
 add-collect-supersets c = omega (arith, c.before.before.loop.invariant.3)
@@ -101,8 +101,8 @@ subtract-row-requires c κs =
       e.1.0,
       e.1.1,
       fits (rows m (at m)) (own m),
-      subst (Every (λ T. suc T * a.width ≤ length m.before.loop.numbers)) (sym up) (above-every (n m) (stands (bytes m)) (rows m (at m)) (own m) (λ T. suc T * a.width ≤ length m.before.loop.numbers) (λ T h o. fits T h)),
-      subst (Every (λ T. T ≡ rows m (at m) → ⊥)) (sym up) (above-every (n m) (stands (bytes m)) (rows m (at m)) (own m) (λ T. T ≡ rows m (at m) → ⊥) (λ T h o same. omega (arith, ap ones same))),
+      subst (Every (λ T. suc T * a.width ≤ length m.before.loop.numbers)) (sym up) (above_every (n m) (stands (bytes m)) (rows m (at m)) (own m) (λ T. suc T * a.width ≤ length m.before.loop.numbers) (λ T h o. fits T h)),
+      subst (Every (λ T. T ≡ rows m (at m) → ⊥)) (sym up) (above_every (n m) (stands (bytes m)) (rows m (at m)) (own m) (λ T. T ≡ rows m (at m) → ⊥) (λ T h o same. omega (arith, ap ones same))),
     )
 
 loop-again : tie.Need-loop-preserved invariant-loop decreases-loop
@@ -119,8 +119,8 @@ loop-again c =
       i.4,
       omega arith,
       e.1.1,
-      pass-next (n m) (stands (bytes m)) a.width (at m) (rows m (at m)) (own m) (inside m) (here m) a.numbers.now l.numbers _ _
-          (sums-due (n m) (stands (bytes m)) a.width (at m) (rows m (at m)) (own m) (inside m) (here m) a.numbers.now l.numbers _ (collected m _ e.0) p)
+      pass_next (n m) (stands (bytes m)) a.width (at m) (rows m (at m)) (own m) (inside m) (here m) a.numbers.now l.numbers _ _
+          (sums_due (n m) (stands (bytes m)) a.width (at m) (rows m (at m)) (own m) (inside m) (here m) a.numbers.now l.numbers _ (collected m _ e.0) p)
           p t.subtract-row.ensures,
     )
 
@@ -128,7 +128,7 @@ returns : tie.Need-returns invariant-loop decreases-loop
 returns c =
     let l = c.before.loop in let i = l.invariant in let a = c.before.before.before.before.before.before.args in
     let z : l.i ≡ 0 = omega arith in
-    pass-end a.n (stands a.present.now) a.width a.numbers.now l.numbers
+    pass_end a.n (stands a.present.now) a.width a.numbers.now l.numbers
     (subst (λ (j : ℕ). Pass a.n (stands a.present.now) a.width j a.numbers.now l.numbers) z i.7)
 
 pub subtract-supersets-spec : {M : Type 1} → statement M

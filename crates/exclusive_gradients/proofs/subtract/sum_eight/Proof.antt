@@ -6,14 +6,14 @@ use native.Mathlib.Omega.{arith}
 use lib.Ieee.{Float, nan}
 use lib.ListN.{length, get_or, take, drop, replicate, length-take, length-replicate}
 use lib.Seq.{get_or-take, ext_get_or}
-use Rattle.lists.specs.Every.{Every, every-at, every-replicate}
+use Rattle.lists.specs.Every.{Every, every_at, every_replicate}
 use Rattle.lists.specs.Written.{tab}
-use Rattle.lists.proofs.Writing.{length-tab, getD-tab}
+use Rattle.lists.proofs.Writing.{length_tab, get_d_tab}
 use Rattle.binary64.specs.Constants.{zero64}
 use Rattle.binary64.specs.Floats.{◌+ᶠ◌}
-use Rattle.exclusive.specs.Exclusive.{sumOnto}
-use Rattle.exclusive.specs.Entries.{entry, rowSums}
-use Rattle.exclusive.proofs.Sums.{sum-next, sum-end}
+use Rattle.exclusive.specs.Exclusive.{sum_onto}
+use Rattle.exclusive.specs.Entries.{entry, row_sums}
+use Rattle.exclusive.proofs.Sums.{sum_next, sum_end}
 use borrow.Author.Rules.{rules}
 use Rattle.exclusive_gradients.proofs.subtract.sum_eight.Statement.{statement}
 use Rattle.exclusive_gradients.proofs.subtract.sum_eight.Tie as tie
@@ -22,7 +22,7 @@ abbrev invariant-loop : tie.invariant-loop
 invariant-loop rows count numbers width k sums₀ j₀ sums j =
     (length (take count rows) ≡ count) × (count ≤ 1024) × (length rows ≡ 1024) × (k + 8 ≤ width) × Every (λ T. suc T * width ≤ length numbers) (take count rows)
     × (length sums ≡ 8)
-    × ((q : ℕ) → q < 8 → sumOnto (entry width numbers (k + q)) (get_or sums q nan) (drop j (take count rows)) ≡ rowSums width numbers (take count rows) (k + q))
+    × ((q : ℕ) → q < 8 → sum_onto (entry width numbers (k + q)) (get_or sums q nan) (drop j (take count rows)) ≡ row_sums width numbers (take count rows) (k + q))
 
 abbrev decreases-loop : tie.decreases-loop
 decreases-loop rows count numbers width k sums₀ j₀ sums j = count - j
@@ -36,8 +36,8 @@ loop-holds c =
       p.2,
       p.3,
       length-replicate {A = Float} 8 zero64,
-      λ q h. ap (λ (x : Float). sumOnto (entry a.width a.numbers.now (a.k + q)) x (take a.count a.rows.now))
-          (every-at (λ x. x ≡ zero64) (replicate 8 zero64) q nan (omega (arith, length-replicate {A = Float} 8 zero64)) (every-replicate (λ x. x ≡ zero64) 8 zero64 refl)),
+      λ q h. ap (λ (x : Float). sum_onto (entry a.width a.numbers.now (a.k + q)) x (take a.count a.rows.now))
+          (every_at (λ x. x ≡ zero64) (replicate 8 zero64) q nan (omega (arith, length-replicate {A = Float} 8 zero64)) (every_replicate (λ x. x ≡ zero64) 8 zero64 refl)),
     )
 
 -- the row at j is a row of the table
@@ -46,7 +46,7 @@ inside : (c : tie.In-loop invariant-loop decreases-loop)
 inside c =
     let l = c.before.loop in let i = l.invariant in let a = c.before.before.before.args in
     subst (λ (m : ℕ). suc m * a.width ≤ length a.numbers.now) (get_or-take a.count a.rows.now l.j 0 c.loop-test.true)
-    (every-at (λ T. suc T * a.width ≤ length a.numbers.now) (take a.count a.rows.now) l.j 0 (omega (arith, i.0)) i.4)
+    (every_at (λ T. suc T * a.width ≤ length a.numbers.now) (take a.count a.rows.now) l.j 0 (omega (arith, i.0)) i.4)
 
 add-add-eight : tie.Need-overflow-add-add-eight invariant-loop decreases-loop
 add-add-eight c = omega (arith, inside c.before, c.before.before.loop.invariant.3)
@@ -71,22 +71,22 @@ loop-again c =
       i.2,
       i.3,
       i.4,
-      ap length e ∙ length-tab _ 8,
+      ap length e ∙ length_tab _ 8,
       λ q h.
-          ap (λ (t : List Float). sumOnto (entry a.width a.numbers.now (a.k + q)) (get_or t q nan) (drop (l.j + 1) L)) e
-          ∙ ap (λ (x : Float). sumOnto (entry a.width a.numbers.now (a.k + q)) x (drop (l.j + 1) L))
-          (getD-tab _ 8 q nan h
+          ap (λ (t : List Float). sum_onto (entry a.width a.numbers.now (a.k + q)) (get_or t q nan) (drop (l.j + 1) L)) e
+          ∙ ap (λ (x : Float). sum_onto (entry a.width a.numbers.now (a.k + q)) x (drop (l.j + 1) L))
+          (get_d_tab _ 8 q nan h
           ∙ next a.numbers.now l.sums L a.width a.k q l.j _ (get_or-take a.count a.rows.now l.j 0 m.loop-test.true))
-          ∙ sum-next (entry a.width a.numbers.now (a.k + q)) (get_or l.sums q nan) L l.j (omega (arith, i.0)) ∙ i.6 q h,
+          ∙ sum_next (entry a.width a.numbers.now (a.k + q)) (get_or l.sums q nan) L l.j (omega (arith, i.0)) ∙ i.6 q h,
     )
 
 returns : tie.Need-returns invariant-loop decreases-loop
 returns c =
     let l = c.before.loop in let i = l.invariant in let a = c.before.before.before.args in
     let L = take a.count a.rows.now in
-    ext_get_or nan l.sums (tab (λ q. rowSums a.width a.numbers.now L (a.k + q)) 8) (i.5 ∙ sym (length-tab _ 8))
-    (λ q h. sym (sum-end (entry a.width a.numbers.now (a.k + q)) (get_or l.sums q nan) L l.j (omega (arith, i.0)))
-    ∙ i.6 q (omega (arith, i.5)) ∙ sym (getD-tab (λ q. rowSums a.width a.numbers.now L (a.k + q)) 8 q nan (omega (arith, i.5))))
+    ext_get_or nan l.sums (tab (λ q. row_sums a.width a.numbers.now L (a.k + q)) 8) (i.5 ∙ sym (length_tab _ 8))
+    (λ q h. sym (sum_end (entry a.width a.numbers.now (a.k + q)) (get_or l.sums q nan) L l.j (omega (arith, i.0)))
+    ∙ i.6 q (omega (arith, i.5)) ∙ sym (get_d_tab (λ q. row_sums a.width a.numbers.now L (a.k + q)) 8 q nan (omega (arith, i.5))))
 
 pub sum-eight-spec : {M : Type 1} → statement M
 sum-eight-spec =

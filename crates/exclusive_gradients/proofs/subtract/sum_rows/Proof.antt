@@ -5,12 +5,12 @@ use native.Mathlib.Omega.{arith}
 use lib.Ieee.{Float}
 use lib.ListN.{length, get_or, take, drop, length-take}
 use lib.Seq.{get_or-take}
-use Rattle.lists.specs.Every.{Every, every-at}
+use Rattle.lists.specs.Every.{Every, every_at}
 use Rattle.binary64.specs.Constants.{zero64}
 use Rattle.binary64.specs.Floats.{◌+ᶠ◌}
-use Rattle.exclusive.specs.Exclusive.{sumOnto}
+use Rattle.exclusive.specs.Exclusive.{sum_onto}
 use Rattle.exclusive.specs.Entries.{entry}
-use Rattle.exclusive.proofs.Sums.{sum-next, sum-end}
+use Rattle.exclusive.proofs.Sums.{sum_next, sum_end}
 use borrow.Author.Rules.{rules}
 use Rattle.exclusive_gradients.proofs.subtract.sum_rows.Statement.{statement}
 use Rattle.exclusive_gradients.proofs.subtract.sum_rows.Tie as tie
@@ -18,7 +18,7 @@ use Rattle.exclusive_gradients.proofs.subtract.sum_rows.Tie as tie
 abbrev invariant-loop : tie.invariant-loop
 invariant-loop rows count numbers width k sum₀ j₀ sum j =
     (length (take count rows) ≡ count) × (count ≤ 1024) × (length rows ≡ 1024) × (k < width) × Every (λ T. suc T * width ≤ length numbers) (take count rows)
-    × (sumOnto (entry width numbers k) sum (drop j (take count rows)) ≡ sumOnto (entry width numbers k) zero64 (take count rows))
+    × (sum_onto (entry width numbers k) sum (drop j (take count rows)) ≡ sum_onto (entry width numbers k) zero64 (take count rows))
 
 abbrev decreases-loop : tie.decreases-loop
 decreases-loop rows count numbers width k sum₀ j₀ sum j = count - j
@@ -34,7 +34,7 @@ inside : (c : tie.In-loop invariant-loop decreases-loop)
 inside c =
     let l = c.before.loop in let i = l.invariant in let a = c.before.before.args in
     subst (λ (m : ℕ). suc m * a.width ≤ length a.numbers.now) (get_or-take a.count a.rows.now l.j 0 c.loop-test.true)
-    (every-at (λ T. suc T * a.width ≤ length a.numbers.now) (take a.count a.rows.now) l.j 0 (omega (arith, i.0)) i.4)
+    (every_at (λ T. suc T * a.width ≤ length a.numbers.now) (take a.count a.rows.now) l.j 0 (omega (arith, i.0)) i.4)
 
 loop-again : tie.Need-loop-preserved invariant-loop decreases-loop
 loop-again c =
@@ -46,14 +46,14 @@ loop-again c =
       i.2,
       i.3,
       i.4,
-      ap (λ (T : ℕ). sumOnto (entry a.width a.numbers.now a.k) (l.sum +ᶠ entry a.width a.numbers.now a.k T) (drop (l.j + 1) (take a.count a.rows.now))) (sym at)
-          ∙ sum-next (entry a.width a.numbers.now a.k) l.sum (take a.count a.rows.now) l.j (omega (arith, i.0)) ∙ i.5,
+      ap (λ (T : ℕ). sum_onto (entry a.width a.numbers.now a.k) (l.sum +ᶠ entry a.width a.numbers.now a.k T) (drop (l.j + 1) (take a.count a.rows.now))) (sym at)
+          ∙ sum_next (entry a.width a.numbers.now a.k) l.sum (take a.count a.rows.now) l.j (omega (arith, i.0)) ∙ i.5,
     )
 
 returns : tie.Need-returns invariant-loop decreases-loop
 returns c =
     let l = c.before.loop in let i = l.invariant in let a = c.before.before.args in
-    sym (sum-end (entry a.width a.numbers.now a.k) l.sum (take a.count a.rows.now) l.j (omega (arith, i.0))) ∙ i.5
+    sym (sum_end (entry a.width a.numbers.now a.k) l.sum (take a.count a.rows.now) l.j (omega (arith, i.0))) ∙ i.5
 
 pub sum-rows-spec : {M : Type 1} → statement M
 sum-rows-spec =

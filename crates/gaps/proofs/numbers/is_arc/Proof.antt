@@ -1,15 +1,15 @@
 use borrow.Author.Rules.{rules}
 use mathlib.Core.Path.{sym, ◌∙◌}
-use Rattle.gaps.specs.Gaps.{circlesIn}
-use Rattle.gaps.proofs.Owning.{arc-none, arc-some}
-use Rattle.gaps.proofs.Circles.{circle-held}
+use Rattle.gaps.specs.Gaps.{circles_in}
+use Rattle.gaps.proofs.Owning.{arc_none, arc_some}
+use Rattle.gaps.proofs.Circles.{circle_held}
 use Rattle.gaps.proofs.numbers.is_arc.Statement.{statement}
 use Rattle.gaps.proofs.numbers.is_arc.Tie as tie
 
 returns : tie.Need-returns
 returns c =
     let a = c.before.before.before.args in
-    arc-none (circlesIn a.c.now a.n-sets) a.mask a.j a.phi-a a.phi-b _ c.before.before.gap.ensures
+    arc_none (circles_in a.c.now a.n-sets) a.mask a.j a.phi-a a.phi-b _ c.before.before.gap.ensures
     (sym c.before.collapsed.ensures ∙ c.if1.true)
 
 returns-2 : tie.Need-returns-2
@@ -18,9 +18,9 @@ returns-2 c =
     let e = k.before in
     let s = e.before.before in
     let a = s.before.args in
-    arc-some (circlesIn a.c.now a.n-sets) a.mask a.j a.phi-a a.phi-b _ s.gap.ensures _ _ _
+    arc_some (circles_in a.c.now a.n-sets) a.mask a.j a.phi-a a.phi-b _ s.gap.ensures _ _ _
     (sym e.before.collapsed.ensures ∙ e.if1.false)
-    (k.circle-at.ensures ∙ circle-held a.c.now a.n-sets a.j s.before.requires.1 s.before.requires.0)
+    (k.circle-at.ensures ∙ circle_held a.c.now a.n-sets a.j s.before.requires.1 s.before.requires.0)
     c.before.point_at.ensures
     c.owned_in.ensures
 

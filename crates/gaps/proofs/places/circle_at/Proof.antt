@@ -1,11 +1,11 @@
 use borrow.Author.Rules.{rules}
 use mathlib.Core.Path.{ap}
-use Rattle.gaps.specs.Gaps.{circleIn}
+use Rattle.gaps.specs.Gaps.{circle_in}
 use Rattle.gaps.proofs.places.circle_at.Statement.{statement}
 use Rattle.gaps.proofs.places.circle_at.Tie as tie
 
 returns : tie.Need-returns
-returns c = let k = c.before.before.before in ap (circleIn k.before.args.c.now) k.at-most-nine.ensures
+returns c = let k = c.before.before.before in ap (circle_in k.before.args.c.now) k.at-most-nine.ensures
 
 pub circle-at-spec : {M : Type 1} → statement M
 circle-at-spec =

@@ -1,10 +1,10 @@
--- `breaks::clear_of_edges`: true is given only where none of the four lines crosses (`none-crossed`).
+-- `breaks::clear_of_edges`: true is given only where none of the four lines crosses (`none_crossed`).
 use borrow.Author.Rules.{rules}
 use mathlib.Core.Path.{◌≡◌, sym, ◌∙◌}
 use mathlib.Core.Bool.{true, false}
 use native.Mathlib.Omega.{arith}
 use Prim.Native.Nat.{ℕ}
-use Rattle.inside.proofs.Breaking.{none-crossed}
+use Rattle.inside.proofs.Breaking.{none_crossed}
 use Rattle.inside.proofs.breaks.clear_of_edges.Statement.{statement}
 use Rattle.inside.proofs.breaks.clear_of_edges.Tie as tie
 
@@ -17,7 +17,7 @@ returns-5 c = let third = c.before.before.before.before.before in
     let second = third.before.before.before.before.before in
     let first = second.before.before.before.before.before in
     let a = first.before.before.before.before.before.args in
-    λ _. none-crossed a.bounds a.c (sym first.before.crosses.ensures ∙ first.if1.false)
+    λ _. none_crossed a.bounds a.c (sym first.before.crosses.ensures ∙ first.if1.false)
     (sym second.before.crosses2.ensures ∙ second.if2.false)
     (sym third.before.crosses3.ensures ∙ third.if3.false)
     (sym c.before.crosses4.ensures ∙ c.if4.false)

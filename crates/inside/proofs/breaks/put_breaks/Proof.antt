@@ -2,13 +2,13 @@
 use borrow.Author.Rules.{rules}
 use native.Mathlib.Omega.{arith}
 use Rattle.boundary.specs.Sort.{sorted}
-use Rattle.inside.specs.Breaks.{breaksBetween}
+use Rattle.inside.specs.Breaks.{breaks_between}
 use Rattle.inside.proofs.Breaking.{put_then}
 use Rattle.inside.proofs.breaks.put_breaks.Statement.{statement}
 use Rattle.inside.proofs.breaks.put_breaks.Tie as tie
 
 returns : tie.Need-returns
-unfolding breaksBetween sorted
+unfolding breaks_between sorted
 returns c = let crossed = c.before.before.before in
     let start = crossed.before.before.before in
     let all = put_then start.put.ensures (put_then crossed.collect-crossings.ensures c.put2.ensures) in

@@ -4,7 +4,7 @@ use mathlib.Core.Bool.{false≢true}
 use borrow.Author.Rules.{rules}
 use lib.Dec.{T}
 use lib.Ieee.{binary64, fits}
-use Rattle.inside.proofs.Within.{bounded-most, stays-near}
+use Rattle.inside.proofs.Within.{bounded_most, stays-near}
 use Rattle.inside.proofs.parts.stays_near.Statement.{statement}
 use Rattle.inside.proofs.parts.stays_near.Tie as tie
 
@@ -25,10 +25,10 @@ returns c e =
     let a = start.args in
     let f = fitting start in
     stays-near a.low a.high a.v a.r
-    (bounded-most a.low f.0 (sym one.before.bounded.ensures ∙ one.if1.true))
-    (bounded-most a.high f.1 (sym two.before.bounded2.ensures ∙ two.if2.true))
-    (bounded-most a.v f.2 (sym three.before.bounded3.ensures ∙ three.if3.true))
-    (bounded-most a.r f.3 (sym four.before.bounded4.ensures ∙ four.if4.true))
+    (bounded_most a.low f.0 (sym one.before.bounded.ensures ∙ one.if1.true))
+    (bounded_most a.high f.1 (sym two.before.bounded2.ensures ∙ two.if2.true))
+    (bounded_most a.v f.2 (sym three.before.bounded3.ensures ∙ three.if3.true))
+    (bounded_most a.r f.3 (sym four.before.bounded4.ensures ∙ four.if4.true))
     five.if5.true (sym six.before.near-side.ensures ∙ six.if6.true) (sym c.near-side2.ensures ∙ e)
 
 pub stays-near-spec : {M : Type 1} → statement M

@@ -7,9 +7,9 @@ use Prim.Native.Nat.{◌-◌}
 use native.Mathlib.Omega.{arith}
 use lib.ListN.{length}
 use Rattle.lists.specs.Lists.{up_to}
-use Rattle.lists.proofs.Arrays.{length-of-values}
-use Rattle.intersections.proofs.Collecting.{Rows, Row, Met, held_none, row-start, row-end, rows_end}
-use Rattle.intersections.proofs.Collecting.{met_start, met-one, met-full, met-end}
+use Rattle.lists.proofs.Arrays.{length_of_values}
+use Rattle.intersections.proofs.Collecting.{Rows, Row, Met, held_none, row_start, row_end, rows_end}
+use Rattle.intersections.proofs.Collecting.{met_start, met_one, met_full, met_end}
 use Rattle.intersections.proofs.collect.collect_intersections.Statement.{statement}
 use Rattle.intersections.proofs.collect.collect_intersections.Tie as tie
 
@@ -46,11 +46,11 @@ loop-holds c =
     }
 
 loop2-holds : tie.Need-loop2-init invariant-loop3 decreases-loop3 invariant-loop2 decreases-loop2 invariant-loop decreases-loop
-loop2-holds c = row-start c.before.before.loop.invariant c.before.loop-test.true
+loop2-holds c = row_start c.before.before.loop.invariant c.before.loop-test.true
 
 -- a pair's points have two places
 two : (c : tie.After-meeting-points invariant-loop3 decreases-loop3 invariant-loop2 decreases-loop2 invariant-loop decreases-loop) → length c.meeting-points.result.all ≡ 2
-two c = search length-of-values
+two c = search length_of_values
 
 loop3-holds : tie.Need-loop3-init invariant-loop3 decreases-loop3 invariant-loop2 decreases-loop2 invariant-loop decreases-loop
 loop3-holds c =
@@ -71,17 +71,17 @@ loop3-again c =
     let m = test.before.loop3.invariant in
     let this = rw (made.0, made.1) at c.before.with-adopters.ensures in
     ⊎_elim
-    (λ w. rw (w.1, w.2) (met-one m test.loop3-test.true this w.0.taken))
-    (λ w. rw (w.1, w.2) (met-full m test.loop3-test.true this w.0.left))
+    (λ w. rw (w.1, w.2) (met_one m test.loop3-test.true this w.0.taken))
+    (λ w. rw (w.1, w.2) (met_full m test.loop3-test.true this w.0.left))
     c.if1.branch
 
 loop2-again : tie.Need-loop2-preserved invariant-loop3 decreases-loop3 invariant-loop2 decreases-loop2 invariant-loop decreases-loop
 loop2-again c =
     let pair = c.before.before in
-    met-end c.before.loop3.invariant (pair.meeting-points.ensures.0 ∙ pair.before.new2.ensures.2) c.loop3-test.false
+    met_end c.before.loop3.invariant (pair.meeting-points.ensures.0 ∙ pair.before.new2.ensures.2) c.loop3-test.false
 
 loop-again : tie.Need-loop-preserved invariant-loop3 decreases-loop3 invariant-loop2 decreases-loop2 invariant-loop decreases-loop
-loop-again c = row-end c.before.loop2.invariant c.loop2-test.false
+loop-again c = row_end c.before.loop2.invariant c.loop2-test.false
 
 returns : tie.Need-returns invariant-loop3 decreases-loop3 invariant-loop2 decreases-loop2 invariant-loop decreases-loop
 returns c =

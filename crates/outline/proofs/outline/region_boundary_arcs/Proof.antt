@@ -2,17 +2,17 @@
 use borrow.Author.Rules.{rules}
 use mathlib.Core.Path.{◌≡◌, ap, ◌∙◌}
 use lib.ListN.{length, take}
-use Rattle.intersections.specs.Counted.{pointList, headList, circleList}
-use Rattle.boundary.specs.Counted.{arcList}
-use Rattle.boundary.specs.Set.{regionArcs}
-use Rattle.outline.proofs.Walking.{outline-of-set}
+use Rattle.intersections.specs.Counted.{point_list, head_list, circle_list}
+use Rattle.boundary.specs.Counted.{arc_list}
+use Rattle.boundary.specs.Set.{region_arcs}
+use Rattle.outline.proofs.Walking.{outline_of_set}
 use Rattle.outline.proofs.outline.region_boundary_arcs.Statement.{statement}
 use Rattle.outline.proofs.outline.region_boundary_arcs.Tie as tie
 
 -- the arcs under head numbers
 listed : (c : tie.After-numbered-arcs) → let a = c.before.before.before.args in
-    arcList c.numbered-arcs.result ≡ regionArcs (take a.n-sets a.circles) (pointList a.points) a.mask
-unfolding regionArcs
+    arc_list c.numbered-arcs.result ≡ region_arcs (take a.n-sets a.circles) (point_list a.points) a.mask
+unfolding region_arcs
 listed c =
     let m = c.before.before in
     let a = m.before.args in
@@ -20,7 +20,7 @@ listed c =
     let set = m.members-of.result in
     rw (
       c.numbered-arcs.ensures.0,
-      outline-of-set (take a.n-sets a.circles) (pointList a.points) a.mask (headList set) (circleList set) given.0 given.1
+      outline_of_set (take a.n-sets a.circles) (point_list a.points) a.mask (head_list set) (circle_list set) given.0 given.1
           c.before.outline-of.ensures.0,
       given.0,
     )

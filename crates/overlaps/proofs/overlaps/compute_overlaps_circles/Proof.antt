@@ -6,11 +6,11 @@ use native.Mathlib.Omega.{arith}
 use lib.ListN.{length, take, length-take}
 use lib.Pow.{pow_pos}
 use Rattle.masks.specs.Mask.{shifted}
-use Rattle.masks.specs.Operations.{shifted-is}
+use Rattle.masks.specs.Operations.{shifted_is}
 use Rattle.intersections.specs.declared.points.IntersectionPoint.{IntersectionPoint}
-use Rattle.intersections.specs.Counted.{pointList}
+use Rattle.intersections.specs.Counted.{point_list}
 use Rattle.intersections.specs.Members.{members_of}
-use Rattle.outline.specs.Area.{openArea}
+use Rattle.outline.specs.Area.{open_area}
 use Rattle.overlaps.specs.Overlap.{overlap}
 use Rattle.overlaps.proofs.Cases.{of_one, of_two, of_others}
 use borrow.Author.Rules.{rules}
@@ -32,7 +32,7 @@ returns-2 c =
     c.intersection-area.ensures ∙ of_two s.args.t1 (omega (arith, ten s)) ∙ ap (λ (m : ℕ). overlap (take m s.args.t1)) (sym t.if2.true)
 
 sub-all : tie.Need-overflow-sub-all
-sub-all c = let n = c.at-most-ten.result in omega (arith, shifted-is 64 n (omega (arith, c.at-most-ten.ensures)), pow_pos n)
+sub-all c = let n = c.at-most-ten.result in omega (arith, shifted_is 64 n (omega (arith, c.at-most-ten.ensures)), pow_pos n)
 
 returns-3 : tie.Need-returns-3
 returns-3 c =
@@ -41,8 +41,8 @@ returns-3 c =
     let many : length cs ≡ m.at-most-ten.result = length-take a.n-sets a.t1 ∙ ap (min a.n-sets) (ten s) ∙ sym m.at-most-ten.ensures in
     let mask : shifted 64 m.at-most-ten.result - 1
     ≡ 2 ^ length cs - 1 =
-    ap (λ (x : ℕ). x - 1) (shifted-is 64 m.at-most-ten.result (omega (arith, m.at-most-ten.ensures)) ∙ ap (λ (x : ℕ). 2 ^ x) (sym many)) in
-    c.region-area.ensures ∙ ap₂ (λ (ps : List IntersectionPoint) (S : ℕ). openArea (members_of cs ps S)) k.collect-intersections.ensures.0 mask
+    ap (λ (x : ℕ). x - 1) (shifted_is 64 m.at-most-ten.result (omega (arith, m.at-most-ten.ensures)) ∙ ap (λ (x : ℕ). 2 ^ x) (sym many)) in
+    c.region-area.ensures ∙ ap₂ (λ (ps : List IntersectionPoint) (S : ℕ). open_area (members_of cs ps S)) k.collect-intersections.ensures.0 mask
     ∙ of_others cs (λ f. e.before.if1.false (omega (arith, many, m.at-most-ten.ensures))) (λ f. e.if2.false (omega (arith, many, m.at-most-ten.ensures)))
 
 pub compute-overlaps-circles-spec : {M : Type 1} → statement M

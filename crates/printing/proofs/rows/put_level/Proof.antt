@@ -9,14 +9,14 @@ use lib.ListN.{length, get_or}
 use Rattle.masks.specs.Presence.{stands}
 use Rattle.printing.specs.Text.{put}
 use Rattle.printing.specs.Rows.{row_line}
-use Rattle.printing.proofs.Putting.{length-put, put-nothing}
-use Rattle.printing.proofs.Lines.{linesAt, no-level, level-skip, row_put}
+use Rattle.printing.proofs.Putting.{length_put, put_nothing}
+use Rattle.printing.proofs.Lines.{lines_at, no_level, level_skip, row_put}
 use borrow.Author.Rules.{rules}
 use Rattle.printing.proofs.rows.put_level.Statement.{statement}
 use Rattle.printing.proofs.rows.put_level.Tie as tie
 
 abbrev Text : List ℕ → List Float → ℕ → ℕ → List ℕ
-Text presence numbers c s = linesAt (stands presence) (row_line (λ S. get_or numbers S nan)) c s
+Text presence numbers c s = lines_at (stands presence) (row_line (λ S. get_or numbers S nan)) c s
 
 abbrev invariant-loop : tie.invariant-loop
 invariant-loop presence numbers c masks out₀ start at₀ s₀ out at s =
@@ -29,8 +29,8 @@ decreases-loop presence numbers c masks out₀ start at₀ s₀ out at s = masks
 loop-holds : tie.Need-loop-init invariant-loop decreases-loop
 loop-holds c =
     let a = c.before.before.before.args in
-    let none = no-level (stands a.presence.now) (row_line (λ S. get_or a.numbers.now S nan)) a.c in
-    (omega arith, omega (arith, ap length none), omega arith, sym (ap (put a.out.now a.start) none ∙ put-nothing a.out.now a.start), refl)
+    let none = no_level (stands a.presence.now) (row_line (λ S. get_or a.numbers.now S nan)) a.c in
+    (omega arith, omega (arith, ap length none), omega arith, sym (ap (put a.out.now a.start) none ∙ put_nothing a.out.now a.start), refl)
 
 loop-again : tie.Need-loop-preserved invariant-loop decreases-loop
 loop-again c =
@@ -43,9 +43,9 @@ loop-again c =
     (λ w.
     let made = row_put present number a.out.now a.start a.c l.s l.out c.if1.out l.at c.if1.at _
     (sym is ∙ w.0.taken) l.invariant.1 l.invariant.3 w.2.ensures (w.7 ∙ w.3.ensures.0) (w.6 ∙ w.3.ensures.1) in
-    (omega arith, made.0, omega (arith, w.7, w.3.ensures.0), made.1, ap length made.1 ∙ length-put a.out.now _ _))
+    (omega arith, made.0, omega (arith, w.7, w.3.ensures.0), made.1, ap length made.1 ∙ length_put a.out.now _ _))
     (λ w.
-    let skip = level-skip present (row_line number) a.c l.s (sym is ∙ w.0.left) in (
+    let skip = level_skip present (row_line number) a.c l.s (sym is ∙ w.0.left) in (
       omega arith,
       w.2 ∙ l.invariant.1 ∙ ap (λ t. a.start + length t) (sym skip),
       omega (arith, w.2),

@@ -1,6 +1,6 @@
 -- `rows::put_line` meets its contract.
 use native.Mathlib.Omega.{arith}
-use Rattle.printing.proofs.Lines.{line-put}
+use Rattle.printing.proofs.Lines.{line_put}
 use borrow.Author.Rules.{rules}
 use Rattle.printing.proofs.rows.put_line.Statement.{statement}
 use Rattle.printing.proofs.rows.put_line.Tie as tie
@@ -11,7 +11,7 @@ returns c =
     let gap = c.before.before.before.before.before.before.before.before.before.before.put_byte in
     let second = c.before.before.before.before.before.before.put-digits2 in
     let last = c.before.before.put-byte2 in
-    (omega (arith, first.ensures.0, second.ensures.0), line-put _ _ _ _ _ _ _ _ _ _ first.ensures gap.ensures second.ensures last.ensures)
+    (omega (arith, first.ensures.0, second.ensures.0), line_put _ _ _ _ _ _ _ _ _ _ first.ensures gap.ensures second.ensures last.ensures)
 
 pub put-line-spec : {M : Type 1} → statement M
 put-line-spec =

@@ -4,7 +4,7 @@ use Prim.Native.Nat.{ℕ, suc, ◌+◌, ◌-◌, ◌*◌, ◌/◌, ◌^◌, ◌�
 use native.Mathlib.Omega.{arith}
 use lib.ListN.{length}
 use Rattle.printing.specs.Text.{digits, places, put}
-use Rattle.printing.proofs.Digits.{length_digits, places-one, ten-more, part-more, unit-more, exponent_lt, count-more}
+use Rattle.printing.proofs.Digits.{length_digits, places_one, ten_more, part_more, unit_more, exponent_lt, count_more}
 use borrow.Author.Rules.{rules}
 use Rattle.printing.proofs.text.put_decimal.Statement.{statement}
 use Rattle.printing.proofs.text.put_decimal.Tie as tie
@@ -22,7 +22,7 @@ loop-holds c = (refl, omega arith, omega arith, omega arith)
 mul-unit : tie.Need-overflow-mul-unit invariant-loop decreases-loop
 mul-unit c =
     let l = c.before.loop in
-    let most = unit-more l.unit l.rest _ c.loop-test.true l.invariant.1 in
+    let most = unit_more l.unit l.rest _ c.loop-test.true l.invariant.1 in
     omega arith
 
 add-k : tie.Need-overflow-add-k invariant-loop decreases-loop
@@ -31,11 +31,11 @@ add-k c = let l = c.before.loop in let few = exponent_lt l.k 21 (omega (arith, l
 loop-again : tie.Need-loop-preserved invariant-loop decreases-loop
 loop-again c =
     let l = c.before.loop in
-    let most = unit-more l.unit l.rest _ c.loop-test.true l.invariant.1 in (
-      ten-more l.unit l.k l.invariant.0,
-      part-more l.unit l.rest _ l.invariant.1,
+    let most = unit_more l.unit l.rest _ c.loop-test.true l.invariant.1 in (
+      ten_more l.unit l.k l.invariant.0,
+      part_more l.unit l.rest _ l.invariant.1,
       omega arith,
-      count-more l.k l.rest _ (exponent_lt l.k 20 (omega (arith, l.invariant.0, most))) c.loop-test.true l.invariant.3,
+      count_more l.k l.rest _ (exponent_lt l.k 20 (omega (arith, l.invariant.0, most))) c.loop-test.true l.invariant.3,
     )
 
 put-digits-requires : tie.Need-put-digits-requires invariant-loop decreases-loop
@@ -50,7 +50,7 @@ returns c =
     let a = c.before.before.before.before.before.before.before.args in
     let d = c.before.before.put-digits in
     let few = exponent_lt l.k 21 (omega (arith, l.invariant.0, l.invariant.2)) in
-    let all : l.k ≡ places 19 a.n = omega (arith, l.invariant.3, places-one (20 - l.k) l.rest c.before.before.before.before.loop-test.false) in (
+    let all : l.k ≡ places 19 a.n = omega (arith, l.invariant.3, places_one (20 - l.k) l.rest c.before.before.before.before.loop-test.false) in (
       (
         d.ensures.0 ∙ ap (λ k. a.at + k) (all ∙ sym (length_digits 10 (places 19 a.n) a.n)),
         d.ensures.1 ∙ ap (λ k. put a.out.now a.at (digits 10 k a.n)) all,

@@ -5,7 +5,7 @@ use native.Mathlib.Omega.{arith}
 use native.Mathlib.Nat.{mod-lt}
 use lib.ListN.{length, set, length-set}
 use Rattle.printing.specs.Text.{glyph, digits, put}
-use Rattle.printing.proofs.Digits.{unit-pos, unit-next, put-digit, put-no-digit}
+use Rattle.printing.proofs.Digits.{unit_pos, unit_next, put_digit, put_no_digit}
 use borrow.Author.Rules.{rules}
 use Rattle.printing.proofs.text.put_digits.Statement.{statement}
 use Rattle.printing.proofs.text.put_digits.Tie as tie
@@ -25,7 +25,7 @@ div-glyph : tie.Need-nonzero-div-glyph invariant-loop decreases-loop
 div-glyph c =
     let l = c.before.before.loop in
     let pre = c.before.before.before.before.requires in
-    omega (arith, unit-pos _ l.left pre.2 c.before.loop-test.true, l.invariant.2)
+    omega (arith, unit_pos _ l.left pre.2 c.before.loop-test.true, l.invariant.2)
 
 glyph-requires : tie.Need-glyph-requires invariant-loop decreases-loop
 glyph-requires c κs =
@@ -43,10 +43,10 @@ loop-again c =
     let p = c.before.before.put_byte in (
       omega arith,
       omega arith,
-      ap (λ u. u / a.base) l.invariant.2 ∙ unit-next a.base l.left pre.2 test,
+      ap (λ u. u / a.base) l.invariant.2 ∙ unit_next a.base l.left pre.2 test,
       ap (λ o. put o (l.place + 1) (digits a.base (l.left - 1) a.n))
           (p.ensures ∙ ap (set l.out l.place) (g.ensures ∙ ap (λ u. glyph (a.n / u % a.base)) l.invariant.2))
-          ∙ sym (put-digit l.out l.place a.base l.left a.n pre.2 test) ∙ l.invariant.3,
+          ∙ sym (put_digit l.out l.place a.base l.left a.n pre.2 test) ∙ l.invariant.3,
       ap length p.ensures ∙ length-set l.out _ _ ∙ l.invariant.4,
     )
 
@@ -55,7 +55,7 @@ returns c =
     let l = c.before.loop in
     let a = c.before.before.before.args in
     let none : l.left ≡ 0 = omega arith in
-    (omega arith, sym (ap (λ k. put l.out l.place (digits a.base k a.n)) none ∙ put-no-digit l.out l.place a.base a.n) ∙ l.invariant.3)
+    (omega arith, sym (ap (λ k. put l.out l.place (digits a.base k a.n)) none ∙ put_no_digit l.out l.place a.base a.n) ∙ l.invariant.3)
 
 pub put-digits-spec : {M : Type 1} → statement M
 put-digits-spec =

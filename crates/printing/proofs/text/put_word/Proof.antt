@@ -4,7 +4,7 @@ use Prim.Native.Nat.{◌+◌, ◌-◌, ◌≤◌, ◌<◌}
 use native.Mathlib.Omega.{arith}
 use lib.ListN.{length, get_or, set, drop, drop_of_length-le, length-set}
 use Rattle.printing.specs.Text.{put}
-use Rattle.printing.proofs.Putting.{put_rest, put-nothing}
+use Rattle.printing.proofs.Putting.{put_rest, put_nothing}
 use borrow.Author.Rules.{rules}
 use Rattle.printing.proofs.text.put_word.Statement.{statement}
 use Rattle.printing.proofs.text.put_word.Tie as tie
@@ -34,7 +34,7 @@ returns c =
     let l = c.before.loop in
     let a = c.before.before.before.before.args in
     let past : length a.word.now ≤ l.i = c.loop-test.false in
-    (omega arith, sym (ap (put l.out (a.at + l.i)) (drop_of_length-le a.word.now {i = l.i} past) ∙ put-nothing l.out (a.at + l.i)) ∙ l.invariant.1)
+    (omega arith, sym (ap (put l.out (a.at + l.i)) (drop_of_length-le a.word.now {i = l.i} past) ∙ put_nothing l.out (a.at + l.i)) ∙ l.invariant.1)
 
 pub put-word-spec : {M : Type 1} → statement M
 put-word-spec =

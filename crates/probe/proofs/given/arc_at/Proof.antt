@@ -4,30 +4,30 @@ use native.Mathlib.Omega.{arith}
 use borrow.Author.Rules.{rules}
 use lib.ListN.{length}
 use lib.Seq.{get_or-take}
-use Rattle.boundary.specs.Set.{noArc}
-use Rattle.lists.proofs.Arrays.{length-of-values}
-use Rattle.probe.specs.Handed.{arcAt}
-use Rattle.probe.proofs.Held.{none-past, none-beyond, one-there}
+use Rattle.boundary.specs.Set.{no_arc}
+use Rattle.lists.proofs.Arrays.{length_of_values}
+use Rattle.probe.specs.Handed.{arc_at}
+use Rattle.probe.proofs.Held.{none_past, none_beyond, one_there}
 use Rattle.probe.proofs.given.arc_at.Statement.{statement}
 use Rattle.probe.proofs.given.arc_at.Tie as tie
 
 -- the array has 180 places
 long : (c : tie.Start) → length c.args.t1.all ≡ 180
-long c = search length-of-values
+long c = search length_of_values
 
 returns : tie.Need-returns
-unfolding arcAt
-returns c = let a = c.before.args in rw (none-past a.t1.all a.t1.n a.k c.if1.true)
+unfolding arc_at
+returns c = let a = c.before.args in rw (none_past a.t1.all a.t1.n a.k c.if1.true)
 
 returns-2 : tie.Need-returns-2
-unfolding arcAt
-returns-2 c = let s = c.before.before in let a = s.args in rw (none-beyond a.t1.all a.t1.n a.k (omega (arith, long s)))
+unfolding arc_at
+returns-2 c = let s = c.before.before in let a = s.args in rw (none_beyond a.t1.all a.t1.n a.k (omega (arith, long s)))
 
 returns-3 : tie.Need-returns-3
-unfolding arcAt
+unfolding arc_at
 returns-3 c = let s = c.before.before.before in let a = s.args in
     let below = c.before.before.if1.false in
-    rw (one-there a.t1.all a.t1.n a.k below (omega (arith, long s)), get_or-take a.t1.n a.t1.all a.k noArc below)
+    rw (one_there a.t1.all a.t1.n a.k below (omega (arith, long s)), get_or-take a.t1.n a.t1.all a.k no_arc below)
 
 pub arc-at-spec : {M : Type 1} → statement M
 arc-at-spec = tie.close (tie.spec returns returns-2 (λ c. search rules) (λ c. search rules) returns-3)

@@ -3,10 +3,10 @@ use mathlib.Core.Path.{◌≡◌, refl, sym, ap, ◌∙◌}
 use Prim.Native.Nat.{◌+◌, ◌-◌, ◌≤◌, ◌<◌}
 use native.Mathlib.Omega.{arith}
 use lib.ListN.{length, drop, get_or}
-use Rattle.regions.specs.Slices.{planSlices}
-use Rattle.table.specs.Method.{clippedTable}
-use Rattle.reading.specs.Reading.{state_of, readBytes}
-use Rattle.reading.proofs.Bytes.{bytes_next, bytes_past, byte-read, piece-reads}
+use Rattle.regions.specs.Slices.{plan_slices}
+use Rattle.table.specs.Method.{clipped_table}
+use Rattle.reading.specs.Reading.{state_of, read_bytes}
+use Rattle.reading.proofs.Bytes.{bytes_next, bytes_past, byte_read, piece_reads}
 use borrow.Author.Rules.{rules}
 use Rattle.reading.proofs.feeding.feed.Statement.{statement}
 use Rattle.reading.proofs.feeding.feed.Tie as tie
@@ -16,8 +16,8 @@ use Rattle.reading.proofs.feeding.hand.Reads as hand-reads
 abbrev invariant-loop : tie.invariant-loop
 invariant-loop bytes presence₀ rows₀ exclusive-presence₀ exclusives₀ reader₀ plan₀ i₀ presence rows exclusive-presence exclusives reader plan i =
     (i ≤ length bytes)
-    × (readBytes clippedTable (state_of reader (planSlices plan presence rows exclusive-presence exclusives)) (drop i bytes)
-    ≡ readBytes clippedTable (state_of reader₀ (planSlices plan₀ presence₀ rows₀ exclusive-presence₀ exclusives₀)) bytes)
+    × (read_bytes clipped_table (state_of reader (plan_slices plan presence rows exclusive-presence exclusives)) (drop i bytes)
+    ≡ read_bytes clipped_table (state_of reader₀ (plan_slices plan₀ presence₀ rows₀ exclusive-presence₀ exclusives₀)) bytes)
     × (length presence ≡ length presence₀) × (length rows ≡ length rows₀)
     × (length exclusive-presence ≡ length exclusive-presence₀) × (length exclusives ≡ length exclusives₀)
 
@@ -42,13 +42,13 @@ loop-again c =
     let a = at_test.before.before.before.before.before.before.before.before.before.args in
     let bytes = a.bytes.now in
     let test : l.i < length bytes = at_test.loop-test.true in
-    let left = planSlices l.plan l.presence l.rows l.exclusive-presence l.exclusives in
+    let left = plan_slices l.plan l.presence l.rows l.exclusive-presence l.exclusives in
     let next = at-step.step in
     let h = at-hand.hand in (
       omega arith,
-      ap (λ s. readBytes clippedTable s (drop (l.i + 1) bytes))
-          (byte-read clippedTable l.reader next.result left _ (get_or bytes l.i 0) next.ensures h.ensures)
-          ∙ sym (bytes_next clippedTable (state_of l.reader left) bytes l.i test) ∙ l.invariant.1,
+      ap (λ s. read_bytes clipped_table s (drop (l.i + 1) bytes))
+          (byte_read clipped_table l.reader next.result left _ (get_or bytes l.i 0) next.ensures h.ensures)
+          ∙ sym (bytes_next clipped_table (state_of l.reader left) bytes l.i test) ∙ l.invariant.1,
       h.auto.1.1.1.0 ∙ l.invariant.2,
       h.auto.1.1.1.1.0 ∙ l.invariant.3,
       h.auto.1.1.1.1.1.0 ∙ l.invariant.4,
@@ -60,9 +60,9 @@ returns c =
     let l = c.before.loop in
     let bytes = c.before.before.before.before.before.before.before.before.before.args.bytes.now in
     let past : length bytes ≤ l.i = c.loop-test.false in
-    let left = planSlices l.plan l.presence l.rows l.exclusive-presence l.exclusives in
-    let read = sym (bytes_past clippedTable (state_of l.reader left) bytes l.i past) ∙ l.invariant.1 in
-    (read, λ t s before. read ∙ piece-reads clippedTable t s bytes _ before)
+    let left = plan_slices l.plan l.presence l.rows l.exclusive-presence l.exclusives in
+    let read = sym (bytes_past clipped_table (state_of l.reader left) bytes l.i past) ∙ l.invariant.1 in
+    (read, λ t s before. read ∙ piece_reads clipped_table t s bytes _ before)
 
 pub feed-spec : {M : Type 1} → statement M
 feed-spec =

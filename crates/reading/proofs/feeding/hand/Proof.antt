@@ -1,7 +1,7 @@
 -- `feeding::hand` meets its contract: what is handed out is a plan for the afresh call, an edit for the edit call, or nothing.
-use Rattle.regions.specs.Slices.{planSlices}
-use Rattle.table.specs.Method.{clippedTable}
-use Rattle.reading.proofs.Bytes.{handed-nothing, handed-plan, handed-edit}
+use Rattle.regions.specs.Slices.{plan_slices}
+use Rattle.table.specs.Method.{clipped_table}
+use Rattle.reading.proofs.Bytes.{handed_nothing, handed_plan, handed_edit}
 use borrow.Author.Rules.{rules}
 use Rattle.reading.proofs.feeding.hand.Statement.{statement}
 use Rattle.reading.proofs.feeding.hand.Tie as tie
@@ -12,24 +12,24 @@ enum_told c = search rules
 returns : tie.Need-returns
 returns c =
     let a = c.before.before.before.before.before.before.args in
-    let given = planSlices a.plan a.presence.now a.rows.now a.exclusive-presence.now a.exclusives.now in
-    handed-nothing clippedTable a.handed a.read given c.enum_told.given.1
+    let given = plan_slices a.plan a.presence.now a.rows.now a.exclusive-presence.now a.exclusives.now in
+    handed_nothing clipped_table a.handed a.read given c.enum_told.given.1
 
 returns-2 : tie.Need-returns-2
 returns-2 c =
     let at-afresh = c.before.before.before.before.before.before.before.before in
     let told = at-afresh.before.before.before.before.before in
     let a = told.before.before.before.before.before.before.args in
-    let given = planSlices a.plan a.presence.now a.rows.now a.exclusive-presence.now a.exclusives.now in
-    handed-plan clippedTable a.handed a.read given _ _ told.enum-told2.given.1 at-afresh.afresh.ensures
+    let given = plan_slices a.plan a.presence.now a.rows.now a.exclusive-presence.now a.exclusives.now in
+    handed_plan clipped_table a.handed a.read given _ _ told.enum-told2.given.1 at-afresh.afresh.ensures
 
 returns-3 : tie.Need-returns-3
 returns-3 c =
     let at-edit = c.before.before.before.before.before.before.before.before.before in
     let told = at-edit.before.before.before.before.before.before in
     let a = told.before.before.before.before.before.before.args in
-    let given = planSlices a.plan a.presence.now a.rows.now a.exclusive-presence.now a.exclusives.now in
-    handed-edit clippedTable a.handed a.read given _ _ _ told.handed.given.1 at-edit.edit-one.ensures
+    let given = plan_slices a.plan a.presence.now a.rows.now a.exclusive-presence.now a.exclusives.now in
+    handed_edit clipped_table a.handed a.read given _ _ _ told.handed.given.1 at-edit.edit-one.ensures
 
 pub hand-spec : {M : Type 1} → statement M
 hand-spec =

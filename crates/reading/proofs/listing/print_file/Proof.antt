@@ -1,10 +1,10 @@
 -- `listing::print_file` meets its contract.
 use mathlib.Core.Path.{◌≡◌, refl, sym, ◌∙◌}
-use Rattle.printing.specs.Rows.{tableLines}
-use Rattle.regions.specs.Slices.{planSlices}
-use Rattle.table.specs.Method.{clippedTable}
-use Rattle.reading.specs.Reading.{state_of, answerAt}
-use Rattle.reading.proofs.Bytes.{prints-file, taken-printed, refused-printed, printed-as, printed-few, printed-fits}
+use Rattle.printing.specs.Rows.{table_lines}
+use Rattle.regions.specs.Slices.{plan_slices}
+use Rattle.table.specs.Method.{clipped_table}
+use Rattle.reading.specs.Reading.{state_of, answer_at}
+use Rattle.reading.proofs.Bytes.{prints_file, taken_printed, refused_printed, printed_as, printed_few, printed_fits}
 use borrow.Author.Rules.{rules}
 use Rattle.reading.proofs.listing.print_file.Statement.{statement}
 use Rattle.reading.proofs.listing.print_file.Tie as tie
@@ -22,13 +22,13 @@ returns c =
     let told = here.before.before in
     let answered = told.before.before in
     let a = answered.before.before.before.before.before.before.before.args in
-    let left = planSlices a.reading.plan a.presence.now a.rows.now a.exclusive-presence.now a.exclusives.now in
-    let lines = tableLines a.reading.plan.n a.exclusive-presence.now a.exclusives.now in
+    let left = plan_slices a.reading.plan a.presence.now a.rows.now a.exclusive-presence.now a.exclusives.now in
+    let lines = table_lines a.reading.plan.n a.exclusive-presence.now a.exclusives.now in
     let state = state_of a.reading.reader left in
     let answer = sym answered.finish.ensures.0 ∙ told.enum_told.given.1 in
-    let printed = printed-as (taken-printed (answerAt state) lines answer) here.print-rows.ensures in
-    let few = printed-fits (printed-few (answerAt state) a.reading.plan.n a.exclusive-presence.now a.exclusives.now) printed in
-    (printed, ((λ t s after. printed-as (prints-file clippedTable t s state after) printed), few))
+    let printed = printed_as (taken_printed (answer_at state) lines answer) here.print-rows.ensures in
+    let few = printed_fits (printed_few (answer_at state) a.reading.plan.n a.exclusive-presence.now a.exclusives.now) printed in
+    (printed, ((λ t s after. printed_as (prints_file clipped_table t s state after) printed), few))
 
 returns-2 : tie.Need-returns-2
 returns-2 c =
@@ -36,13 +36,13 @@ returns-2 c =
     let told = here.before.before.before.before in
     let answered = told.before.before in
     let a = answered.before.before.before.before.before.before.before.args in
-    let left = planSlices a.reading.plan a.presence.now a.rows.now a.exclusive-presence.now a.exclusives.now in
-    let lines = tableLines a.reading.plan.n a.exclusive-presence.now a.exclusives.now in
+    let left = plan_slices a.reading.plan a.presence.now a.rows.now a.exclusive-presence.now a.exclusives.now in
+    let lines = table_lines a.reading.plan.n a.exclusive-presence.now a.exclusives.now in
     let state = state_of a.reading.reader left in
     let answer = sym answered.finish.ensures.0 ∙ told.answer.given.1 in
-    let printed = printed-as (refused-printed (answerAt state) lines _ answer here.before.before.number.ensures) here.print-refusal.ensures in
-    let few = printed-fits (printed-few (answerAt state) a.reading.plan.n a.exclusive-presence.now a.exclusives.now) printed in
-    (printed, ((λ t s after. printed-as (prints-file clippedTable t s state after) printed), few))
+    let printed = printed_as (refused_printed (answer_at state) lines _ answer here.before.before.number.ensures) here.print-refusal.ensures in
+    let few = printed_fits (printed_few (answer_at state) a.reading.plan.n a.exclusive-presence.now a.exclusives.now) printed in
+    (printed, ((λ t s after. printed_as (prints_file clipped_table t s state after) printed), few))
 
 pub print-file-spec : {M : Type 1} → statement M
 print-file-spec =

@@ -5,16 +5,16 @@ use mathlib.Core.List.{List}
 use Prim.Native.Nat.{ℕ, ◌-◌, ◌≤◌}
 use native.Mathlib.Omega.{arith}
 use lib.ListN.{get_or}
-use Rattle.masks.specs.Mask.{in_set, withoutHead, subset}
+use Rattle.masks.specs.Mask.{in_set, without_head, subset}
 use Rattle.lists.specs.Some.{some}
-use Rattle.lists.proofs.Somes.{some-zero, some_next, some_of}
+use Rattle.lists.proofs.Somes.{some_zero, some_next, some_of}
 use Rattle.sets.proofs.levels.one_in_all.Statement.{statement}
 use borrow.Author.Rules.{rules}
 use Rattle.sets.proofs.levels.one_in_all.Tie as tie
 
 -- the test at one head
 abbrev test : List ℕ → ℕ → ℕ → ℕ → Bool
-test t s n k = in_set s k && subset n (withoutHead n s k) (get_or t k 0)
+test t s n k = in_set s k && subset n (without_head n s k) (get_or t k 0)
 
 abbrev invariant-loop : tie.invariant-loop
 invariant-loop t s n i₀ i = (i ≤ n) × (some i (test t s n) ≡ false)
@@ -23,7 +23,7 @@ abbrev decreases-loop : tie.decreases-loop
 decreases-loop t s n i₀ i = n - i
 
 loop-holds : tie.Need-loop-init invariant-loop decreases-loop
-loop-holds c = let a = c.args in (search rules, some-zero (test a.containing.now a.s a.n))
+loop-holds c = let a = c.args in (search rules, some_zero (test a.containing.now a.s a.n))
 
 returns : tie.Need-returns invariant-loop decreases-loop
 returns c =

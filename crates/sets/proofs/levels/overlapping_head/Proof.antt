@@ -10,8 +10,8 @@ use lib.ListN.{get_or}
 use Rattle.masks.specs.Mask.{gather}
 use Rattle.masks.specs.Presence.{stands}
 use Rattle.sets.specs.Sets.{pair}
-use Rattle.sets.proofs.Masks.{pair-at, pair_lt}
-use Rattle.intersections.proofs.Adopting.{gather-with, gather-without}
+use Rattle.sets.proofs.Masks.{pair_at, pair_lt}
+use Rattle.intersections.proofs.Adopting.{gather_with, gather_without}
 use Rattle.sets.proofs.levels.overlapping_head.Statement.{statement}
 use borrow.Author.Rules.{rules}
 use Rattle.sets.proofs.levels.overlapping_head.Tie as tie
@@ -34,13 +34,13 @@ loop-again c =
     let l = c.before.before.before.loop in
     let a = c.before.before.before.before.args in
     let p : ℕ → Bool = λ k. stands a.found.now (pair a.n a.i k) in
-    let at = ap (λ (v : ℕ). eqb (get_or a.found.now v 0) 1) (pair-at a.n a.i l.j l.invariant.0 l.invariant.1 (omega arith)) in (
+    let at = ap (λ (v : ℕ). eqb (get_or a.found.now v 0) 1) (pair_at a.n a.i l.j l.invariant.0 l.invariant.1 (omega arith)) in (
       l.invariant.0,
       l.invariant.1,
       omega arith,
       ⊎_elim
-          (λ w. rw (w.1, l.invariant.3) (gather-with p l.j (omega arith) (sym at ∙ eq-eqb _ 1 w.0.taken)))
-          (λ w. rw (w.1, l.invariant.3) (gather-without p l.j (sym at ∙ ne_eqb _ 1 w.0.left)))
+          (λ w. rw (w.1, l.invariant.3) (gather_with p l.j (omega arith) (sym at ∙ eq-eqb _ 1 w.0.taken)))
+          (λ w. rw (w.1, l.invariant.3) (gather_without p l.j (sym at ∙ ne_eqb _ 1 w.0.left)))
           c.if1.branch,
     )
 

@@ -7,7 +7,7 @@ use lib.ListN.{length, set, replicate, length-replicate}
 use Rattle.lists.specs.Written.{written}
 use Rattle.masks.specs.Presence.{stands}
 use Rattle.sets.specs.Sets.{overlapping}
-use Rattle.lists.proofs.Writing.{written_none, write-next}
+use Rattle.lists.proofs.Writing.{written_none, write_next}
 use Rattle.sets.proofs.levels.overlapping_heads.Statement.{statement}
 use borrow.Author.Rules.{rules}
 use Rattle.sets.proofs.levels.overlapping_heads.Tie as tie
@@ -27,7 +27,7 @@ loop-again c =
       l.invariant.0,
       omega arith,
       ap (λ (t : List ℕ). set t l.i c.overlapping-head.result) l.invariant.2
-          ∙ write-next (overlapping a.n (stands a.found.now)) l.i (replicate 10 0) c.overlapping-head.result 0
+          ∙ write_next (overlapping a.n (stands a.found.now)) l.i (replicate 10 0) c.overlapping-head.result 0
           (omega (arith, length-replicate {A = ℕ} 10 0)) c.overlapping-head.ensures,
     )
 

@@ -6,20 +6,20 @@ use Prim.Native.Nat.{ℕ, ◌+◌, ◌-◌, ◌≤◌, ◌<◌}
 use native.Mathlib.Omega.{arith}
 use Rattle.sets.specs.Marked.{marked}
 use Rattle.lists.specs.Some.{some}
-use Rattle.sets.specs.Sets.{pairsOf, isPair}
-use Rattle.sets.specs.Steps.{inMaskOf}
-use Rattle.sets.proofs.Marks.{marked-none, marked-again, marked-same}
-use Rattle.lists.proofs.Somes.{some-zero, some_next}
+use Rattle.sets.specs.Sets.{pairs_of, is_pair}
+use Rattle.sets.specs.Steps.{in_mask_of}
+use Rattle.sets.proofs.Marks.{marked_none, marked_again, marked_same}
+use Rattle.lists.proofs.Somes.{some_zero, some_next}
 use Rattle.sets.proofs.witnessed.add_pairs.Statement.{statement}
 use borrow.Author.Rules.{rules}
 use Rattle.sets.proofs.witnessed.add_pairs.Tie as tie
 
-abbrev pairsOfHead : List ℕ → List ℕ → ℕ → ℕ → ℕ → Bool
-pairsOfHead meeting containing n = pairsOf n (inMaskOf meeting) (λ a b. inMaskOf containing b a)
+abbrev pairs_of_head : List ℕ → List ℕ → ℕ → ℕ → ℕ → Bool
+pairs_of_head meeting containing n = pairs_of n (in_mask_of meeting) (λ a b. in_mask_of containing b a)
 
 abbrev invariant-loop : tie.invariant-loop
 invariant-loop found₀ meeting containing n i₀ found i =
-    (n ≤ 10) × (i ≤ n) × (found ≡ marked (λ S. some i (λ k. pairsOfHead meeting containing n k S)) found₀)
+    (n ≤ 10) × (i ≤ n) × (found ≡ marked (λ S. some i (λ k. pairs_of_head meeting containing n k S)) found₀)
 
 abbrev decreases-loop : tie.decreases-loop
 decreases-loop found₀ meeting containing n i₀ found i = n - i
@@ -29,8 +29,8 @@ loop-holds c =
     let a = c.args in (
       c.requires,
       omega arith,
-      marked-none _ a.found.now
-          (λ S k. some-zero (λ k. pairsOfHead a.meeting.now a.containing.now a.n k S)),
+      marked_none _ a.found.now
+          (λ S k. some_zero (λ k. pairs_of_head a.meeting.now a.containing.now a.n k S)),
     )
 
 add-pairs-of-requires : tie.Need-add-pairs-of-requires invariant-loop decreases-loop
@@ -39,19 +39,19 @@ add-pairs-of-requires c κs = (c.before.before.loop.invariant.0, omega arith)
 loop-again : tie.Need-loop-preserved invariant-loop decreases-loop
 loop-again c =
     let l = c.before.before.before.loop in let a = c.before.before.before.before.args in
-    let p : ℕ → ℕ → Bool = λ S k. pairsOfHead a.meeting.now a.containing.now a.n k S in (
+    let p : ℕ → ℕ → Bool = λ S k. pairs_of_head a.meeting.now a.containing.now a.n k S in (
       l.invariant.0,
       omega arith,
-      c.add-pairs-of.ensures ∙ ap (marked (λ S. p S l.i)) l.invariant.2 ∙ marked-again (λ S. some l.i (p S)) (λ S. p S l.i) a.found.now
-          ∙ marked-same (λ S. some l.i (p S) || p S l.i) (λ S. some (l.i + 1) (p S)) a.found.now (λ S h. sym (some_next l.i (p S))),
+      c.add-pairs-of.ensures ∙ ap (marked (λ S. p S l.i)) l.invariant.2 ∙ marked_again (λ S. some l.i (p S)) (λ S. p S l.i) a.found.now
+          ∙ marked_same (λ S. some l.i (p S) || p S l.i) (λ S. some (l.i + 1) (p S)) a.found.now (λ S h. sym (some_next l.i (p S))),
     )
 
 returns : tie.Need-returns invariant-loop decreases-loop
-unfolding isPair
+unfolding is_pair
 returns c =
     let l = c.before.loop in let a = c.before.before.args in
     let e : l.i ≡ a.n = omega arith in
-    l.invariant.2 ∙ ap (λ (m : ℕ). marked (λ S. some m (λ k. pairsOfHead a.meeting.now a.containing.now a.n k S)) a.found.now) e
+    l.invariant.2 ∙ ap (λ (m : ℕ). marked (λ S. some m (λ k. pairs_of_head a.meeting.now a.containing.now a.n k S)) a.found.now) e
 
 pub add-pairs-spec : {M : Type 1} → statement M
 add-pairs-spec =

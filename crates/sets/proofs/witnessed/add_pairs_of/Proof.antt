@@ -12,16 +12,16 @@ use Rattle.masks.specs.Mask.{shifted}
 use Rattle.sets.specs.Marked.{marked}
 use Rattle.lists.specs.Some.{some}
 use Rattle.sets.specs.Sets.{pair, paired}
-use Rattle.sets.specs.Steps.{inMaskOf}
-use Rattle.sets.proofs.Masks.{pair-at, pair_lt}
-use Rattle.sets.proofs.Marks.{marked-none, mark-if, mark-not}
-use Rattle.lists.proofs.Somes.{some-zero, some_next}
+use Rattle.sets.specs.Steps.{in_mask_of}
+use Rattle.sets.proofs.Masks.{pair_at, pair_lt}
+use Rattle.sets.proofs.Marks.{marked_none, mark_if, mark_not}
+use Rattle.lists.proofs.Somes.{some_zero, some_next}
 use Rattle.sets.proofs.witnessed.add_pairs_of.Statement.{statement}
 use borrow.Author.Rules.{rules}
 use Rattle.sets.proofs.witnessed.add_pairs_of.Tie as tie
 
 abbrev test : List ℕ → List ℕ → ℕ → ℕ → Bool
-test meeting containing i k = paired (inMaskOf meeting) (λ a b. inMaskOf containing b a) i k
+test meeting containing i k = paired (in_mask_of meeting) (λ a b. in_mask_of containing b a) i k
 
 abbrev invariant-loop : tie.invariant-loop
 invariant-loop found₀ meeting containing i n j₀ found j =
@@ -36,7 +36,7 @@ loop-holds c =
       c.requires.0,
       c.requires.1,
       omega arith,
-      marked-none _ a.found.now (λ S k. some-zero (λ k. eqb S (pair a.n a.i k) && test a.meeting.now a.containing.now a.i k)),
+      marked_none _ a.found.now (λ S k. some_zero (λ k. eqb S (pair a.n a.i k) && test a.meeting.now a.containing.now a.i k)),
     )
 
 element-write-found : tie.Need-element-write-found invariant-loop decreases-loop
@@ -54,9 +54,9 @@ loop-again c =
       omega arith,
       ⊎_elim
           (λ w. w.1 ∙ ap (λ (t : List ℕ). set t (bit_or (shifted 64 a.i) (shifted 64 l.j)) 1) l.invariant.3
-          ∙ ap (λ (v : ℕ). set (marked (λ S. some l.j (p S)) a.found.now) v 1) (pair-at a.n a.i l.j l.invariant.0 l.invariant.1 (omega arith))
-          ∙ mark-if (pair a.n a.i) t l.j a.found.now (sym c.before.is-pair.ensures ∙ w.0.taken))
-          (λ w. w.1 ∙ l.invariant.3 ∙ mark-not (pair a.n a.i) t l.j a.found.now (sym c.before.is-pair.ensures ∙ w.0.left))
+          ∙ ap (λ (v : ℕ). set (marked (λ S. some l.j (p S)) a.found.now) v 1) (pair_at a.n a.i l.j l.invariant.0 l.invariant.1 (omega arith))
+          ∙ mark_if (pair a.n a.i) t l.j a.found.now (sym c.before.is-pair.ensures ∙ w.0.taken))
+          (λ w. w.1 ∙ l.invariant.3 ∙ mark_not (pair a.n a.i) t l.j a.found.now (sym c.before.is-pair.ensures ∙ w.0.left))
           c.if1.branch,
     )
 

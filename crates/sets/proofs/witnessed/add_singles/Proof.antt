@@ -9,10 +9,10 @@ use lib.ListN.{length, set}
 use Rattle.masks.specs.Mask.{single, shifted}
 use Rattle.sets.specs.Marked.{marked}
 use Rattle.lists.specs.Some.{some}
-use Rattle.sets.specs.Regions.{isOneHead}
-use Rattle.sets.proofs.Masks.{single-at, single-lt}
-use Rattle.sets.proofs.Marks.{marked-none, mark-next, marked-same}
-use Rattle.lists.proofs.Somes.{some-zero, some_next}
+use Rattle.sets.specs.Regions.{is_one_head}
+use Rattle.sets.proofs.Masks.{single_at, single_lt}
+use Rattle.sets.proofs.Marks.{marked_none, mark_next, marked_same}
+use Rattle.lists.proofs.Somes.{some_zero, some_next}
 use Rattle.sets.proofs.witnessed.add_singles.Statement.{statement}
 use borrow.Author.Rules.{rules}
 use Rattle.sets.proofs.witnessed.add_singles.Tie as tie
@@ -26,10 +26,10 @@ decreases-loop n bytes₀ i₀ bytes i = n - i
 loop-holds : tie.Need-loop-init invariant-loop decreases-loop
 loop-holds c =
     let a = c.args in
-    (c.requires, search rules, marked-none (λ S. some 0 (λ k. eqb S (single a.n k))) a.found (λ S k. some-zero (λ k. eqb S (single a.n k))))
+    (c.requires, search rules, marked_none (λ S. some 0 (λ k. eqb S (single a.n k))) a.found (λ S k. some_zero (λ k. eqb S (single a.n k))))
 
 array-write-bytes : tie.Need-array-write-bytes invariant-loop decreases-loop
-array-write-bytes c = let l = c.before.loop in single-lt c.before.before.args.n l.i l.invariant.0 (omega arith)
+array-write-bytes c = let l = c.before.loop in single_lt c.before.before.args.n l.i l.invariant.0 (omega arith)
 
 loop-again : tie.Need-loop-preserved invariant-loop decreases-loop
 loop-again c =
@@ -39,14 +39,14 @@ loop-again c =
       l.invariant.0,
       omega arith,
       ap (λ (t : List ℕ). set t (shifted 64 l.i) 1) l.invariant.2
-          ∙ ap (λ (v : ℕ). set (marked so_far a.found) v 1) (single-at a.n l.i l.invariant.0 (omega arith))
-          ∙ mark-next so_far a.found (single a.n l.i)
-          ∙ marked-same (λ S. so_far S || eqb S (single a.n l.i)) (λ S. some (l.i + 1) (λ k. eqb S (single a.n k))) a.found
+          ∙ ap (λ (v : ℕ). set (marked so_far a.found) v 1) (single_at a.n l.i l.invariant.0 (omega arith))
+          ∙ mark_next so_far a.found (single a.n l.i)
+          ∙ marked_same (λ S. so_far S || eqb S (single a.n l.i)) (λ S. some (l.i + 1) (λ k. eqb S (single a.n k))) a.found
           (λ S k. sym (some_next l.i (λ k. eqb S (single a.n k)))),
     )
 
 returns : tie.Need-returns invariant-loop decreases-loop
-unfolding isOneHead
+unfolding is_one_head
 returns c =
     let l = c.before.loop in
     let a = c.before.before.args in

@@ -1,12 +1,12 @@
 -- `edges::add_edges`: the four spans one after another.
 use borrow.Author.Rules.{rules}
 use mathlib.Core.Path.{◌≡◌, ◌∙◌}
-use Rattle.sums.specs.Edges.{edgesFrom}
+use Rattle.sums.specs.Edges.{edges_from}
 use Rattle.sums.proofs.edges.add_edges.Statement.{statement}
 use Rattle.sums.proofs.edges.add_edges.Tie as tie
 
 returns : tie.Need-returns
-unfolding edgesFrom
+unfolding edges_from
 returns c =
     let c4 = c.before.before in
     let s3 = c4.before in

@@ -1,7 +1,7 @@
 -- `edges::add_edges_with_gradient`: the four spans one after another.
 use borrow.Author.Rules.{rules}
 use mathlib.Core.Path.{◌≡◌, ◌∙◌}
-use Rattle.sums.specs.Edges.{edgesWithGradientFrom}
+use Rattle.sums.specs.Edges.{edges_with_gradient_from}
 use Rattle.sums.proofs.edges.add_edges_with_gradient.Statement.{statement}
 use Rattle.sums.proofs.edges.add_edges_with_gradient.Tie as tie
 
@@ -15,7 +15,7 @@ same_length c =
     ∙ e1.add-edge-with-gradient.auto.1.0
 
 returns : tie.Need-returns
-unfolding edgesWithGradientFrom
+unfolding edges_with_gradient_from
 returns c =
     let e4 = c.before.before in
     let left = e4.before in

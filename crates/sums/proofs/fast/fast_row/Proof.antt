@@ -10,7 +10,7 @@ use lib.Dec.{eqb, ltb}
 use lib.ListN.{length, take, get_or, set, length-take, length-set}
 use lib.Seq.{get_or-take, take_all}
 use lib.Ieee.{Float, nan}
-use Rattle.lists.proofs.Arrays.{length-of-values}
+use Rattle.lists.proofs.Arrays.{length_of_values}
 use Rattle.sums.proofs.fast.fast_row.Statement.{statement}
 use Rattle.sums.proofs.fast.fast_row.Tie as tie
 

@@ -2,7 +2,7 @@
 use borrow.Author.Rules.{rules}
 use mathlib.Core.Path.{sym, ◌∙◌}
 use mathlib.Core.Bool.{true, false, true≢false}
-use Rattle.chords.proofs.Ends.{filled-chorded}
+use Rattle.chords.proofs.Ends.{filled_chorded}
 use Rattle.sums.proofs.fast.fill_worth.Statement.{statement}
 use Rattle.sums.proofs.fast.fill_worth.Tie as tie
 
@@ -19,7 +19,7 @@ returns c =
     let long = s.requires.1.1 in
     record {
       integrals = λ e. f.fill-integrals.ensures;
-      chords = λ _. rw s.requires.0.1.1.1 (filled-chorded a.bounds a.circles a.n-sets a.needed s.requires.0.1.0 a.reach.now a.low.now a.high.now
+      chords = λ _. rw s.requires.0.1.1.1 (filled_chorded a.bounds a.circles a.n-sets a.needed s.requires.0.1.0 a.reach.now a.low.now a.high.now
           long.0 long.1.0 long.1.1 e.0 e.1.0 e.1.1);
       terms = λ e. absurd (true≢false (sym i.if1.true ∙ e));
     }

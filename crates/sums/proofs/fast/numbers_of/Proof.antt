@@ -10,36 +10,36 @@ use lib.Dec.{eqb, ltb}
 use lib.ListN.{length, take, get_or, set, length-take, length-set}
 use lib.Seq.{get_or-take, take_all}
 use lib.Ieee.{Float, nan}
-use Rattle.lists.proofs.Arrays.{length-of-values}
-use Rattle.intersections.specs.Members.{noCircle}
+use Rattle.lists.proofs.Arrays.{length_of_values}
+use Rattle.intersections.specs.Members.{no_circle}
 use Rattle.sums.specs.Fast.{number_of}
-use Rattle.sums.proofs.Filling.{HeldTo, held_none, held-put}
-use Rattle.sums.proofs.Passing.{numbers-are}
+use Rattle.sums.proofs.Filling.{HeldTo, held_none, held_put}
+use Rattle.sums.proofs.Passing.{numbers_are}
 use Rattle.sums.proofs.fast.numbers_of.Statement.{statement}
 use Rattle.sums.proofs.fast.numbers_of.Tie as tie
 
 abbrev invariant-loop : tie.invariant-loop
 invariant-loop n-sets circles c₀ p₀ c p =
     (length circles ≡ 10) × (length c ≡ 30) × (p ≤ 30)
-    × HeldTo (λ q. Unit) (λ q. number_of (get_or circles (q / 3) noCircle) (q % 3)) nan c p
+    × HeldTo (λ q. Unit) (λ q. number_of (get_or circles (q / 3) no_circle) (q % 3)) nan c p
 
 abbrev decreases-loop : tie.decreases-loop
 decreases-loop n-sets circles c₀ p₀ c p = 30 - p
 
 loop-holds : tie.Need-loop-init invariant-loop decreases-loop
-loop-holds c = (search length-of-values, search rules, omega arith, held_none _)
+loop-holds c = (search length_of_values, search rules, omega arith, held_none _)
 
 loop-again : tie.Need-loop-preserved invariant-loop decreases-loop
 loop-again c =
     let l = c.before.before.before.loop in
-    (l.invariant.0, simp length-set l.invariant.1, omega arith, held-put _ (omega arith) c.number-of.ensures l.invariant.3)
+    (l.invariant.0, simp length-set l.invariant.1, omega arith, held_put _ (omega arith) c.number-of.ensures l.invariant.3)
 
 returns : tie.Need-returns invariant-loop decreases-loop
 returns c =
     let d = c.before in
     let s = d.before in
     let e : d.loop.p ≡ 30 = omega arith in
-    numbers-are d.loop.c s.args.t1 (rw e at d.loop.invariant.3) s.args.n-sets s.requires d.loop.invariant.0
+    numbers_are d.loop.c s.args.t1 (rw e at d.loop.invariant.3) s.args.n-sets s.requires d.loop.invariant.0
 
 pub numbers-of-spec : {M : Type 1} → statement M
 numbers-of-spec =

@@ -10,11 +10,11 @@ use lib.Dec.{eqb, ltb}
 use lib.ListN.{length, take, get_or, set, length-take, length-set}
 use lib.Seq.{get_or-take, take_all}
 use lib.Ieee.{Float, nan}
-use Rattle.lists.proofs.Arrays.{length-of-values}
+use Rattle.lists.proofs.Arrays.{length_of_values}
 use lib.Pow.{pow_pos}
 use Rattle.masks.specs.Mask.{Subset}
 use Rattle.sums.specs.Fast.{OfWanted}
-use Rattle.sums.proofs.Passing.{wanted-with, wanted-without, or-below}
+use Rattle.sums.proofs.Passing.{wanted_with, wanted_without, or_below}
 use Rattle.sums.proofs.fast.wanted_heads.Statement.{statement}
 use Rattle.sums.proofs.fast.wanted_heads.Tie as tie
 
@@ -35,12 +35,12 @@ loop-again c =
     ⊎_elim
     (λ w. (
       omega arith,
-      rw w.1 (wanted-with a.wanted.now l.heads l.mask l.invariant.1),
-      λ n h. rw w.1 (or-below n l.heads l.mask (l.invariant.2 n h) (omega (arith, h))),
+      rw w.1 (wanted_with a.wanted.now l.heads l.mask l.invariant.1),
+      λ n h. rw w.1 (or_below n l.heads l.mask (l.invariant.2 n h) (omega (arith, h))),
     ))
     (λ w. (
       omega arith,
-      rw w.1 (wanted-without a.wanted.now l.heads l.mask (ne_eqb _ 1 w.0.left) l.invariant.1),
+      rw w.1 (wanted_without a.wanted.now l.heads l.mask (ne_eqb _ 1 w.0.left) l.invariant.1),
       λ n h. rw w.1 (l.invariant.2 n h),
     ))
     c.if1.branch

@@ -10,30 +10,30 @@ use lib.Dec.{eqb, ltb}
 use lib.ListN.{length, take, get_or, set, length-take, length-set}
 use lib.Seq.{get_or-take, take_all}
 use lib.Ieee.{Float, nan}
-use Rattle.lists.proofs.Arrays.{length-of-values}
+use Rattle.lists.proofs.Arrays.{length_of_values}
 use mathlib.Core.Path.{subst}
 use Rattle.masks.specs.Presence.{stands}
-use Rattle.intersections.specs.Counted.{pointList}
+use Rattle.intersections.specs.Counted.{point_list}
 use Rattle.intersections.specs.Members.{members_of}
-use Rattle.gaps.proofs.Circles.{circles-many}
-use Rattle.sums.specs.Rows.{areaOf}
+use Rattle.gaps.proofs.Circles.{circles_many}
+use Rattle.sums.specs.Rows.{area_of}
 use Rattle.sums.specs.Walk.{Few}
-use Rattle.sums.proofs.Counts.{count-few}
-use Rattle.sums.proofs.Passing.{written-alike}
+use Rattle.sums.proofs.Counts.{count_few}
+use Rattle.sums.proofs.Passing.{written_alike}
 use Rattle.sums.proofs.fast.write_fast.Statement.{statement}
 use Rattle.sums.proofs.fast.write_fast.Tie as tie
 
 wanted-heads-requires : tie.Need-wanted-heads-requires
 wanted-heads-requires c κs =
     let s = c.before.before.before in
-    (count-few s.args.n-sets _ (length s.args.areas.now) s.requires.0 c.row_count.ensures).0
+    (count_few s.args.n-sets _ (length s.args.areas.now) s.requires.0 c.row_count.ensures).0
 
 fill-heads-requires : tie.Need-fill-heads-requires
 fill-heads-requires c κs =
     let n = c.before.before.before.before.before.before.before.before in
     let s = n.before.before in (
-      (s.requires.0, subst (λ cs. Few cs (pointList s.args.points)) (sym n.Numbers-of.ensures) s.requires.1),
-      record { counts-long = search rules; owners-long = search rules; phi-long = search rules; adopters-long = search rules; lets-long = search rules },
+      (s.requires.0, subst (λ cs. Few cs (point_list s.args.points)) (sym n.Numbers-of.ensures) s.requires.1),
+      record { counts_long = search rules; owners_long = search rules; phi_long = search rules; adopters_long = search rules; lets_long = search rules },
     )
 
 write-marked-requires : tie.Need-write-marked-requires
@@ -44,11 +44,11 @@ write-marked-requires c κs =
     let n = r.before in
     let s = n.before.before in
     let a = s.args in
-    let counted = count-few a.n-sets _ (length a.areas.now) s.requires.0 r.row_count.ensures in (
+    let counted = count_few a.n-sets _ (length a.areas.now) s.requires.0 r.row_count.ensures in (
       (s.requires.0, counted.1),
       (
         (w.wanted-heads.ensures.1 a.n-sets counted.1.0, (w.wanted-heads.ensures.0, n.Numbers-of.ensures)),
-        λ j h i. f.fill-heads.ensures.1.ready j (rw (circles-many _ a.n-sets) at h) i,
+        λ j h i. f.fill-heads.ensures.1.ready j (rw (circles_many _ a.n-sets) at h) i,
       ),
     )
 
@@ -59,10 +59,10 @@ returns c =
     let n = f.before.before.before.before.before.before.before.before.before in
     let s = n.before.before in
     let a = s.args in
-    let points = pointList a.points in
-    written-alike (λ cs S. areaOf a.clipped a.bounds (members_of cs points S)) (stands a.wanted.now) a.areas.now
+    let points = point_list a.points in
+    written_alike (λ cs S. area_of a.clipped a.bounds (members_of cs points S)) (stands a.wanted.now) a.areas.now
     (m.write-marked.ensures points (subst (λ cs. Few cs points) (sym n.Numbers-of.ensures) s.requires.1)
-    (λ j h i. f.fill-heads.ensures.1.marks j (rw (circles-many _ a.n-sets) at h) i))
+    (λ j h i. f.fill-heads.ensures.1.marks j (rw (circles_many _ a.n-sets) at h) i))
     n.Numbers-of.ensures
     f.before.before.before.before.before.before.before.before.row_count.ensures
 

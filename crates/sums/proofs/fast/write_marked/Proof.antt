@@ -10,11 +10,11 @@ use lib.Dec.{eqb, ltb}
 use lib.ListN.{length, take, get_or, set, length-take, length-set}
 use lib.Seq.{get_or-take, take_all}
 use lib.Ieee.{Float, nan}
-use Rattle.lists.proofs.Arrays.{length-of-values}
-use Rattle.masks.specs.Subset.{subset-head}
-use Rattle.gaps.specs.Gaps.{circlesIn}
-use Rattle.sums.proofs.Valuing.{ready-roomy}
-use Rattle.sums.proofs.Passing.{ready-less, worth-less}
+use Rattle.lists.proofs.Arrays.{length_of_values}
+use Rattle.masks.specs.Subset.{subset_head}
+use Rattle.gaps.specs.Gaps.{circles_in}
+use Rattle.sums.proofs.Valuing.{ready_roomy}
+use Rattle.sums.proofs.Passing.{ready_less, worth_less}
 use Rattle.sums.proofs.fast.write_marked.Statement.{statement}
 use Rattle.sums.proofs.fast.write_marked.Tie as tie
 
@@ -26,7 +26,7 @@ fill-worth-requires c κs =
         s.requires.0.0,
         (
           s.requires.1.0.0,
-          (ready-roomy a.c.now a.n-sets a.needed a.counts.now a.owners.now a.phi.now a.lets.now s.requires.1.1, s.requires.1.0.1.1),
+          (ready_roomy a.c.now a.n-sets a.needed a.counts.now a.owners.now a.phi.now a.lets.now s.requires.1.1, s.requires.1.0.1.1),
         ),
       ),
       ((search rules, (search rules, search rules)), (search rules, (search rules, search rules))),
@@ -40,8 +40,8 @@ write-rows-requires c κs =
     let within = s.requires.1.0.1.0 in (
       s.requires.0,
       λ S h is. record {
-        ready = ready-less (circlesIn a.c.now a.n-sets) a.needed a.counts.now a.owners.now a.phi.now a.lets.now S (within S h is) s.requires.1.1;
-        worth = worth-less S (within S h is) f.fill-worth.ensures;
+        ready = ready_less (circles_in a.c.now a.n-sets) a.needed a.counts.now a.owners.now a.phi.now a.lets.now S (within S h is) s.requires.1.1;
+        worth = worth_less S (within S h is) f.fill-worth.ensures;
       },
     )
 
@@ -50,7 +50,7 @@ returns c =
     let w = c.before.before in
     let s = w.before.before.before.before.before.before.before.before.before.before.before.before.before.before.before.before in
     let within = s.requires.1.0.1.0 in
-    λ points few marks. w.write-rows.ensures points few (λ S h is j k i. marks j k (subset-head S s.args.needed (within S h is) j i))
+    λ points few marks. w.write-rows.ensures points few (λ S h is j k i. marks j k (subset_head S s.args.needed (within S h is) j i))
 
 pub write-marked-spec : {M : Type 1} → statement M
 write-marked-spec = tie.close (tie.spec fill-worth-requires write-rows-requires (λ c. search rules) returns)

@@ -10,17 +10,17 @@ use lib.Dec.{eqb, ltb}
 use lib.ListN.{length, take, get_or, set, length-take, length-set}
 use lib.Seq.{get_or-take, take_all}
 use lib.Ieee.{Float, nan}
-use Rattle.lists.proofs.Arrays.{length-of-values}
+use Rattle.lists.proofs.Arrays.{length_of_values}
 use mathlib.Core.Bool.{Bool, cond}
 use mathlib.Core.List.{List}
 use lib.Pow.{pow_mono}
 use Rattle.lists.specs.Written.{written}
-use Rattle.lists.proofs.Writing.{written_none, write-next, written-keep}
+use Rattle.lists.proofs.Writing.{written_none, write_next, written_keep}
 use Rattle.masks.specs.Presence.{stands}
 use Rattle.intersections.specs.declared.points.IntersectionPoint.{IntersectionPoint}
 use Rattle.intersections.specs.Members.{members_of}
-use Rattle.gaps.specs.Gaps.{circlesIn}
-use Rattle.sums.specs.Rows.{areaOf, number_at}
+use Rattle.gaps.specs.Gaps.{circles_in}
+use Rattle.sums.specs.Rows.{area_of, number_at}
 use Rattle.sums.specs.Walk.{Few}
 use Rattle.sums.specs.Values.{MarksOf}
 use Rattle.sums.specs.Fast.{OfWanted}
@@ -30,8 +30,8 @@ use Rattle.sums.proofs.fast.write_rows.Tie as tie
 abbrev invariant-loop : tie.invariant-loop
 invariant-loop clipped wanted count areas₀ c n-sets bounds counts owners phi adopters lets xs ys rs reach low high list₀ mask₀ areas list mask =
     (mask ≤ count) × (length list ≡ 320) × (length areas ≡ length areas₀)
-    × ((points : List IntersectionPoint) → Few (circlesIn c n-sets) points → OfWanted wanted count (λ S. MarksOf (circlesIn c n-sets) points S counts phi adopters)
-    → areas ≡ written (number_at (stands wanted) (λ S. areaOf clipped bounds (members_of (circlesIn c n-sets) points S)) areas₀) mask areas₀)
+    × ((points : List IntersectionPoint) → Few (circles_in c n-sets) points → OfWanted wanted count (λ S. MarksOf (circles_in c n-sets) points S counts phi adopters)
+    → areas ≡ written (number_at (stands wanted) (λ S. area_of clipped bounds (members_of (circles_in c n-sets) points S)) areas₀) mask areas₀)
 
 abbrev decreases-loop : tie.decreases-loop
 decreases-loop clipped wanted count areas₀ c n-sets bounds counts owners phi adopters lets xs ys rs reach low high list₀ mask₀ areas list mask = count - mask
@@ -69,7 +69,7 @@ loop-again c =
     let a = s.args in
     let below : l.mask < a.count = m.loop-test.true in
     let room : l.mask < length a.areas.now = omega (arith, below, s.requires.0.1.1) in
-    let area : List IntersectionPoint → ℕ → Float = λ points S. areaOf a.clipped a.bounds (members_of (circlesIn a.c.now a.n-sets) points S) in
+    let area : List IntersectionPoint → ℕ → Float = λ points S. area_of a.clipped a.bounds (members_of (circles_in a.c.now a.n-sets) points S) in
     let f : List IntersectionPoint → ℕ → Float = λ points. number_at (stands a.wanted.now) (area points) a.areas.now in
     let stood = get_or a.areas.now l.mask nan in
     ⊎_elim
@@ -77,7 +77,7 @@ loop-again c =
       omega arith,
       rw w.4 w.2.ensures.0,
       rw w.3 (simp length-set l.invariant.2),
-      λ points few marks. w.3 ∙ rw (l.invariant.3 points few marks) (write-next (f points) l.mask a.areas.now _ nan room
+      λ points few marks. w.3 ∙ rw (l.invariant.3 points few marks) (write_next (f points) l.mask a.areas.now _ nan room
           (w.2.ensures.1 points few (marks l.mask below (eq-eqb _ 1 w.0.taken))
           ∙ sym (ap (λ (b : Bool). cond b (area points l.mask) stood) (eq-eqb _ 1 w.0.taken)))),
     ))
@@ -85,7 +85,7 @@ loop-again c =
       omega arith,
       rw w.2 l.invariant.1,
       rw w.1 l.invariant.2,
-      λ points few marks. w.1 ∙ l.invariant.3 points few marks ∙ written-keep (f points) l.mask a.areas.now nan room
+      λ points few marks. w.1 ∙ l.invariant.3 points few marks ∙ written_keep (f points) l.mask a.areas.now nan room
           (ap (λ (b : Bool). cond b (area points l.mask) stood) (ne_eqb _ 1 w.0.left)),
     ))
     c.if1.branch

@@ -1,7 +1,7 @@
 use mathlib.Core.Path.{sym, ◌∙◌}
-use Rattle.gaps.specs.Gaps.{circlesIn}
-use Rattle.gaps.proofs.Circles.{circle-held}
-use Rattle.sums.proofs.Owning.{nobody-lets, these-let}
+use Rattle.gaps.specs.Gaps.{circles_in}
+use Rattle.gaps.proofs.Circles.{circle_held}
+use Rattle.sums.proofs.Owning.{nobody_lets, these_let}
 use borrow.Author.Rules.{rules}
 use Rattle.sums.proofs.fill.gap_letters.Statement.{statement}
 use Rattle.sums.proofs.fill.gap_letters.Tie as tie
@@ -16,7 +16,7 @@ use Rattle.sums.proofs.fill.letters.Reads as letters-reads
 returns : tie.Need-returns
 returns c =
     let a = c.before.before.before.args in
-    nobody-lets (circlesIn a.c.now a.n-sets) a.j a.phi-a a.phi-b _ c.before.before.gap.ensures
+    nobody_lets (circles_in a.c.now a.n-sets) a.j a.phi-a a.phi-b _ c.before.before.gap.ensures
     (sym c.before.collapsed.ensures ∙ c.if1.true)
 
 -- src/fill.rt:45:1
@@ -26,9 +26,9 @@ returns-2 c =
     let e = k.before in
     let s = e.before.before in
     let a = s.before.args in
-    these-let (circlesIn a.c.now a.n-sets) a.j a.phi-a a.phi-b _ s.gap.ensures _ _ _
+    these_let (circles_in a.c.now a.n-sets) a.j a.phi-a a.phi-b _ s.gap.ensures _ _ _
     (sym e.before.collapsed.ensures ∙ e.if1.false)
-    (k.circle-at.ensures ∙ circle-held a.c.now a.n-sets a.j s.before.requires.1 s.before.requires.0)
+    (k.circle-at.ensures ∙ circle_held a.c.now a.n-sets a.j s.before.requires.1 s.before.requires.0)
     c.before.point_at.ensures
     c.letters.ensures
 

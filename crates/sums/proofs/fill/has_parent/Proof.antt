@@ -1,5 +1,5 @@
 use borrow.Author.Tests.{eq-eqb, ne_eqb}
-use Rattle.sums.specs.Marks.{hasParent}
+use Rattle.sums.specs.Marks.{has_parent}
 use Rattle.sums.proofs.fill.has_parent.Statement.{statement}
 use Rattle.sums.proofs.fill.has_parent.Tie as tie
 use Rattle.sums.proofs.fill.has_parent.Reads as reads
@@ -7,13 +7,13 @@ use Rattle.sums.proofs.fill.has_parent.Lts as lts
 
 -- src/fill.rt:107:9
 returns : tie.Need-returns
-unfolding hasParent
+unfolding has_parent
 returns c =
     rw (eq-eqb _ _ c.if1.true)
 
 -- src/fill.rt:103:1
 returns-2 : tie.Need-returns-2
-unfolding hasParent
+unfolding has_parent
 returns-2 c =
     rw (ne_eqb _ _ c.before.if1.false)
 

@@ -6,9 +6,9 @@ use native.Mathlib.Omega.{arith}
 use lib.Ieee.{Float, nan}
 use lib.ListN.{length, set, length-set}
 use Rattle.lists.specs.Written.{written}
-use Rattle.lists.proofs.Writing.{written_none, write-next, written-whole}
+use Rattle.lists.proofs.Writing.{written_none, write_next, written_whole}
 use Rattle.binary64.specs.Constants.{zero64}
-use Rattle.sums.proofs.Laid.{tab-alike}
+use Rattle.sums.proofs.Laid.{tab_alike}
 use borrow.Author.Rules.{rules}
 use Rattle.sums.proofs.gradients.clear.Statement.{statement}
 use Rattle.sums.proofs.gradients.clear.Tie as tie
@@ -28,14 +28,14 @@ loop-again c =
       omega (arith, i.1),
       length-set l.numbers l.i zero64 ∙ i.1,
       ap (λ (t : List Float). set t l.i zero64) i.2
-          ∙ write-next (λ k. zero64) l.i a.numbers.now zero64 nan (omega (arith, i.1)) refl,
+          ∙ write_next (λ k. zero64) l.i a.numbers.now zero64 nan (omega (arith, i.1)) refl,
     )
 
 returns : tie.Need-returns invariant-loop decreases-loop
 returns c =
     let l = c.before.loop in let i = l.invariant in let a = c.before.before.args in
-    i.2 ∙ written-whole (λ k. zero64) l.i (length a.numbers.now) a.numbers.now (omega (arith, i.1)) refl
-    ∙ tab-alike zero64 (length a.numbers.now)
+    i.2 ∙ written_whole (λ k. zero64) l.i (length a.numbers.now) a.numbers.now (omega (arith, i.1)) refl
+    ∙ tab_alike zero64 (length a.numbers.now)
 
 pub clear_spec : {M : Type 1} → statement M
 clear_spec =

@@ -1,8 +1,8 @@
 -- `gradients::fast_row`: a row of +0, then what each of the two ways adds to it.
 use borrow.Author.Rules.{rules}
 use mathlib.Core.Path.{ap, ◌∙◌}
-use Rattle.gaps.specs.Gaps.{circlesIn}
-use Rattle.sums.specs.Gradients.{openOnto, clippedOnto}
+use Rattle.gaps.specs.Gaps.{circles_in}
+use Rattle.sums.specs.Gradients.{open_onto, clipped_onto}
 use Rattle.sums.proofs.gradients.fast_row.Statement.{statement}
 use Rattle.sums.proofs.gradients.fast_row.Tie as tie
 
@@ -25,7 +25,7 @@ returns c =
     let e = o.clipped-row-with-gradient.ensures in (
       (e.0, same_length c),
       λ points few marks. rw t.if1.true
-          (e.1 points few marks ∙ ap (clippedOnto a.bounds (circlesIn a.c.now a.n-sets) points a.mask) k.clear.ensures),
+          (e.1 points few marks ∙ ap (clipped_onto a.bounds (circles_in a.c.now a.n-sets) points a.mask) k.clear.ensures),
     )
 
 open-row-with-gradient-requires : tie.Need-open-row-with-gradient-requires
@@ -47,7 +47,7 @@ returns-2 c =
     let e = o.open-row-with-gradient.ensures in (
       (e.0, same-length-2 c),
       λ points few marks. rw t.if1.false
-          (e.1 points few marks ∙ ap (openOnto (circlesIn a.c.now a.n-sets) points a.mask) k.clear.ensures),
+          (e.1 points few marks ∙ ap (open_onto (circles_in a.c.now a.n-sets) points a.mask) k.clear.ensures),
     )
 
 pub fast-row-spec : {M : Type 1} → statement M

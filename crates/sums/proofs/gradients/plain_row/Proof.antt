@@ -2,8 +2,8 @@
 use borrow.Author.Rules.{rules}
 use mathlib.Core.Path.{ap, ◌∙◌}
 use lib.ListN.{take}
-use Rattle.intersections.specs.Counted.{pointList}
-use Rattle.sums.specs.Gradients.{setOnto}
+use Rattle.intersections.specs.Counted.{point_list}
+use Rattle.sums.specs.Gradients.{set_onto}
 use Rattle.sums.proofs.gradients.plain_row.Statement.{statement}
 use Rattle.sums.proofs.gradients.plain_row.Tie as tie
 
@@ -16,7 +16,7 @@ returns c =
     let k = o.before.before.before.before in
     let a = k.before.before.before.args in (
       o.set-onto.ensures
-          ∙ ap (setOnto a.clipped a.bounds (take a.n-sets a.circles) (pointList a.points) a.mask) k.clear.ensures,
+          ∙ ap (set_onto a.clipped a.bounds (take a.n-sets a.circles) (point_list a.points) a.mask) k.clear.ensures,
       same_length c,
     )
 

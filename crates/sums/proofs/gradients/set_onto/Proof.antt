@@ -5,9 +5,9 @@ use mathlib.Core.List.{List, map}
 use lib.ListN.{length, take}
 use Rattle.geometry.specs.declared.circle.Circle.{Circle}
 use Rattle.boundary.specs.declared.arcs.BoundaryArc.{BoundaryArc}
-use Rattle.intersections.specs.Members.{headsOf, circleAt}
-use Rattle.outline.specs.Area.{areaOf, addGradient}
-use Rattle.clip.specs.Gradient.{with-gradient, clippedWithGradient}
+use Rattle.intersections.specs.Members.{heads_of, circle_at}
+use Rattle.outline.specs.Area.{area_of, add_gradient}
+use Rattle.clip.specs.Gradient.{with_gradient, clipped_with_gradient}
 use Rattle.sums.proofs.gradients.set_onto.Statement.{statement}
 use Rattle.sums.proofs.gradients.set_onto.Tie as tie
 
@@ -21,7 +21,7 @@ returns c =
     rw t.if1.true
     (w.area-and-gradient-from-clipped-arcs.ensures
     ∙ ap (λ (arcs : List BoundaryArc).
-    clippedWithGradient a.bounds cs (map (circleAt cs) (headsOf (length cs) a.mask)) arcs a.grad.now)
+    clipped_with_gradient a.bounds cs (map (circle_at cs) (heads_of (length cs) a.mask)) arcs a.grad.now)
     r.region-boundary-arcs.ensures.0)
 
 returns-2 : tie.Need-returns-2
@@ -32,9 +32,9 @@ returns-2 c =
     let a = r.before.before.args in
     let cs : List Circle = take a.n-sets a.circles in
     rw t.if1.false
-    (ap₂ with-gradient
-    (c.area-from-boundary-arcs.ensures ∙ ap (areaOf cs) r.region-boundary-arcs.ensures.0)
-    (w.accumulate-region-overlap-gradient.ensures ∙ ap (addGradient cs a.grad.now) r.region-boundary-arcs.ensures.0))
+    (ap₂ with_gradient
+    (c.area-from-boundary-arcs.ensures ∙ ap (area_of cs) r.region-boundary-arcs.ensures.0)
+    (w.accumulate-region-overlap-gradient.ensures ∙ ap (add_gradient cs a.grad.now) r.region-boundary-arcs.ensures.0))
 
 pub set-onto-spec : {M : Type 1} → statement M
 set-onto-spec =

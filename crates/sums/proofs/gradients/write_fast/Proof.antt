@@ -7,11 +7,11 @@ use native.Mathlib.Omega.{arith}
 use lib.Pow.{pow_mono}
 use Rattle.geometry.specs.declared.circle.Circle.{Circle}
 use Rattle.masks.specs.Presence.{stands}
-use Rattle.intersections.specs.Counted.{pointList}
+use Rattle.intersections.specs.Counted.{point_list}
 use Rattle.clip.specs.Gradient.{WithGradient}
-use Rattle.gaps.proofs.Circles.{circles-many}
+use Rattle.gaps.proofs.Circles.{circles_many}
 use Rattle.sums.specs.Walk.{Few}
-use Rattle.sums.specs.Gradients.{rowWith, areasTo, rows_to}
+use Rattle.sums.specs.Gradients.{row_with, areas_to, rows_to}
 use Rattle.sums.proofs.gradients.write_fast.Statement.{statement}
 use Rattle.sums.proofs.gradients.write_fast.Tie as tie
 
@@ -25,13 +25,13 @@ fill-heads-requires : tie.Need-fill-heads-requires
 fill-heads-requires c κs =
     let n = c.before.before.before.before.before.before.before in
     let s = n.before.before.before in (
-      (s.requires.0.0, subst (λ cs. Few cs (pointList s.args.points)) (sym n.Numbers-of.ensures) s.requires.0.1),
+      (s.requires.0.0, subst (λ cs. Few cs (point_list s.args.points)) (sym n.Numbers-of.ensures) s.requires.0.1),
       record {
-        counts-long = search rules;
-        owners-long = search rules;
-        phi-long = search rules;
-        adopters-long = search rules;
-        lets-long = search rules;
+        counts_long = search rules;
+        owners_long = search rules;
+        phi_long = search rules;
+        adopters_long = search rules;
+        lets_long = search rules;
       },
     )
 
@@ -45,7 +45,7 @@ write-marked-requires c κs =
       (s.requires.0.0, s.requires.1),
       (
         (w.wanted-heads.ensures.1 a.n-sets s.requires.1.0, (w.wanted-heads.ensures.0, n.Numbers-of.ensures)),
-        λ j h i. f.fill-heads.ensures.1.ready j (rw (circles-many _ a.n-sets) at h) i,
+        λ j h i. f.fill-heads.ensures.1.ready j (rw (circles_many _ a.n-sets) at h) i,
       ),
     )
 
@@ -56,14 +56,14 @@ returns c =
     let n = f.before.before.before.before.before.before.before.before in
     let s = n.before.before.before in
     let a = s.args in
-    let points = pointList a.points in
+    let points = point_list a.points in
     let wanted = stands a.wanted.now in
     let e = n.Numbers-of.ensures in
-    let row : List Circle → ℕ → WithGradient = λ cs. rowWith a.clipped a.bounds cs points a.width in
+    let row : List Circle → ℕ → WithGradient = λ cs. row_with a.clipped a.bounds cs points a.width in
     let both =
     m.write-marked.ensures points (subst (λ cs. Few cs points) (sym e) s.requires.0.1)
-    (λ j h i. f.fill-heads.ensures.1.marks j (rw (circles-many _ a.n-sets) at h) i) in (
-      both.0 ∙ ap (λ (cs : List Circle). areasTo wanted (row cs) a.count a.areas.now) e,
+    (λ j h i. f.fill-heads.ensures.1.marks j (rw (circles_many _ a.n-sets) at h) i) in (
+      both.0 ∙ ap (λ (cs : List Circle). areas_to wanted (row cs) a.count a.areas.now) e,
       both.1 ∙ ap (λ (cs : List Circle). rows_to wanted (row cs) a.width a.count a.gradients.now) e,
     )
 

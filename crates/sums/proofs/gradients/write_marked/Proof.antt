@@ -1,10 +1,10 @@
 -- `gradients::write_marked`: what is filled for all heads serves each row.
 use borrow.Author.Rules.{rules}
-use Rattle.masks.specs.Subset.{subset-head}
-use Rattle.gaps.specs.Gaps.{circlesIn}
-use Rattle.sums.proofs.Valuing.{ready-roomy}
-use Rattle.sums.proofs.Passing.{ready-less}
-use Rattle.sums.proofs.Sloping.{worth-with-less}
+use Rattle.masks.specs.Subset.{subset_head}
+use Rattle.gaps.specs.Gaps.{circles_in}
+use Rattle.sums.proofs.Valuing.{ready_roomy}
+use Rattle.sums.proofs.Passing.{ready_less}
+use Rattle.sums.proofs.Sloping.{worth_with_less}
 use Rattle.sums.proofs.gradients.write_marked.Statement.{statement}
 use Rattle.sums.proofs.gradients.write_marked.Tie as tie
 
@@ -17,7 +17,7 @@ fill-worth-requires c κs =
         (
           s.requires.1.0.0,
           (
-            ready-roomy a.c.now a.n-sets a.needed a.counts.now a.owners.now a.phi.now a.lets.now s.requires.1.1,
+            ready_roomy a.c.now a.n-sets a.needed a.counts.now a.owners.now a.phi.now a.lets.now s.requires.1.1,
             s.requires.1.0.1.1,
           ),
         ),
@@ -36,9 +36,9 @@ write-rows-requires c κs =
     let within = s.requires.1.0.1.0 in (
       s.requires.0,
       λ S h is. record {
-        ready = ready-less (circlesIn a.c.now a.n-sets) a.needed a.counts.now a.owners.now a.phi.now a.lets.now S
+        ready = ready_less (circles_in a.c.now a.n-sets) a.needed a.counts.now a.owners.now a.phi.now a.lets.now S
             (within S h is) s.requires.1.1;
-        worth = worth-with-less S (within S h is) f.fill-worth.ensures;
+        worth = worth_with_less S (within S h is) f.fill-worth.ensures;
       },
     )
 
@@ -48,7 +48,7 @@ returns c =
     let f = w.before.before.before.before.before.before.before.before.before.before.before.before.before.before in
     let s = f.before.before.before.before.before.before.before.before.before.before.before.before.before.before in
     let within = s.requires.1.0.1.0 in
-    λ points few marks. w.write-rows.ensures points few (λ S h is j k i. marks j k (subset-head S s.args.needed (within S h is) j i))
+    λ points few marks. w.write-rows.ensures points few (λ S h is j k i. marks j k (subset_head S s.args.needed (within S h is) j i))
 
 pub write-marked-spec : {M : Type 1} → statement M
 write-marked-spec = tie.close (tie.spec fill-worth-requires write-rows-requires (λ c. search rules) (λ c. search rules) returns)

@@ -8,18 +8,18 @@ use native.Mathlib.Omega.{arith}
 use borrow.Author.Tests.{eq-eqb, ne_eqb}
 use lib.ListN.{length, take, length-set}
 use Rattle.masks.specs.Presence.{stands}
-use Rattle.intersections.specs.Counted.{pointList}
+use Rattle.intersections.specs.Counted.{point_list}
 use Rattle.clip.specs.Gradient.{WithGradient}
-use Rattle.sums.specs.Gradients.{rowWith, areasTo, rows_to}
-use Rattle.sums.proofs.Laid.{none-laid, area-kept, row_kept, area-put, row_laid, part-many}
+use Rattle.sums.specs.Gradients.{row_with, areas_to, rows_to}
+use Rattle.sums.proofs.Laid.{none_laid, area_kept, row_kept, area_put, row_laid, part_many}
 use Rattle.sums.proofs.gradients.write_plain.Statement.{statement}
 use Rattle.sums.proofs.gradients.write_plain.Tie as tie
 
 abbrev invariant-loop : tie.invariant-loop
 invariant-loop clipped circles points n-sets bounds wanted width count areas₀ gradients₀ mask₀ areas gradients mask =
     (mask ≤ count) × (length areas ≡ length areas₀) × (length gradients ≡ length gradients₀)
-    × (areas ≡ areasTo (stands wanted) (rowWith clipped bounds (take n-sets circles) (pointList points) width) mask areas₀)
-    × (gradients ≡ rows_to (stands wanted) (rowWith clipped bounds (take n-sets circles) (pointList points) width) width mask gradients₀)
+    × (areas ≡ areas_to (stands wanted) (row_with clipped bounds (take n-sets circles) (point_list points) width) mask areas₀)
+    × (gradients ≡ rows_to (stands wanted) (row_with clipped bounds (take n-sets circles) (point_list points) width) width mask gradients₀)
 
 abbrev decreases-loop : tie.decreases-loop
 decreases-loop clipped circles points n-sets bounds wanted width count areas₀ gradients₀ mask₀ areas gradients mask = count - mask
@@ -29,13 +29,13 @@ entry c = c.before.before.before
 
 -- the row of each set
 abbrev row_of : tie.Start invariant-loop decreases-loop → ℕ → WithGradient
-row_of s = let a = s.args in rowWith a.clipped a.bounds (take a.n-sets a.circles) (pointList a.points) a.width
+row_of s = let a = s.args in row_with a.clipped a.bounds (take a.n-sets a.circles) (point_list a.points) a.width
 
 loop-holds : tie.Need-loop-init invariant-loop decreases-loop
 loop-holds c =
     let s = c.before.before in
     let a = s.args in
-    let none = none-laid (stands a.wanted.now) (row_of s) a.width a.areas.now a.gradients.now in
+    let none = none_laid (stands a.wanted.now) (row_of s) a.width a.areas.now a.gradients.now in
     (omega arith, refl, refl, none.0, none.1)
 
 -- the row has its place
@@ -83,16 +83,16 @@ loop-again c =
     let w = a.width in
     let wanted = stands a.wanted.now in
     let more : S < length a.areas.now = omega (arith, m.loop-test.true, s.pre.1.0) in
-    let many = part-many S w l.gradients (omega (arith, room m, i.2)) in
+    let many = part_many S w l.gradients (omega (arith, room m, i.2)) in
     ⊎_elim
     (λ t.
     let is = eq-eqb _ 1 t.0.taken in
     let er = t.2.ensures.0
-    ∙ ap (λ (k : ℕ). rowWith a.clipped a.bounds (take a.n-sets a.circles) (pointList a.points) k S) many in (
+    ∙ ap (λ (k : ℕ). row_with a.clipped a.bounds (take a.n-sets a.circles) (point_list a.points) k S) many in (
       omega (arith, m.loop-test.true),
       ap length t.5 ∙ length-set l.areas S _ ∙ i.1,
       ap length t.6 ∙ t.3.given.1 ∙ i.2,
-      t.5 ∙ area-put wanted (row_of s) w a.areas.now a.gradients.now S er is more l.areas i.3,
+      t.5 ∙ area_put wanted (row_of s) w a.areas.now a.gradients.now S er is more l.areas i.3,
       row_laid wanted (row_of s) w a.areas.now a.gradients.now S er is (room m) (t.2.ensures.1 ∙ many) l.gradients _
           i.4 t.6,
     ))
@@ -101,7 +101,7 @@ loop-again c =
       omega (arith, m.loop-test.true),
       rw t.1 i.1,
       rw t.2 i.2,
-      t.1 ∙ i.3 ∙ area-kept wanted (row_of s) w a.areas.now a.gradients.now S more none,
+      t.1 ∙ i.3 ∙ area_kept wanted (row_of s) w a.areas.now a.gradients.now S more none,
       t.2 ∙ i.4 ∙ row_kept wanted (row_of s) w a.areas.now a.gradients.now S (room m) none,
     ))
     c.if1.branch

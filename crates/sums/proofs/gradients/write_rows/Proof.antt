@@ -12,12 +12,12 @@ use lib.Pow.{pow_mono}
 use Rattle.masks.specs.Presence.{stands}
 use Rattle.intersections.specs.declared.points.IntersectionPoint.{IntersectionPoint}
 use Rattle.clip.specs.Gradient.{WithGradient}
-use Rattle.gaps.specs.Gaps.{circlesIn}
+use Rattle.gaps.specs.Gaps.{circles_in}
 use Rattle.sums.specs.Walk.{Few}
 use Rattle.sums.specs.Values.{MarksOf}
 use Rattle.sums.specs.Fast.{OfWanted}
-use Rattle.sums.specs.Gradients.{rowWith, areasTo, rows_to}
-use Rattle.sums.proofs.Laid.{none-laid, area-kept, row_kept, area-put, row_laid, part-many}
+use Rattle.sums.specs.Gradients.{row_with, areas_to, rows_to}
+use Rattle.sums.proofs.Laid.{none_laid, area_kept, row_kept, area_put, row_laid, part_many}
 use Rattle.sums.proofs.gradients.write_rows.Statement.{statement}
 use Rattle.sums.proofs.gradients.write_rows.Tie as tie
 
@@ -25,10 +25,10 @@ abbrev invariant-loop : tie.invariant-loop
 invariant-loop clipped wanted width count areas₀ gradients₀ c n-sets bounds counts owners phi adopters lets xs ys rs us vs ws first many stop
     reach low high list₀ mask₀ areas gradients list mask =
     (mask ≤ count) × (length list ≡ 320) × (length areas ≡ length areas₀) × (length gradients ≡ length gradients₀)
-    × ((points : List IntersectionPoint) → Few (circlesIn c n-sets) points
-    → OfWanted wanted count (λ S. MarksOf (circlesIn c n-sets) points S counts phi adopters)
-    → (areas ≡ areasTo (stands wanted) (rowWith clipped bounds (circlesIn c n-sets) points width) mask areas₀)
-    × (gradients ≡ rows_to (stands wanted) (rowWith clipped bounds (circlesIn c n-sets) points width) width mask gradients₀))
+    × ((points : List IntersectionPoint) → Few (circles_in c n-sets) points
+    → OfWanted wanted count (λ S. MarksOf (circles_in c n-sets) points S counts phi adopters)
+    → (areas ≡ areas_to (stands wanted) (row_with clipped bounds (circles_in c n-sets) points width) mask areas₀)
+    × (gradients ≡ rows_to (stands wanted) (row_with clipped bounds (circles_in c n-sets) points width) width mask gradients₀))
 
 abbrev decreases-loop : tie.decreases-loop
 decreases-loop clipped wanted width count areas₀ gradients₀ c n-sets bounds counts owners phi adopters lets xs ys rs us vs ws first many stop
@@ -39,7 +39,7 @@ entry c = c.before.before.before
 
 -- the row of each set
 abbrev row_of : tie.Start invariant-loop decreases-loop → List IntersectionPoint → ℕ → WithGradient
-row_of s points = let a = s.args in rowWith a.clipped a.bounds (circlesIn a.c.now a.n-sets) points a.width
+row_of s points = let a = s.args in row_with a.clipped a.bounds (circles_in a.c.now a.n-sets) points a.width
 
 loop-holds : tie.Need-loop-init invariant-loop decreases-loop
 loop-holds c =
@@ -49,7 +49,7 @@ loop-holds c =
       search rules,
       refl,
       refl,
-      λ points few marks. none-laid (stands a.wanted.now) (row_of s points) a.width a.areas.now a.gradients.now,
+      λ points few marks. none_laid (stands a.wanted.now) (row_of s points) a.width a.areas.now a.gradients.now,
     )
 
 -- the row has its place
@@ -123,7 +123,7 @@ loop-again c =
     let wanted = stands a.wanted.now in
     let test : S < a.count = m.loop-test.true in
     let more : S < length a.areas.now = omega (arith, test, s.pre.0.1.1.0) in
-    let many = part-many S w l.gradients (omega (arith, room m, i.3)) in
+    let many = part_many S w l.gradients (omega (arith, room m, i.3)) in
     ⊎_elim
     (λ t.
     let is = eq-eqb _ 1 t.0.taken in (
@@ -134,8 +134,8 @@ loop-again c =
       λ points few marks.
           let stood = i.4 points few marks in
           let er = t.3.ensures.1 points few (marks S test is)
-          ∙ ap (λ (k : ℕ). rowWith a.clipped a.bounds (circlesIn a.c.now a.n-sets) points k S) many in (
-            t.6 ∙ area-put wanted (row_of s points) w a.areas.now a.gradients.now S er is more l.areas stood.0,
+          ∙ ap (λ (k : ℕ). row_with a.clipped a.bounds (circles_in a.c.now a.n-sets) points k S) many in (
+            t.6 ∙ area_put wanted (row_of s points) w a.areas.now a.gradients.now S er is more l.areas stood.0,
             row_laid wanted (row_of s points) w a.areas.now a.gradients.now S er is (room m) (t.3.ensures.0.1 ∙ many)
                 l.gradients _ stood.1 t.7,
           ),
@@ -147,7 +147,7 @@ loop-again c =
       rw t.1 i.2,
       rw t.2 i.3,
       λ points few marks. (
-        t.1 ∙ (i.4 points few marks).0 ∙ area-kept wanted (row_of s points) w a.areas.now a.gradients.now S more none,
+        t.1 ∙ (i.4 points few marks).0 ∙ area_kept wanted (row_of s points) w a.areas.now a.gradients.now S more none,
         t.2 ∙ (i.4 points few marks).1 ∙ row_kept wanted (row_of s points) w a.areas.now a.gradients.now S (room m) none,
       ),
     ))

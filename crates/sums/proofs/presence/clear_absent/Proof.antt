@@ -9,11 +9,11 @@ use lib.Ieee.{Float, nan}
 use lib.ListN.{get_or, length}
 use Rattle.binary64.specs.Constants.{zero64}
 use Rattle.lists.specs.Written.{written}
-use Rattle.lists.proofs.Writing.{written_none, length-written, write-next, written-keep}
+use Rattle.lists.proofs.Writing.{written_none, length_written, write_next, written_keep}
 use Rattle.masks.specs.Presence.{stands}
 use Rattle.sums.specs.Rows.{rows_of}
 use Rattle.sums.specs.Presence.{among}
-use Rattle.sums.proofs.Bytes.{byte-own, byte-zero, byte-other}
+use Rattle.sums.proofs.Bytes.{byte_own, byte_zero, byte_other}
 use Rattle.sums.proofs.Counts.{row_below}
 use Rattle.sums.proofs.presence.clear_absent.Statement.{statement}
 use Rattle.sums.proofs.presence.clear_absent.Tie as tie
@@ -41,7 +41,7 @@ below c = let l = c.before.loop in row_below (entry c.before).args.n-sets _ _ l.
 same : (c : tie.At-loop invariant-loop decreases-loop) → length c.loop.areas ≡ length (entry c).args.areas.now
 same c =
     let i = c.loop.invariant in
-    ap length i.2 ∙ length-written (number_of (entry c)) c.loop.mask (entry c).args.areas.now (omega (arith, i.0, i.1))
+    ap length i.2 ∙ length_written (number_of (entry c)) c.loop.mask (entry c).args.areas.now (omega (arith, i.0, i.1))
 
 loop-holds : tie.Need-loop-init invariant-loop decreases-loop
 loop-holds c = (omega arith, c.row_count.ensures, written_none _ _)
@@ -69,14 +69,14 @@ loop-again c =
     let a = s.args in
     let there = among a.has-box (stands a.sets.now) l.mask in
     let stood = get_or a.areas.now l.mask nan in
-    let is = c.before.row-byte.ensures ∙ byte-own a.has-box (stands a.sets.now) l.mask in (
+    let is = c.before.row-byte.ensures ∙ byte_own a.has-box (stands a.sets.now) l.mask in (
       omega (arith, m.loop-test.true),
       l.invariant.1,
       ⊎_elim
-          (λ w. w.1 ∙ rw l.invariant.2 (write-next (number_of s) l.mask a.areas.now zero64 nan (below m).1
-          (byte-zero there stood zero64 (sym is ∙ w.0.taken))))
-          (λ w. w.1 ∙ l.invariant.2 ∙ written-keep (number_of s) l.mask a.areas.now nan (below m).1
-          (byte-other there stood zero64 (λ e. w.0.left (is ∙ e))))
+          (λ w. w.1 ∙ rw l.invariant.2 (write_next (number_of s) l.mask a.areas.now zero64 nan (below m).1
+          (byte_zero there stood zero64 (sym is ∙ w.0.taken))))
+          (λ w. w.1 ∙ l.invariant.2 ∙ written_keep (number_of s) l.mask a.areas.now nan (below m).1
+          (byte_other there stood zero64 (λ e. w.0.left (is ∙ e))))
           c.if1.branch,
     )
 

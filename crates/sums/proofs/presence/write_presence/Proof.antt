@@ -5,11 +5,11 @@ use Prim.Native.Nat.{ℕ, min, ◌-◌, ◌≤◌, ◌<◌}
 use native.Mathlib.Omega.{arith}
 use lib.ListN.{length}
 use Rattle.lists.specs.Written.{written}
-use Rattle.lists.proofs.Writing.{written_none, length-written, write-next}
+use Rattle.lists.proofs.Writing.{written_none, length_written, write_next}
 use Rattle.masks.specs.Presence.{byte, stands}
 use Rattle.sums.specs.Rows.{rows_of}
 use Rattle.sums.specs.Presence.{among}
-use Rattle.sums.proofs.Bytes.{byte-own}
+use Rattle.sums.proofs.Bytes.{byte_own}
 use Rattle.sums.proofs.Counts.{row_below}
 use Rattle.sums.proofs.presence.write_presence.Statement.{statement}
 use Rattle.sums.proofs.presence.write_presence.Tie as tie
@@ -37,7 +37,7 @@ below c = let l = c.before.loop in row_below (entry c.before).args.n-sets _ _ l.
 same : (c : tie.At-loop invariant-loop decreases-loop) → length c.loop.presence ≡ length (entry c).args.presence.now
 same c =
     let i = c.loop.invariant in
-    ap length i.2 ∙ length-written (byte_of (entry c)) c.loop.mask (entry c).args.presence.now (omega (arith, i.0, i.1))
+    ap length i.2 ∙ length_written (byte_of (entry c)) c.loop.mask (entry c).args.presence.now (omega (arith, i.0, i.1))
 
 loop-holds : tie.Need-loop-init invariant-loop decreases-loop
 loop-holds c = (omega arith, c.row_count.ensures, written_none _ _)
@@ -62,8 +62,8 @@ loop-again c =
     let a = s.args in (
       omega (arith, m.loop-test.true),
       l.invariant.1,
-      rw l.invariant.2 (write-next (byte_of s) l.mask a.presence.now _ 0 (below m).1
-          (c.row-byte.ensures ∙ byte-own a.has-box (stands a.sets.now) l.mask)),
+      rw l.invariant.2 (write_next (byte_of s) l.mask a.presence.now _ 0 (below m).1
+          (c.row-byte.ensures ∙ byte_own a.has-box (stands a.sets.now) l.mask)),
     )
 
 returns : tie.Need-returns invariant-loop decreases-loop

@@ -1,10 +1,10 @@
 -- `row::clipped_row`: the arcs that the walk lists, then the edges.
 use borrow.Author.Rules.{rules}
 use mathlib.Core.Path.{sym, ◌∙◌}
-use Rattle.gaps.specs.Gaps.{circlesIn}
-use Rattle.gaps.proofs.Circles.{circles-many}
+use Rattle.gaps.specs.Gaps.{circles_in}
+use Rattle.gaps.proofs.Circles.{circles_many}
 use Rattle.sums.proofs.Edging.{edges_are}
-use Rattle.sums.proofs.Valuing.{all_known, area-of-none, ready-roomy, row-in-box}
+use Rattle.sums.proofs.Valuing.{all_known, area_of_none, ready_roomy, row_in_box}
 use Rattle.sums.proofs.row.clipped_row.Statement.{statement}
 use Rattle.sums.proofs.row.clipped_row.Tie as tie
 
@@ -12,7 +12,7 @@ returns : tie.Need-returns
 returns c =
     let s = c.before.before in
     let a = s.args in
-    (s.requires.0.1.1, λ points few marks. area-of-none a.bounds (circlesIn a.c.now a.n-sets) points a.mask (sym c.before.empty-box.ensures ∙ c.if1.true))
+    (s.requires.0.1.1, λ points few marks. area_of_none a.bounds (circles_in a.c.now a.n-sets) points a.mask (sym c.before.empty-box.ensures ∙ c.if1.true))
 
 walk-requires : tie.Need-walk-requires
 walk-requires c κs = let s = c.before.before.before in (s.requires.0, s.requires.1.0)
@@ -23,7 +23,7 @@ add-integrals-requires c κs =
     let s = w.before.before.before.before in
     let a = s.args in
     let listing = w.walk.ensures.1 in
-    let roomy = ready-roomy a.c.now a.n-sets a.mask a.counts.now a.owners.now a.phi.now a.lets.now s.requires.1.0 in (
+    let roomy = ready_roomy a.c.now a.n-sets a.mask a.counts.now a.owners.now a.phi.now a.lets.now s.requires.1.0 in (
       (s.requires.0.0, (w.walk.ensures.0, listing.long)),
       all_known a.n-sets a.mask a.counts.now s.requires.0.0 roomy _ a.value.now s.requires.1.1.0 listing,
     )
@@ -35,13 +35,13 @@ returns-2 c =
     let e = w.before.before in
     let s = e.before.before in
     let a = s.args in
-    let cs = circlesIn a.c.now a.n-sets in
+    let cs = circles_in a.c.now a.n-sets in
     let listing = w.walk.ensures.1 in (
       listing.long,
-      λ points few marks. row-in-box a.c.now a.n-sets points a.mask a.counts.now a.phi.now a.adopters.now s.requires.0.0 s.requires.0.1.0 few marks
+      λ points few marks. row_in_box a.c.now a.n-sets points a.mask a.counts.now a.phi.now a.adopters.now s.requires.0.0 s.requires.0.1.0 few marks
           listing a.bounds (sym e.before.empty-box.ensures ∙ e.if1.false) i.add-integrals.ensures
           (c.add-edges.ensures
-          ∙ edges_are a.bounds cs a.n-sets a.mask a.reach.now a.low.now a.high.now (circles-many a.c.now a.n-sets) s.requires.0.0
+          ∙ edges_are a.bounds cs a.n-sets a.mask a.reach.now a.low.now a.high.now (circles_many a.c.now a.n-sets) s.requires.0.0
           s.requires.0.1.0 s.requires.1.1.1 _),
     )
 

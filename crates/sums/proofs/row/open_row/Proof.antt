@@ -1,5 +1,5 @@
 -- `row::open_row`: the arcs that the walk lists.
-use Rattle.sums.proofs.Valuing.{three-known, ready-roomy, row_open}
+use Rattle.sums.proofs.Valuing.{three_known, ready_roomy, row_open}
 use Rattle.sums.proofs.row.open_row.Statement.{statement}
 use Rattle.sums.proofs.row.open_row.Tie as tie
 
@@ -12,9 +12,9 @@ add-terms-requires c κs =
     let s = w.before.before in
     let a = s.args in
     let listing = w.walk.ensures.1 in
-    let roomy = ready-roomy a.c.now a.n-sets a.mask a.counts.now a.owners.now a.phi.now a.lets.now s.requires.1.0 in (
+    let roomy = ready_roomy a.c.now a.n-sets a.mask a.counts.now a.owners.now a.phi.now a.lets.now s.requires.1.0 in (
       (s.requires.0.0, (w.walk.ensures.0, listing.long)),
-      three-known a.n-sets a.mask s.requires.0.0 roomy s.requires.1.1 listing,
+      three_known a.n-sets a.mask s.requires.0.0 roomy s.requires.1.1 listing,
     )
 
 returns : tie.Need-returns

@@ -3,8 +3,8 @@ use borrow.Author.Rules.{rules}
 use Prim.Native.Nat.{◌≤◌}
 use native.Mathlib.Omega.{arith}
 use Rattle.sums.specs.Values.{Roomy}
-use Rattle.sums.proofs.Valuing.{three-known, ready-roomy}
-use Rattle.sums.proofs.Sloping.{every_first, row-open-with}
+use Rattle.sums.proofs.Valuing.{three_known, ready_roomy}
+use Rattle.sums.proofs.Sloping.{every_first, row_open_with}
 use Rattle.sums.proofs.row.open_row_with_gradient.Statement.{statement}
 use Rattle.sums.proofs.row.open_row_with_gradient.Tie as tie
 
@@ -20,7 +20,7 @@ roomy : (f : tie.After-first-arcs) → let a = (entry f).args in Roomy a.n-sets 
 roomy f =
     let s = entry f in
     let a = s.args in
-    ready-roomy a.c.now a.n-sets a.mask a.counts.now a.owners.now a.phi.now a.lets.now s.pre.1.0
+    ready_roomy a.c.now a.n-sets a.mask a.counts.now a.owners.now a.phi.now a.lets.now s.pre.1.0
 
 walk-requires : tie.Need-walk-requires
 walk-requires c κs = let s = c.before.before in (s.requires.0, s.requires.1.0)
@@ -32,7 +32,7 @@ add-slopes-requires c κs =
     let w = f.before.walk in (
       (s.pre.0.0, (fits f, w.ensures.1.long)),
       every_first _ w.result f.first-arcs.result _ f.first-arcs.ensures
-          (three-known s.args.n-sets s.args.mask s.pre.0.0 (roomy f) s.pre.1.1.1 w.ensures.1),
+          (three_known s.args.n-sets s.args.mask s.pre.0.0 (roomy f) s.pre.1.1.1 w.ensures.1),
     )
 
 add-terms-requires : tie.Need-add-terms-requires
@@ -42,7 +42,7 @@ add-terms-requires c κs =
     let w = f.before.walk in (
       (s.pre.0.0, (fits f, w.ensures.1.long)),
       every_first _ w.result f.first-arcs.result _ f.first-arcs.ensures
-          (three-known s.args.n-sets s.args.mask s.pre.0.0 (roomy f) s.pre.1.1.0 w.ensures.1),
+          (three_known s.args.n-sets s.args.mask s.pre.0.0 (roomy f) s.pre.1.1.0 w.ensures.1),
     )
 
 returns : tie.Need-returns
@@ -54,7 +54,7 @@ returns c =
     let listing = f.before.walk.ensures.1 in (
       listing.long,
       λ points few marks.
-          row-open-with a.c.now a.n-sets points a.mask a.counts.now a.phi.now a.adopters.now
+          row_open_with a.c.now a.n-sets points a.mask a.counts.now a.phi.now a.adopters.now
           s.pre.0.0 s.pre.0.1.0 few marks listing a.grad.now f.first-arcs.ensures
           c.add-terms.ensures sl.add-slopes.ensures,
     )

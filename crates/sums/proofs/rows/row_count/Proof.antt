@@ -3,14 +3,14 @@ use mathlib.Core.Path.{◌≡◌, ap, ◌∙◌}
 use Prim.Native.Nat.{ℕ, ◌^◌}
 use native.Mathlib.Omega.{arith}
 use Rattle.masks.specs.Mask.{shifted}
-use Rattle.masks.specs.Operations.{shifted-is}
+use Rattle.masks.specs.Operations.{shifted_is}
 use Rattle.sums.specs.Rows.{rows_of}
 use Rattle.sums.proofs.rows.row_count.Statement.{statement}
 use Rattle.sums.proofs.rows.row_count.Tie as tie
 
 -- as many rows as the circles that count have
 rows : (c : tie.After-at-most-ten) → shifted 64 c.at-most-ten.result ≡ rows_of c.before.args.n-sets
-rows c = let few = c.at-most-ten.ensures in shifted-is 64 c.at-most-ten.result (omega arith) ∙ ap (λ (n : ℕ). 2 ^ n) few
+rows c = let few = c.at-most-ten.ensures in shifted_is 64 c.at-most-ten.result (omega arith) ∙ ap (λ (n : ℕ). 2 ^ n) few
 
 returns : tie.Need-returns
 returns c = omega (arith, rows c.before, c.if1.true)

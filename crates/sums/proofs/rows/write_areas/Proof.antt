@@ -10,18 +10,18 @@ use lib.Dec.{eqb, ltb}
 use lib.ListN.{length, take, get_or, set, length-take, length-set}
 use lib.Seq.{get_or-take, take_all}
 use lib.Ieee.{Float, nan}
-use Rattle.lists.proofs.Arrays.{length-of-values}
+use Rattle.lists.proofs.Arrays.{length_of_values}
 use mathlib.Core.List.{List}
 use Prim.Native.Nat.{min}
 use Rattle.geometry.specs.declared.circle.Circle.{Circle}
 use Rattle.lists.specs.Written.{written}
-use Rattle.lists.proofs.Arrays.{capped-take}
+use Rattle.lists.proofs.Arrays.{capped_take}
 use Rattle.masks.specs.Presence.{stands}
-use Rattle.intersections.specs.Counted.{pointList}
+use Rattle.intersections.specs.Counted.{point_list}
 use Rattle.intersections.specs.Members.{members_of}
-use Rattle.sums.specs.Rows.{areaOf, number_at}
-use Rattle.sums.specs.Walk.{fewPoints}
-use Rattle.sums.proofs.Collected.{few-means}
+use Rattle.sums.specs.Rows.{area_of, number_at}
+use Rattle.sums.specs.Walk.{few_points}
+use Rattle.sums.proofs.Collected.{few_means}
 use Rattle.sums.proofs.rows.write_areas.Statement.{statement}
 use Rattle.sums.proofs.rows.write_areas.Tie as tie
 
@@ -31,12 +31,12 @@ write-fast-requires c κs =
     let t = f.before in
     let s = t.before.before in
     let a = s.args in
-    let ten : length a.circles ≡ 10 = search length-of-values in
+    let ten : length a.circles ≡ 10 = search length_of_values in
     let n : ℕ = min a.n-sets 10 in
     let whole : length (take n a.circles) ≡ n = omega (arith, length-take n a.circles, ten) in
-    let few : fewPoints n (pointList a.points) ≡ true = ap (λ (m : ℕ). fewPoints m (pointList a.points)) (sym t.at-most-ten.ensures) ∙ sym f.few.ensures ∙ c.before.if1.true in (
+    let few : few_points n (point_list a.points) ≡ true = ap (λ (m : ℕ). few_points m (point_list a.points)) (sym t.at-most-ten.ensures) ∙ sym f.few.ensures ∙ c.before.if1.true in (
       omega (arith, t.at-most-ten.ensures),
-      rw t.at-most-ten.ensures (few-means (take n a.circles) (pointList a.points) (ap (λ (m : ℕ). fewPoints m (pointList a.points)) whole ∙ few)),
+      rw t.at-most-ten.ensures (few_means (take n a.circles) (point_list a.points) (ap (λ (m : ℕ). few_points m (point_list a.points)) whole ∙ few)),
     )
 
 returns : tie.Need-returns
@@ -45,12 +45,12 @@ returns c =
     let t = w.before.before.before.before in
     let s = t.before.before in
     let a = s.args in
-    let ten : length a.circles ≡ 10 = search length-of-values in
-    let points = pointList a.points in
+    let ten : length a.circles ≡ 10 = search length_of_values in
+    let points = point_list a.points in
     let done : List Circle → ℕ → List Float =
-    λ cs k. written (number_at (stands a.wanted.now) (λ S. areaOf a.clipped a.bounds (members_of cs points S)) a.areas.now)
+    λ cs k. written (number_at (stands a.wanted.now) (λ S. area_of a.clipped a.bounds (members_of cs points S)) a.areas.now)
     (min (2 ^ k) (length a.areas.now)) a.areas.now in
-    let same : take (min a.n-sets 10) a.circles ≡ take a.n-sets a.circles = capped-take a.circles a.n-sets 10 ten in
+    let same : take (min a.n-sets 10) a.circles ≡ take a.n-sets a.circles = capped_take a.circles a.n-sets 10 ten in
     let once : min (min a.n-sets 10) 10 ≡ min a.n-sets 10 = omega arith in
     w.write-fast.ensures ∙ ap (λ (m : ℕ). done (take m a.circles) (min m 10)) t.at-most-ten.ensures
     ∙ ap (λ cs. done cs (min (min a.n-sets 10) 10)) same ∙ ap (done (take a.n-sets a.circles)) once

@@ -9,11 +9,11 @@ use borrow.Author.Tests.{eq-eqb, ne_eqb}
 use lib.Ieee.{Float, nan}
 use lib.ListN.{get_or, length, take}
 use Rattle.lists.specs.Written.{written}
-use Rattle.lists.proofs.Writing.{written_none, length-written, write-next, written-keep}
+use Rattle.lists.proofs.Writing.{written_none, length_written, write_next, written_keep}
 use Rattle.masks.specs.Presence.{stands}
-use Rattle.intersections.specs.Counted.{pointList}
+use Rattle.intersections.specs.Counted.{point_list}
 use Rattle.intersections.specs.Members.{members_of}
-use Rattle.sums.specs.Rows.{areaOf, rows_of, number_at}
+use Rattle.sums.specs.Rows.{area_of, rows_of, number_at}
 use Rattle.sums.proofs.Counts.{row_below}
 use Rattle.sums.proofs.rows.write_plain.Statement.{statement}
 use Rattle.sums.proofs.rows.write_plain.Tie as tie
@@ -22,7 +22,7 @@ abbrev invariant-loop : tie.invariant-loop
 invariant-loop clipped circles points n-sets bounds wanted areas₀ count mask₀ areas mask =
     (mask ≤ count) × (count ≡ min (rows_of n-sets) (length areas₀))
     × (areas
-    ≡ written (number_at (stands wanted) (λ S. areaOf clipped bounds (members_of (take n-sets circles) (pointList points) S)) areas₀) mask areas₀)
+    ≡ written (number_at (stands wanted) (λ S. area_of clipped bounds (members_of (take n-sets circles) (point_list points) S)) areas₀) mask areas₀)
 
 abbrev decreases-loop : tie.decreases-loop
 decreases-loop clipped circles points n-sets bounds wanted areas₀ count mask₀ areas mask = count - mask
@@ -34,7 +34,7 @@ entry c = c.before.before.before
 abbrev number_of : tie.Start invariant-loop decreases-loop → ℕ → Float
 number_of s =
     let a = s.args in
-    number_at (stands a.wanted.now) (λ S. areaOf a.clipped a.bounds (members_of (take a.n-sets a.circles) (pointList a.points) S))
+    number_at (stands a.wanted.now) (λ S. area_of a.clipped a.bounds (members_of (take a.n-sets a.circles) (point_list a.points) S))
     a.areas.now
 
 below : (c : tie.In-loop invariant-loop decreases-loop)
@@ -45,7 +45,7 @@ below c = let l = c.before.loop in row_below (entry c.before).args.n-sets _ _ l.
 same : (c : tie.At-loop invariant-loop decreases-loop) → length c.loop.areas ≡ length (entry c).args.areas.now
 same c =
     let i = c.loop.invariant in
-    ap length i.2 ∙ length-written (number_of (entry c)) c.loop.mask (entry c).args.areas.now (omega (arith, i.0, i.1))
+    ap length i.2 ∙ length_written (number_of (entry c)) c.loop.mask (entry c).args.areas.now (omega (arith, i.0, i.1))
 
 loop-holds : tie.Need-loop-init invariant-loop decreases-loop
 loop-holds c = (omega arith, c.row_count.ensures, written_none _ _)
@@ -71,14 +71,14 @@ loop-again c =
     let l = m.before.loop in
     let a = (entry m.before).args in
     let f = number_of (entry m.before) in
-    let area : Float = areaOf a.clipped a.bounds (members_of (take a.n-sets a.circles) (pointList a.points) l.mask) in
+    let area : Float = area_of a.clipped a.bounds (members_of (take a.n-sets a.circles) (point_list a.points) l.mask) in
     let stood = get_or a.areas.now l.mask nan in (
       omega (arith, m.loop-test.true),
       l.invariant.1,
       ⊎_elim
-          (λ w. w.2 ∙ rw l.invariant.2 (write-next f l.mask a.areas.now _ nan (below m).1
+          (λ w. w.2 ∙ rw l.invariant.2 (write_next f l.mask a.areas.now _ nan (below m).1
           (w.1.ensures ∙ sym (ap (λ (b : Bool). cond b area stood) (eq-eqb _ 1 w.0.taken)))))
-          (λ w. w.1 ∙ l.invariant.2 ∙ written-keep f l.mask a.areas.now nan (below m).1
+          (λ w. w.1 ∙ l.invariant.2 ∙ written_keep f l.mask a.areas.now nan (below m).1
           (ap (λ (b : Bool). cond b area stood) (ne_eqb _ 1 w.0.left)))
           c.if1.branch,
     )

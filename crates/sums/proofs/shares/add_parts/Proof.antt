@@ -5,19 +5,19 @@ use mathlib.Core.List.{foldl}
 use Prim.Native.Nat.{◌-◌, ◌≤◌}
 use native.Mathlib.Omega.{arith}
 use lib.ListN.{length, take}
-use Rattle.lists.proofs.Folds.{fold-suc}
+use Rattle.lists.proofs.Folds.{fold_suc}
 use Rattle.binary64.specs.Constants.{zero64}
-use Rattle.clip.specs.Gradient.{with-gradient}
-use Rattle.gaps.specs.Gaps.{circlesIn}
-use Rattle.sums.specs.Slopes.{addPartsAt}
-use Rattle.sums.proofs.Valuing.{every-listed}
+use Rattle.clip.specs.Gradient.{with_gradient}
+use Rattle.gaps.specs.Gaps.{circles_in}
+use Rattle.sums.specs.Slopes.{add_parts_at}
+use Rattle.sums.proofs.Valuing.{every_listed}
 use Rattle.sums.proofs.shares.add_parts.Statement.{statement}
 use Rattle.sums.proofs.shares.add_parts.Tie as tie
 
 abbrev invariant-loop : tie.invariant-loop
 invariant-loop grad₀ list k c n-sets bounds counts phi stop first many sums xs ys rs total₀ i₀ grad total i =
     (length list ≡ 320) × (i ≤ k) × (length grad ≡ length grad₀)
-    × (with-gradient total grad ≡ foldl (addPartsAt bounds (circlesIn c n-sets) counts phi) (with-gradient zero64 grad₀) (take i list))
+    × (with_gradient total grad ≡ foldl (add_parts_at bounds (circles_in c n-sets) counts phi) (with_gradient zero64 grad₀) (take i list))
 
 abbrev decreases-loop : tie.decreases-loop
 decreases-loop grad₀ list k c n-sets bounds counts phi stop first many sums xs ys rs total₀ i₀ grad total i = k - i
@@ -31,7 +31,7 @@ add-parts-at-requires c κs =
     let s = d.before.before.before in
     let a = s.args in
     let i = d.before.loop.i in
-    (s.requires.0.0, every-listed _ a.k a.list.now i (omega arith) (omega arith) s.requires.1)
+    (s.requires.0.0, every_listed _ a.k a.list.now i (omega arith) (omega arith) s.requires.1)
 
 loop-again : tie.Need-loop-preserved invariant-loop decreases-loop
 loop-again c =
@@ -43,7 +43,7 @@ loop-again c =
       omega arith,
       t.add-parts-at.auto.1.0 ∙ l.invariant.2,
       t.add-parts-at.ensures
-          ∙ rw l.invariant.3 (fold-suc (addPartsAt a.bounds (circlesIn a.c.now a.n-sets) a.counts.now a.phi.now) (with-gradient zero64 a.grad.now) a.list.now l.i 0 (omega arith)),
+          ∙ rw l.invariant.3 (fold_suc (add_parts_at a.bounds (circles_in a.c.now a.n-sets) a.counts.now a.phi.now) (with_gradient zero64 a.grad.now) a.list.now l.i 0 (omega arith)),
     )
 
 returns : tie.Need-returns invariant-loop decreases-loop

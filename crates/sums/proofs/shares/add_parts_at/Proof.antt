@@ -3,8 +3,8 @@ use borrow.Author.Rules.{rules}
 use mathlib.Core.Path.{◌∙◌}
 use Prim.Native.Nat.{◌≤◌, ◌<◌}
 use native.Mathlib.Omega.{arith}
-use Rattle.gaps.proofs.Circles.{circle-first}
-use Rattle.sums.proofs.Sloping.{full_is, held-is}
+use Rattle.gaps.proofs.Circles.{circle_first}
+use Rattle.sums.proofs.Sloping.{full_is, held_is}
 use Rattle.sums.proofs.shares.add_parts_at.Statement.{statement}
 use Rattle.sums.proofs.shares.add_parts_at.Tie as tie
 
@@ -35,7 +35,7 @@ returns c =
     let h = i.before in
     let s = h.before.before in
     let a = s.args in
-    held-is (s.requires.1.held i.if1.true) a.total a.grad.now (t.add-shares.ensures ∙ rw h.head_of.ensures)
+    held_is (s.requires.1.held i.if1.true) a.total a.grad.now (t.add-shares.ensures ∙ rw h.head_of.ensures)
 
 arc-at-requires : tie.Need-arc-at-requires
 arc-at-requires c κs = c.before.before.before.before.requires.1.readable
@@ -49,7 +49,7 @@ returns-2 c =
     let s = h.before.before in
     let a = s.args in
     full_is a.bounds a.c.now a.n-sets a.counts.now a.phi.now a.place s.requires.1.below
-    (q.circle-at.ensures ∙ circle-first a.c.now h.head_of.ensures (omega (arith, s.requires.0, s.requires.1.below))) k.arc-at.ensures s.requires.0 a.total a.grad.now
+    (q.circle-at.ensures ∙ circle_first a.c.now h.head_of.ensures (omega (arith, s.requires.0, s.requires.1.below))) k.arc-at.ensures s.requires.0 a.total a.grad.now
     t.head-arc-integral-with-gradient.ensures
 
 pub add-parts-at-spec : {M : Type 1} → statement M

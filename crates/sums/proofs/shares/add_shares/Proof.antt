@@ -4,13 +4,13 @@ use mathlib.Core.Path.{◌≡◌, refl, sym, ◌∙◌}
 use Prim.Native.Nat.{◌+◌, ◌-◌, ◌≤◌, ◌<◌}
 use native.Mathlib.Omega.{arith}
 use lib.ListN.{length}
-use Rattle.sums.specs.Slopes.{sharesFrom}
-use Rattle.sums.proofs.Sloping.{shares-none, shares-next}
+use Rattle.sums.specs.Slopes.{shares_from}
+use Rattle.sums.proofs.Sloping.{shares_none, shares_next}
 use Rattle.sums.proofs.shares.add_shares.Statement.{statement}
 use Rattle.sums.proofs.shares.add_shares.Tie as tie
 
 abbrev invariant-loop : tie.invariant-loop
-invariant-loop grad₀ off from many xs ys rs m₀ grad m = (m ≤ many) × (length grad ≡ length grad₀) × (grad ≡ sharesFrom off xs ys rs from m grad₀)
+invariant-loop grad₀ off from many xs ys rs m₀ grad m = (m ≤ many) × (length grad ≡ length grad₀) × (grad ≡ shares_from off xs ys rs from m grad₀)
 
 abbrev decreases-loop : tie.decreases-loop
 decreases-loop grad₀ off from many xs ys rs m₀ grad m = many - m
@@ -18,7 +18,7 @@ decreases-loop grad₀ off from many xs ys rs m₀ grad m = many - m
 loop-holds : tie.Need-loop-init invariant-loop decreases-loop
 loop-holds c =
     let a = c.before.args in
-    (omega arith, refl, sym (shares-none a.off a.xs.now a.ys.now a.rs.now a.from a.grad.now))
+    (omega arith, refl, sym (shares_none a.off a.xs.now a.ys.now a.rs.now a.from a.grad.now))
 
 -- the place is one of 640
 low : (c : tie.In-loop invariant-loop decreases-loop) → c.before.before.before.args.from + c.before.loop.m < 640
@@ -41,7 +41,7 @@ loop-again c =
     let a = d.before.before.before.args in (
       omega (arith, d.loop-test.true),
       t.add-three-at.auto.0 ∙ l.invariant.1,
-      t.add-three-at.ensures ∙ rw l.invariant.2 (sym (shares-next a.off a.xs.now a.ys.now a.rs.now a.from l.m a.grad.now)),
+      t.add-three-at.ensures ∙ rw l.invariant.2 (sym (shares_next a.off a.xs.now a.ys.now a.rs.now a.from l.m a.grad.now)),
     )
 
 returns : tie.Need-returns invariant-loop decreases-loop

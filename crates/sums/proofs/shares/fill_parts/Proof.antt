@@ -5,18 +5,18 @@ use mathlib.Core.Bool.{true, false, true≢false}
 use Prim.Native.Nat.{ℕ, ◌-◌, ◌≤◌, ◌<◌}
 use native.Mathlib.Omega.{arith}
 use lib.ListN.{length, length-set}
-use Rattle.gaps.specs.Gaps.{circlesIn}
-use Rattle.gaps.proofs.Circles.{circle-first}
+use Rattle.gaps.specs.Gaps.{circles_in}
+use Rattle.gaps.proofs.Circles.{circle_first}
 use Rattle.sums.specs.Values.{standing}
-use Rattle.sums.proofs.Valuing.{standing-below, standing-readable}
-use Rattle.sums.proofs.Sloping.{PartsTo, parts_none, parts-jump, parts-put, parts_all, put_is}
+use Rattle.sums.proofs.Valuing.{standing_below, standing_readable}
+use Rattle.sums.proofs.Sloping.{PartsTo, parts_none, parts_jump, parts_put, parts_all, put_is}
 use Rattle.sums.proofs.shares.fill_parts.Statement.{statement}
 use Rattle.sums.proofs.shares.fill_parts.Tie as tie
 
 abbrev invariant-loop : tie.invariant-loop
 invariant-loop c n-sets bounds needed counts phi first₀ many₀ sums₀ xs₀ ys₀ rs₀ used₀ p₀ first many sums xs ys rs used p =
     (length first ≡ 330) × (length many ≡ 330) × (length sums ≡ 330) × (length xs ≡ 640) × (length ys ≡ 640) × (length rs ≡ 640) × (p ≤ 330) × (used ≤ 640)
-    × PartsTo bounds (circlesIn c n-sets) needed counts phi first many sums xs ys rs used p
+    × PartsTo bounds (circles_in c n-sets) needed counts phi first many sums xs ys rs used p
 
 abbrev decreases-loop : tie.decreases-loop
 decreases-loop c n-sets bounds needed counts phi first₀ many₀ sums₀ xs₀ ys₀ rs₀ used₀ p₀ first many sums xs ys rs used p = 330 - p
@@ -37,7 +37,7 @@ arc-at-requires c κs =
     let s = d.before.before in
     let a = s.args in
     let is = sym i.is-standing.ensures ∙ c.before.before.if2.true in
-    standing-readable a.n-sets a.needed a.counts.now s.requires.0.1.0 s.requires.0.1.1 d.before.loop.p d.loop-test.true is
+    standing_readable a.n-sets a.needed a.counts.now s.requires.0.1.0 s.requires.0.1.1 d.before.loop.p d.loop-test.true is
 
 put-parts-requires : tie.Need-put-parts-requires invariant-loop decreases-loop
 put-parts-requires c κs =
@@ -66,8 +66,8 @@ loop-again c =
     let l = d.before.loop in
     let i = l.invariant in
     let is = sym w.is-standing.ensures ∙ t.if2.true in
-    let head = standing-below a.n-sets a.needed a.counts.now s.requires.0.1.0 s.requires.0.1.1 l.p d.loop-test.true is in
-    let circle = q.circle-at.ensures ∙ circle-first a.c.now h.head_of.ensures (omega (arith, head, s.requires.0.0)) in
+    let head = standing_below a.n-sets a.needed a.counts.now s.requires.0.1.0 s.requires.0.1.1 l.p d.loop-test.true is in
+    let circle = q.circle-at.ensures ∙ circle_first a.c.now h.head_of.ensures (omega (arith, head, s.requires.0.0)) in
     let put = pp.put-parts.ensures in
     let kept = put.1.1.0 in (
       length-set l.first l.p _ ∙ i.0,
@@ -78,7 +78,7 @@ loop-again c =
       put.1.0.1.1,
       omega (arith, d.loop-test.true),
       omega (arith, put.0, e.if1.false),
-      parts-put i.8 _ _ _ _ _ (omega (arith, i.0, d.loop-test.true)) (omega (arith, i.1, d.loop-test.true)) (omega (arith, i.2, d.loop-test.true))
+      parts_put i.8 _ _ _ _ _ (omega (arith, i.0, d.loop-test.true)) (omega (arith, i.1, d.loop-test.true)) (omega (arith, i.2, d.loop-test.true))
           (omega (arith, put.0, e.if1.false)) (λ r b. (kept r b).0) (λ r b. (kept r b).1.0) (λ r b. (kept r b).1.1)
           (put_is a.bounds a.c.now a.n-sets a.counts.now a.phi.now l.p head circle k.arc-at.ensures _ _ _ _ _ _ put.1.1.1),
     )
@@ -95,7 +95,7 @@ loop-again-2 c =
     let a = d.before.before.args in
     let none : (q : ℕ) → l.p ≤ q → q < _ → standing a.needed a.counts.now q ≡ true → ⊥ =
     λ q h k is. true≢false (sym is ∙ c.past.ensures.1 a.needed a.counts.now (sym w.is-standing.ensures ∙ c.before.if2.false) q h k) in
-    (i.0, i.1, i.2, i.3, i.4, i.5, omega (arith, c.past.ensures.0.1), i.7, parts-jump i.8 none)
+    (i.0, i.1, i.2, i.3, i.4, i.5, omega (arith, c.past.ensures.0.1), i.7, parts_jump i.8 none)
 
 returns-2 : tie.Need-returns-2 invariant-loop decreases-loop
 returns-2 c =

@@ -6,16 +6,16 @@ use Prim.Native.Nat.{◌+◌, ◌*◌, ◌-◌, ◌≤◌}
 use native.Mathlib.Omega.{arith}
 use lib.ListN.{length, length-take}
 use Rattle.inside.specs.Breaks.{breaks}
-use Rattle.clip.specs.Gradient.{clippedArcIntegralWithGradient}
-use Rattle.sums.proofs.Sloping.{Putting, putting-starts, putting-skips, putting-puts, putting-ends}
+use Rattle.clip.specs.Gradient.{clipped_arc_integral_with_gradient}
+use Rattle.sums.proofs.Sloping.{Putting, putting_starts, putting_skips, putting_puts, putting_ends}
 use Rattle.sums.proofs.shares.put_parts.Statement.{statement}
 use Rattle.sums.proofs.shares.put_parts.Tie as tie
 
 abbrev invariant-loop : tie.invariant-loop
-invariant-loop c bounds used xs₀ ys₀ rs₀ phi-a breaks n many₀ sum₀ i₀ xs ys rs many sum i = Putting bounds c used xs₀ ys₀ rs₀ breaks n xs ys rs many sum i
+invariant-loop c bounds used xs₀ ys₀ rs₀ phi_a breaks n many₀ sum₀ i₀ xs ys rs many sum i = Putting bounds c used xs₀ ys₀ rs₀ breaks n xs ys rs many sum i
 
 abbrev decreases-loop : tie.decreases-loop
-decreases-loop c bounds used xs₀ ys₀ rs₀ phi-a breaks n many₀ sum₀ i₀ xs ys rs many sum i = n - i
+decreases-loop c bounds used xs₀ ys₀ rs₀ phi_a breaks n many₀ sum₀ i₀ xs ys rs many sum i = n - i
 
 loop-holds : tie.Need-loop-init invariant-loop decreases-loop
 loop-holds c =
@@ -23,7 +23,7 @@ loop-holds c =
     let list = b.result in
     let long : length list.phi ≡ 32 = search rules in
     let lengths = c.before.before.before.requires.1 in
-    putting-starts long c.count.ensures (omega (arith, c.count.ensures, length-take list.n list.phi, b.ensures.0)) lengths.0 lengths.1.0 lengths.1.1
+    putting_starts long c.count.ensures (omega (arith, c.count.ensures, length-take list.n list.phi, b.ensures.0)) lengths.0 lengths.1.0 lengths.1.1
 
 add-loop : tie.Need-overflow-add-loop invariant-loop decreases-loop
 add-loop c = omega (arith, c.loop.invariant.within, c.loop.invariant.few)
@@ -80,16 +80,16 @@ loop-again c =
     ⊎_elim
     (λ w.
     rw (w.12, w.13)
-    (putting-puts l.invariant more refl refl s.requires.0 (sym u.summed.ensures ∙ w.0.taken)
+    (putting_puts l.invariant more refl refl s.requires.0 (sym u.summed.ensures ∙ w.0.taken)
     (w.8.ensures.0 ∙ rw (w.1.ensures, w.2.ensures, w.3.ensures, w.4.ensures))
     (w.9 ∙ w.8.ensures.1.0 ∙ rw (w.1.ensures, w.3.ensures))
     (w.10 ∙ w.8.ensures.1.1.0 ∙ rw (w.2.ensures, w.4.ensures))
     (w.11 ∙ w.8.ensures.1.1.1)))
-    (λ w. rw (w.1, w.2, w.3, w.4, w.5) (putting-skips l.invariant more refl refl (sym u.summed.ensures ∙ w.0.left)))
+    (λ w. rw (w.1, w.2, w.3, w.4, w.5) (putting_skips l.invariant more refl refl (sym u.summed.ensures ∙ w.0.left)))
     c.if1.branch
 
 returns : tie.Need-returns invariant-loop decreases-loop
-unfolding clippedArcIntegralWithGradient breaks
+unfolding clipped_arc_integral_with_gradient breaks
 returns c =
     let l = c.before.loop in
     let i = l.invariant in
@@ -100,7 +100,7 @@ returns c =
         (i.x-long, (i.y-long, i.r-long)),
         (
           λ q h. (i.x-kept q h, (i.y_kept q h, i.r-kept q h)),
-          λ g. putting-ends i (omega (arith, c.loop-test.false)) (a.arc.circle * 3) g ∙ rw b.breaks-between.ensures.1,
+          λ g. putting_ends i (omega (arith, c.loop-test.false)) (a.arc.circle * 3) g ∙ rw b.breaks-between.ensures.1,
         ),
       ),
     )

@@ -10,9 +10,9 @@ use lib.Dec.{eqb, ltb}
 use lib.ListN.{length, take, get_or, set, length-take, length-set}
 use lib.Seq.{get_or-take, take_all}
 use lib.Ieee.{Float, nan}
-use Rattle.lists.proofs.Arrays.{length-of-values}
-use Rattle.gaps.proofs.Circles.{circle-first}
-use Rattle.outline.specs.Terms.{termX, termY, termR}
+use Rattle.lists.proofs.Arrays.{length_of_values}
+use Rattle.gaps.proofs.Circles.{circle_first}
+use Rattle.outline.specs.Terms.{term_x, term_y, term_r}
 use Rattle.sums.proofs.Valuing.{term_is}
 use Rattle.sums.proofs.terms.add_arc.Statement.{statement}
 use Rattle.sums.proofs.terms.add_arc.Tie as tie
@@ -35,12 +35,12 @@ returns-2 c =
     let s = h.before.before in
     let a = s.args in
     let head = s.requires.1.x.below in
-    let circle = k.before.circle-at.ensures ∙ circle-first a.c.now h.head_of.ensures (omega (arith, head, s.requires.0)) in
+    let circle = k.before.circle-at.ensures ∙ circle_first a.c.now h.head_of.ensures (omega (arith, head, s.requires.0)) in
     c.add-three2.ensures
     ∙ rw (
-      d.before.before.term-x.ensures ∙ term_is termX a.c.now a.n-sets a.counts.now a.phi.now a.place head circle k.arc-at.ensures,
-      d.before.term-y.ensures ∙ term_is termY a.c.now a.n-sets a.counts.now a.phi.now a.place head circle k.arc-at.ensures,
-      d.term-r.ensures ∙ term_is termR a.c.now a.n-sets a.counts.now a.phi.now a.place head circle k.arc-at.ensures,
+      d.before.before.term-x.ensures ∙ term_is term_x a.c.now a.n-sets a.counts.now a.phi.now a.place head circle k.arc-at.ensures,
+      d.before.term-y.ensures ∙ term_is term_y a.c.now a.n-sets a.counts.now a.phi.now a.place head circle k.arc-at.ensures,
+      d.term-r.ensures ∙ term_is term_r a.c.now a.n-sets a.counts.now a.phi.now a.place head circle k.arc-at.ensures,
     )
 
 pub add-arc-spec : {M : Type 1} → statement M

@@ -5,16 +5,16 @@ use mathlib.Core.List.{foldl}
 use Prim.Native.Nat.{◌-◌, ◌≤◌}
 use native.Mathlib.Omega.{arith}
 use lib.ListN.{length, take}
-use Rattle.lists.proofs.Folds.{fold-suc}
-use Rattle.gaps.specs.Gaps.{circlesIn}
-use Rattle.sums.specs.Slopes.{addSlopesAt}
-use Rattle.sums.proofs.Valuing.{every-listed}
+use Rattle.lists.proofs.Folds.{fold_suc}
+use Rattle.gaps.specs.Gaps.{circles_in}
+use Rattle.sums.specs.Slopes.{add_slopes_at}
+use Rattle.sums.proofs.Valuing.{every_listed}
 use Rattle.sums.proofs.terms.add_slopes.Statement.{statement}
 use Rattle.sums.proofs.terms.add_slopes.Tie as tie
 
 abbrev invariant-loop : tie.invariant-loop
 invariant-loop grad₀ list k c n-sets counts phi us vs ws i₀ grad i =
-    (length list ≡ 320) × (i ≤ k) × (length grad ≡ length grad₀) × (grad ≡ foldl (addSlopesAt (circlesIn c n-sets) counts phi) grad₀ (take i list))
+    (length list ≡ 320) × (i ≤ k) × (length grad ≡ length grad₀) × (grad ≡ foldl (add_slopes_at (circles_in c n-sets) counts phi) grad₀ (take i list))
 
 abbrev decreases-loop : tie.decreases-loop
 decreases-loop grad₀ list k c n-sets counts phi us vs ws i₀ grad i = k - i
@@ -28,7 +28,7 @@ add-slopes-at-requires c κs =
     let s = d.before.before.before in
     let a = s.args in
     let i = d.before.loop.i in
-    (s.requires.0.0, every-listed _ a.k a.list.now i (omega arith) (omega arith) s.requires.1)
+    (s.requires.0.0, every_listed _ a.k a.list.now i (omega arith) (omega arith) s.requires.1)
 
 loop-again : tie.Need-loop-preserved invariant-loop decreases-loop
 loop-again c =
@@ -40,7 +40,7 @@ loop-again c =
       omega arith,
       t.add-slopes-at.auto.0 ∙ l.invariant.2,
       t.add-slopes-at.ensures
-          ∙ rw l.invariant.3 (fold-suc (addSlopesAt (circlesIn a.c.now a.n-sets) a.counts.now a.phi.now) a.grad.now a.list.now l.i 0 (omega arith)),
+          ∙ rw l.invariant.3 (fold_suc (add_slopes_at (circles_in a.c.now a.n-sets) a.counts.now a.phi.now) a.grad.now a.list.now l.i 0 (omega arith)),
     )
 
 returns : tie.Need-returns invariant-loop decreases-loop

@@ -3,8 +3,8 @@ use borrow.Author.Rules.{rules}
 use mathlib.Core.Path.{◌∙◌}
 use Prim.Native.Nat.{◌≤◌}
 use native.Mathlib.Omega.{arith}
-use Rattle.gaps.proofs.Circles.{circle-first}
-use Rattle.sums.specs.Slopes.{slopeX, slopeY, slopeR}
+use Rattle.gaps.proofs.Circles.{circle_first}
+use Rattle.sums.specs.Slopes.{slope_x, slope_y, slope_r}
 use Rattle.sums.proofs.Valuing.{term_is}
 use Rattle.sums.proofs.terms.add_slopes_at.Statement.{statement}
 use Rattle.sums.proofs.terms.add_slopes_at.Tie as tie
@@ -48,13 +48,13 @@ returns-2 c =
     let s = h.before.before in
     let a = s.args in
     let head = s.requires.1.x.below in
-    let circle = q.circle-at.ensures ∙ circle-first a.c.now h.head_of.ensures (omega (arith, head, s.requires.0)) in
+    let circle = q.circle-at.ensures ∙ circle_first a.c.now h.head_of.ensures (omega (arith, head, s.requires.0)) in
     t.add-three-at2.ensures
     ∙ rw (
       h.head_of.ensures,
-      x.slope-x.ensures ∙ term_is slopeX a.c.now a.n-sets a.counts.now a.phi.now a.place head circle k.arc-at.ensures,
-      y.slope-y.ensures ∙ term_is slopeY a.c.now a.n-sets a.counts.now a.phi.now a.place head circle k.arc-at.ensures,
-      r.slope-r.ensures ∙ term_is slopeR a.c.now a.n-sets a.counts.now a.phi.now a.place head circle k.arc-at.ensures,
+      x.slope-x.ensures ∙ term_is slope_x a.c.now a.n-sets a.counts.now a.phi.now a.place head circle k.arc-at.ensures,
+      y.slope-y.ensures ∙ term_is slope_y a.c.now a.n-sets a.counts.now a.phi.now a.place head circle k.arc-at.ensures,
+      r.slope-r.ensures ∙ term_is slope_r a.c.now a.n-sets a.counts.now a.phi.now a.place head circle k.arc-at.ensures,
     )
 
 pub add-slopes-at-spec : {M : Type 1} → statement M

@@ -5,17 +5,17 @@ use Prim.Native.Nat.{◌-◌, ◌≤◌}
 use native.Mathlib.Omega.{arith}
 use lib.ListN.{length, take}
 use mathlib.Core.List.{foldl}
-use Rattle.lists.proofs.Folds.{fold-suc}
+use Rattle.lists.proofs.Folds.{fold_suc}
 use Rattle.binary64.specs.Constants.{zero64}
-use Rattle.gaps.specs.Gaps.{circlesIn}
-use Rattle.sums.specs.Values.{addTerms}
-use Rattle.sums.proofs.Valuing.{every-listed}
+use Rattle.gaps.specs.Gaps.{circles_in}
+use Rattle.sums.specs.Values.{add_terms}
+use Rattle.sums.proofs.Valuing.{every_listed}
 use Rattle.sums.proofs.terms.add_terms.Statement.{statement}
 use Rattle.sums.proofs.terms.add_terms.Tie as tie
 
 abbrev invariant-loop : tie.invariant-loop
 invariant-loop list k c n-sets counts phi xs ys rs total₀ i₀ total i =
-    (length list ≡ 320) × (i ≤ k) × (total ≡ foldl (addTerms (circlesIn c n-sets) counts phi) zero64 (take i list))
+    (length list ≡ 320) × (i ≤ k) × (total ≡ foldl (add_terms (circles_in c n-sets) counts phi) zero64 (take i list))
 
 abbrev decreases-loop : tie.decreases-loop
 decreases-loop list k c n-sets counts phi xs ys rs total₀ i₀ total i = k - i
@@ -26,7 +26,7 @@ add-arc-requires c κs =
     let s = d.before.before in
     let a = s.args in
     let i = d.before.loop.i in
-    (s.requires.0.0, every-listed _ a.k a.list.now i (omega arith) (omega arith) s.requires.1)
+    (s.requires.0.0, every_listed _ a.k a.list.now i (omega arith) (omega arith) s.requires.1)
 
 loop-again : tie.Need-loop-preserved invariant-loop decreases-loop
 loop-again c =
@@ -35,7 +35,7 @@ loop-again c =
     let l = d.loop in (
       l.invariant.0,
       omega arith,
-      c.add-arc.ensures ∙ rw l.invariant.2 (fold-suc (addTerms (circlesIn a.c.now a.n-sets) a.counts.now a.phi.now) zero64 a.list.now l.i 0 (omega arith)),
+      c.add-arc.ensures ∙ rw l.invariant.2 (fold_suc (add_terms (circles_in a.c.now a.n-sets) a.counts.now a.phi.now) zero64 a.list.now l.i 0 (omega arith)),
     )
 
 returns : tie.Need-returns invariant-loop decreases-loop

@@ -1,11 +1,11 @@
 -- `slopes::add_three_at`: what each call gives, the last first.
 use borrow.Author.Rules.{rules}
-use Rattle.sums.specs.Slopes.{addThreeAt}
+use Rattle.sums.specs.Slopes.{add_three_at}
 use Rattle.sums.proofs.terms.add_three_at.Statement.{statement}
 use Rattle.sums.proofs.terms.add_three_at.Tie as tie
 
 returns : tie.Need-returns
-unfolding addThreeAt
+unfolding add_three_at
 returns c = let radius = c.before.before in
     let y = radius.before.before.before.before in
     let x = y.before.before.before.before in

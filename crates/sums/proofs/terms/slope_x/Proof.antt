@@ -1,11 +1,11 @@
 -- `slopes::slope_x`: what each call gives.
 use borrow.Author.Rules.{rules}
-use Rattle.sums.specs.Slopes.{slopeX}
+use Rattle.sums.specs.Slopes.{slope_x}
 use Rattle.sums.proofs.terms.slope_x.Statement.{statement}
 use Rattle.sums.proofs.terms.slope_x.Tie as tie
 
 pub slope-x-spec : {M : Type 1} → statement M
-unfolding slopeX
+unfolding slope_x
 slope-x-spec =
     tie.close
     (tie.spec

@@ -5,19 +5,19 @@ use Prim.Native.Nat.{◌-◌, ◌≤◌}
 use native.Mathlib.Omega.{arith}
 use lib.ListN.{length, take}
 use mathlib.Core.List.{foldl}
-use Rattle.lists.proofs.Folds.{fold-suc}
+use Rattle.lists.proofs.Folds.{fold_suc}
 use Rattle.binary64.specs.Constants.{zero64}
-use Rattle.inside.specs.Parts.{clippedArcIntegral}
-use Rattle.gaps.specs.Gaps.{circlesIn}
-use Rattle.sums.specs.Values.{termOf, addOne}
-use Rattle.sums.proofs.Valuing.{every-listed}
+use Rattle.inside.specs.Parts.{clipped_arc_integral}
+use Rattle.gaps.specs.Gaps.{circles_in}
+use Rattle.sums.specs.Values.{term_of, add_one}
+use Rattle.sums.proofs.Valuing.{every_listed}
 use Rattle.sums.proofs.values.add_integrals.Statement.{statement}
 use Rattle.sums.proofs.values.add_integrals.Tie as tie
 
 abbrev invariant-loop : tie.invariant-loop
 invariant-loop list k c n-sets bounds counts phi value total₀ i₀ total i =
     (length list ≡ 320) × (i ≤ k)
-    × (total ≡ foldl (addOne (termOf (clippedArcIntegral bounds) (circlesIn c n-sets) counts phi)) zero64 (take i list))
+    × (total ≡ foldl (add_one (term_of (clipped_arc_integral bounds) (circles_in c n-sets) counts phi)) zero64 (take i list))
 
 abbrev decreases-loop : tie.decreases-loop
 decreases-loop list k c n-sets bounds counts phi value total₀ i₀ total i = k - i
@@ -28,7 +28,7 @@ integral-at-requires c κs =
     let s = d.before.before in
     let a = s.args in
     let i = d.before.loop.i in
-    (s.requires.0.0, every-listed _ a.k a.list.now i (omega arith) (omega arith) s.requires.1)
+    (s.requires.0.0, every_listed _ a.k a.list.now i (omega arith) (omega arith) s.requires.1)
 
 loop-again : tie.Need-loop-preserved invariant-loop decreases-loop
 loop-again c =
@@ -37,7 +37,7 @@ loop-again c =
     let l = d.loop in (
       l.invariant.0,
       omega arith,
-      rw (c.integral-at.ensures, l.invariant.2) (fold-suc _ zero64 a.list.now l.i 0 (omega arith)),
+      rw (c.integral-at.ensures, l.invariant.2) (fold_suc _ zero64 a.list.now l.i 0 (omega arith)),
     )
 
 returns : tie.Need-returns invariant-loop decreases-loop

@@ -12,12 +12,12 @@ use lib.Dec.{eqb, ltb}
 use lib.ListN.{length, drop, take, get_or, set, length-take, length-set, length-drop}
 use lib.Seq.{get_or-take, take_all}
 use lib.Ieee.{Float, nan}
-use Rattle.lists.proofs.Arrays.{length-of-values}
+use Rattle.lists.proofs.Arrays.{length_of_values}
 use Rattle.masks.specs.Mask.{in_set}
-use Rattle.masks.specs.Operations.{in-by-shift}
+use Rattle.masks.specs.Operations.{in_by_shift}
 use borrow.Author.Rules.{rules}
-use Rattle.gaps.proofs.Circles.{next-is, next-less}
-use Rattle.sums.proofs.Valuing.{arc-near, arc-whole, arc-far}
+use Rattle.gaps.proofs.Circles.{next_is, next_less}
+use Rattle.sums.proofs.Valuing.{arc_near, arc_whole, arc_far}
 use Rattle.sums.proofs.values.arc_at.Statement.{statement}
 use Rattle.sums.proofs.values.arc_at.Tie as tie
 
@@ -25,21 +25,21 @@ add-to : tie.Need-overflow-add-to
 add-to c =
     let s = c.before.before in
     let a = s.before.args in
-    omega (arith, s.before.requires.few s.if1.true, c.next.ensures, next-less (a.place % 32) (get_or a.counts.now (a.place / 32) 0) (s.before.requires.next s.if1.true))
+    omega (arith, s.before.requires.few s.if1.true, c.next.ensures, next_less (a.place % 32) (get_or a.counts.now (a.place / 32) 0) (s.before.requires.next s.if1.true))
 
 mul-gap-2 : tie.Need-overflow-mul-gap-2
 mul-gap-2 c =
     let n = c.before.before in
     let s = n.before.before in
     let a = s.before.args in
-    omega (arith, s.before.requires.few s.if1.true, n.next.ensures, next-less (a.place % 32) (get_or a.counts.now (a.place / 32) 0) (s.before.requires.next s.if1.true))
+    omega (arith, s.before.requires.few s.if1.true, n.next.ensures, next_less (a.place % 32) (get_or a.counts.now (a.place / 32) 0) (s.before.requires.next s.if1.true))
 
 element-copy-out-gap-2 : tie.Need-element-copy-out-gap-2
 element-copy-out-gap-2 c =
     let n = c.before.before in
     let s = n.before.before in
     let a = s.before.args in
-    omega (arith, s.before.requires.few s.if1.true, n.next.ensures, next-less (a.place % 32) (get_or a.counts.now (a.place / 32) 0) (s.before.requires.next s.if1.true))
+    omega (arith, s.before.requires.few s.if1.true, n.next.ensures, next_less (a.place % 32) (get_or a.counts.now (a.place / 32) 0) (s.before.requires.next s.if1.true))
 
 returns : tie.Need-returns
 returns c =
@@ -47,14 +47,14 @@ returns c =
     let n = g.before.before.before.before in
     let s = n.before.before in
     let a = s.before.args in
-    λ circles. arc-near circles a.counts.now a.phi.now a.place a.circle _ _ s.if1.true (ap (λ (m : ℕ). a.place / 32 * 32 + m) (n.next.ensures ∙ next-is (a.place % 32) (get_or a.counts.now (a.place / 32) 0) (s.before.requires.next s.if1.true)))
+    λ circles. arc_near circles a.counts.now a.phi.now a.place a.circle _ _ s.if1.true (ap (λ (m : ℕ). a.place / 32 * 32 + m) (n.next.ensures ∙ next_is (a.place % 32) (get_or a.counts.now (a.place / 32) 0) (s.before.requires.next s.if1.true)))
     g.gap.ensures c.between.ensures
 
 returns-2 : tie.Need-returns-2
 returns-2 c =
     let s = c.before.before in
     let a = s.before.args in
-    λ circles. arc-whole circles a.counts.now a.phi.now a.place a.circle (omega arith) (omega arith) c.full-circle.ensures
+    λ circles. arc_whole circles a.counts.now a.phi.now a.place a.circle (omega arith) (omega arith) c.full-circle.ensures
 
 element-copy-out-between-2 : tie.Need-element-copy-out-between-2
 element-copy-out-between-2 c = omega (arith, c.before.before.requires.far (omega arith))
@@ -66,7 +66,7 @@ returns-3 : tie.Need-returns-3
 returns-3 c =
     let s = c.before.before.before.before.before.before in
     let a = s.before.args in
-    λ circles. arc-far circles a.counts.now a.phi.now a.place a.circle _ (omega arith) c.before.gap2.ensures c.between2.ensures
+    λ circles. arc_far circles a.counts.now a.phi.now a.place a.circle _ (omega arith) c.before.gap2.ensures c.between2.ensures
 
 pub arc-at-spec : {M : Type 1} → statement M
 arc-at-spec =

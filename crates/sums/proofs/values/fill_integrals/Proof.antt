@@ -12,22 +12,22 @@ use lib.Dec.{eqb, ltb}
 use lib.ListN.{length, drop, take, get_or, set, length-take, length-set, length-drop}
 use lib.Seq.{get_or-take, take_all}
 use lib.Ieee.{Float, nan}
-use Rattle.lists.proofs.Arrays.{length-of-values}
+use Rattle.lists.proofs.Arrays.{length_of_values}
 use Rattle.masks.specs.Mask.{in_set}
-use Rattle.masks.specs.Operations.{in-by-shift}
+use Rattle.masks.specs.Operations.{in_by_shift}
 use mathlib.Core.Bool.{true≢false}
-use Rattle.inside.specs.Parts.{clippedArcIntegral}
-use Rattle.gaps.specs.Gaps.{circlesIn}
-use Rattle.sums.specs.Values.{termOf, standing}
-use Rattle.sums.proofs.Filling.{HeldTo, held_none, held-put, held-jump}
-use Rattle.sums.proofs.Valuing.{standing-below, standing-readable}
+use Rattle.inside.specs.Parts.{clipped_arc_integral}
+use Rattle.gaps.specs.Gaps.{circles_in}
+use Rattle.sums.specs.Values.{term_of, standing}
+use Rattle.sums.proofs.Filling.{HeldTo, held_none, held_put, held_jump}
+use Rattle.sums.proofs.Valuing.{standing_below, standing_readable}
 use Rattle.sums.proofs.values.fill_integrals.Statement.{statement}
 use Rattle.sums.proofs.values.fill_integrals.Tie as tie
 
 abbrev invariant-loop : tie.invariant-loop
 invariant-loop c n-sets bounds needed counts phi value₀ p₀ value p =
     (length value ≡ 330) × (p ≤ 330)
-    × HeldTo (λ q. standing needed counts q ≡ true) (termOf (clippedArcIntegral bounds) (circlesIn c n-sets) counts phi) nan value p
+    × HeldTo (λ q. standing needed counts q ≡ true) (term_of (clipped_arc_integral bounds) (circles_in c n-sets) counts phi) nan value p
 
 abbrev decreases-loop : tie.decreases-loop
 decreases-loop c n-sets bounds needed counts phi value₀ p₀ value p = 330 - p
@@ -42,15 +42,15 @@ integral-of-requires c κs =
     let is = sym i.is-standing.ensures ∙ c.if1.true in (
       s.requires.0.0,
       (
-        standing-below a.n-sets a.needed a.counts.now s.requires.0.1.0 s.requires.0.1.1 p d.loop-test.true is,
-        standing-readable a.n-sets a.needed a.counts.now s.requires.0.1.0 s.requires.0.1.1 p d.loop-test.true is,
+        standing_below a.n-sets a.needed a.counts.now s.requires.0.1.0 s.requires.0.1.1 p d.loop-test.true is,
+        standing_readable a.n-sets a.needed a.counts.now s.requires.0.1.0 s.requires.0.1.1 p d.loop-test.true is,
       ),
     )
 
 loop-again : tie.Need-loop-preserved invariant-loop decreases-loop
 loop-again c =
     let l = c.before.before.before.before.loop in
-    (simp length-set l.invariant.0, omega arith, held-put _ (omega arith) c.integral-of.ensures l.invariant.2)
+    (simp length-set l.invariant.0, omega arith, held_put _ (omega arith) c.integral-of.ensures l.invariant.2)
 
 loop-less-2 : tie.Need-loop-smaller-2 invariant-loop decreases-loop
 loop-less-2 c = omega (arith, c.past.ensures.0.0, c.past.ensures.0.1)
@@ -63,7 +63,7 @@ loop-again-2 c =
     let none = sym i.is-standing.ensures ∙ c.before.if1.false in (
       l.invariant.0,
       omega (arith, c.past.ensures.0.1),
-      held-jump (λ q h k is. true≢false (sym is ∙ c.past.ensures.1 a.needed a.counts.now none q h k)) l.invariant.2,
+      held_jump (λ q h k is. true≢false (sym is ∙ c.past.ensures.1 a.needed a.counts.now none q h k)) l.invariant.2,
     )
 
 returns : tie.Need-returns invariant-loop decreases-loop

@@ -12,9 +12,9 @@ use lib.Dec.{eqb, ltb}
 use lib.ListN.{length, drop, take, get_or, set, length-take, length-set, length-drop}
 use lib.Seq.{get_or-take, take_all}
 use lib.Ieee.{Float, nan}
-use Rattle.lists.proofs.Arrays.{length-of-values}
+use Rattle.lists.proofs.Arrays.{length_of_values}
 use Rattle.masks.specs.Mask.{in_set}
-use Rattle.masks.specs.Operations.{in-by-shift}
+use Rattle.masks.specs.Operations.{in_by_shift}
 use borrow.Author.Rules.{rules}
 use Rattle.sums.proofs.values.integral_at.Statement.{statement}
 use Rattle.sums.proofs.values.integral_at.Tie as tie

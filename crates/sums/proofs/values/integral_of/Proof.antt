@@ -12,12 +12,12 @@ use lib.Dec.{eqb, ltb}
 use lib.ListN.{length, drop, take, get_or, set, length-take, length-set, length-drop}
 use lib.Seq.{get_or-take, take_all}
 use lib.Ieee.{Float, nan}
-use Rattle.lists.proofs.Arrays.{length-of-values}
+use Rattle.lists.proofs.Arrays.{length_of_values}
 use Rattle.masks.specs.Mask.{in_set}
-use Rattle.masks.specs.Operations.{in-by-shift}
+use Rattle.masks.specs.Operations.{in_by_shift}
 use borrow.Author.Rules.{rules}
-use Rattle.inside.specs.Parts.{clippedArcIntegral}
-use Rattle.gaps.proofs.Circles.{circle-first}
+use Rattle.inside.specs.Parts.{clipped_arc_integral}
+use Rattle.gaps.proofs.Circles.{circle_first}
 use Rattle.sums.proofs.Valuing.{term_is}
 use Rattle.sums.proofs.values.integral_of.Statement.{statement}
 use Rattle.sums.proofs.values.integral_of.Tie as tie
@@ -28,8 +28,8 @@ returns c =
     let s = k.before.before in
     let a = s.args in
     c.clipped-arc-integral.ensures
-    ∙ term_is (clippedArcIntegral a.bounds) a.c.now a.n-sets a.counts.now a.phi.now a.place s.requires.1.0
-    (k.circle-at.ensures ∙ circle-first a.c.now k.before.head_of.ensures (omega (arith, s.requires.0, s.requires.1.0))) c.before.arc-at.ensures
+    ∙ term_is (clipped_arc_integral a.bounds) a.c.now a.n-sets a.counts.now a.phi.now a.place s.requires.1.0
+    (k.circle-at.ensures ∙ circle_first a.c.now k.before.head_of.ensures (omega (arith, s.requires.0, s.requires.1.0))) c.before.arc-at.ensures
 
 pub integral-of-spec : {M : Type 1} → statement M
 integral-of-spec = tie.close (tie.spec (λ c κs. search rules) (λ c κs. search rules) (λ c κs. search rules) (λ c κs. search rules) returns)

@@ -12,16 +12,16 @@ use lib.Dec.{eqb, ltb}
 use lib.ListN.{length, drop, take, get_or, set, length-take, length-set, length-drop}
 use lib.Seq.{get_or-take, take_all}
 use lib.Ieee.{Float, nan}
-use Rattle.lists.proofs.Arrays.{length-of-values}
+use Rattle.lists.proofs.Arrays.{length_of_values}
 use Rattle.masks.specs.Mask.{in_set}
-use Rattle.masks.specs.Operations.{in-by-shift}
+use Rattle.masks.specs.Operations.{in_by_shift}
 use borrow.Author.Rules.{rules}
-use Rattle.sums.proofs.Valuing.{standing-past}
+use Rattle.sums.proofs.Valuing.{standing_past}
 use Rattle.sums.proofs.values.past.Statement.{statement}
 use Rattle.sums.proofs.values.past.Tie as tie
 
 returns : tie.Need-returns
-returns c = ((omega arith, omega arith), λ needed counts none q l u. standing-past needed counts c.before.args.place (omega arith) none q l u)
+returns c = ((omega arith, omega arith), λ needed counts none q l u. standing_past needed counts c.before.args.place (omega arith) none q l u)
 
 returns-2 : tie.Need-returns-2
 returns-2 c = ((omega arith, omega arith), λ needed counts none q l u. let same : q ≡ c.before.args.place = omega (arith, l, u) in rw same none)

@@ -6,8 +6,8 @@ use native.Mathlib.Omega.{arith}
 use borrow.Author.Tests.{eq-eqb, ne_eqb}
 use lib.ListN.{get_or}
 use Rattle.masks.specs.Mask.{subset}
-use Rattle.masks.specs.Subset.{and-test}
-use Rattle.sums.proofs.Walking.{next_start, next-on}
+use Rattle.masks.specs.Subset.{and_test}
+use Rattle.sums.proofs.Walking.{next_start, next_on}
 use Rattle.sums.proofs.walk.next_in.Statement.{statement}
 use Rattle.sums.proofs.walk.next_in.Tie as tie
 use Rattle.sums.proofs.walk.next_in.Reads as reads
@@ -34,7 +34,7 @@ returns c =
       within = omega arith;
       past = d.loop.invariant.1;
       none = d.loop.invariant.2;
-      here = λ _. sym (and-test 64 a.mask (get_or a.adopters.now (a.at + d.loop.i) 0) d.before.ranges.mask.fits) ∙ eq-eqb _ _ c.if1.true;
+      here = λ _. sym (and_test 64 a.mask (get_or a.adopters.now (a.at + d.loop.i) 0) d.before.ranges.mask.fits) ∙ eq-eqb _ _ c.if1.true;
     }
 
 -- src/walk.rt:135:5
@@ -44,8 +44,8 @@ loop-again c =
     let a = d.before.args in (
       omega arith,
       omega arith,
-      next-on a.mask a.adopters.now a.at a.from d.loop.i d.loop.invariant.2
-          (sym (and-test 64 a.mask (get_or a.adopters.now (a.at + d.loop.i) 0) d.before.ranges.mask.fits) ∙ ne_eqb _ _ c.if1.false),
+      next_on a.mask a.adopters.now a.at a.from d.loop.i d.loop.invariant.2
+          (sym (and_test 64 a.mask (get_or a.adopters.now (a.at + d.loop.i) 0) d.before.ranges.mask.fits) ∙ ne_eqb _ _ c.if1.false),
     )
 
 -- src/walk.rt:130:1

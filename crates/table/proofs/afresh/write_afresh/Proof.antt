@@ -5,13 +5,13 @@ use Prim.Native.Nat.{◌<◌}
 use lib.ListN.{length, set, replicate, length-set}
 use lib.Pow.{pow_pos}
 use Rattle.geometry.specs.Rectangle.{area}
-use Rattle.areas.specs.Sets.{planSets}
+use Rattle.areas.specs.Sets.{plan_sets}
 use Rattle.regions.specs.Slices.{LentTables, tables_of}
 use Rattle.regions.proofs.Slices.{Room}
-use Rattle.table.specs.Method.{methodOver}
-use Rattle.table.specs.Rows.{rowsWritten}
-use Rattle.table.specs.Tables.{tablesWritten}
-use Rattle.table.proofs.Calls.{serves, afresh-written}
+use Rattle.table.specs.Method.{method_over}
+use Rattle.table.specs.Rows.{rows_written}
+use Rattle.table.specs.Tables.{tables_written}
+use Rattle.table.proofs.Calls.{serves, afresh_written}
 use Rattle.table.proofs.afresh.write_afresh.Statement.{statement}
 use Rattle.table.proofs.afresh.write_afresh.Tie as tie
 
@@ -56,10 +56,10 @@ returns c =
     let r = a.ready in
     let of = s.pre.1 in
     let t = with-box b in
-    let rows = rowsWritten r (record { own = 0; met = 0 }) (replicate 1024 0) a.sets.now t.rows.bytes t.rows.numbers in
+    let rows = rows_written r (record { own = 0; met = 0 }) (replicate 1024 0) a.sets.now t.rows.bytes t.rows.numbers in
     c.before.before.before.before.before.before.before.before.write-tables.ensures
-    ∙ ap (λ n. tablesWritten n rows t) of.n
-    ∙ afresh-written (methodOver r.clipped planSets) a.plan r (serves r.clipped planSets a.plan r of) a.sets.now
+    ∙ ap (λ n. tables_written n rows t) of.n
+    ∙ afresh_written (method_over r.clipped plan_sets) a.plan r (serves r.clipped plan_sets a.plan r of) a.sets.now
     a.presence.now a.rows.now b.area.result s.pre.0.count (b.area.ensures ∙ ap area b.before.box_of.ensures) (some s)
     a.exclusive-presence.now a.exclusives.now
 

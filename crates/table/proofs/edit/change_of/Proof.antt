@@ -1,7 +1,7 @@
 use borrow.Author.Rules.{rules}
 use mathlib.Core.Path.{◌≡◌, ap₂, ◌∙◌}
 use native.Mathlib.Omega.{arith}
-use Rattle.masks.specs.Operations.{shifted-is}
+use Rattle.masks.specs.Operations.{shifted_is}
 use Rattle.heads.proofs.Signed.{read_back}
 use Rattle.table.proofs.edit.change_of.Statement.{statement}
 use Rattle.table.proofs.edit.change_of.Tie as tie
@@ -9,7 +9,7 @@ use Rattle.table.proofs.edit.change_of.Tie as tie
 returns : tie.Need-returns
 returns c =
     let s = c.before.before.before in
-    let own = shifted-is 64 s.args.edit.head (let h = s.requires.0 in let k = s.requires.1 in omega arith) in
+    let own = shifted_is 64 s.args.edit.head (let h = s.requires.0 in let k = s.requires.1 in omega arith) in
     let e = s.args.edit in
     let told = c.before.struct_told.given in
     ap₂ (λ own met. record { own = own; met = met }) own

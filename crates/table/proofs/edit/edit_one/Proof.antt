@@ -3,21 +3,21 @@ use mathlib.Core.Path.{◌≡◌, sym, ap, ◌∙◌, subst}
 use mathlib.Core.Bool.{true}
 use Prim.Native.Nat.{◌<◌}
 use lib.ListN.{length, length-set}
-use Rattle.lists.proofs.Arrays.{length-of-values}
+use Rattle.lists.proofs.Arrays.{length_of_values}
 use Rattle.masks.specs.Presence.{stands}
 use Rattle.plan.specs.Book.{head_of, applied}
-use Rattle.plan.specs.Checks.{editAnswer}
-use Rattle.areas.specs.Sets.{planSets}
-use Rattle.regions.specs.Slices.{PlanSlices, planSlices, sliceAnswer}
-use Rattle.regions.proofs.Slices.{Room, edit-room, edit-step-refused}
-use Rattle.table.specs.Method.{clippedTable}
+use Rattle.plan.specs.Checks.{edit_answer}
+use Rattle.areas.specs.Sets.{plan_sets}
+use Rattle.regions.specs.Slices.{PlanSlices, plan_slices, slice_answer}
+use Rattle.regions.proofs.Slices.{Room, edit_room, edit_step_refused}
+use Rattle.table.specs.Method.{clipped_table}
 use Rattle.table.specs.Ready.{Of}
-use Rattle.table.proofs.Calls.{sets-made, sets-say, edit-step}
+use Rattle.table.proofs.Calls.{sets_made, sets_say, edit_step}
 use Rattle.table.proofs.edit.edit_one.Statement.{statement}
 use Rattle.table.proofs.edit.edit_one.Tie as tie
 
 ten : (c : tie.Start) → length c.args.plan.heads ≡ 10
-ten c = search length-of-values
+ten c = search length_of_values
 
 abbrev entry : tie.After-decide → tie.Start
 entry c = c.before.before.before.before.before.before
@@ -30,15 +30,15 @@ taken c = c.before.before.before.before.before.before.before.before.before.befor
 
 -- the plan and the slices handed in
 abbrev given : tie.Start → PlanSlices
-given c = let a = c.args in planSlices a.plan a.presence.now a.rows.now a.exclusive-presence.now a.exclusives.now
+given c = let a = c.args in plan_slices a.plan a.presence.now a.rows.now a.exclusive-presence.now a.exclusives.now
 
 -- the answer is that of the checks
-answered : (c : tie.After-decide) → c.decide.result ≡ sliceAnswer (given (entry c)) (entry c).args.edit
-answered c = let a = (entry c).args in c.decide.ensures ∙ ap (editAnswer a.plan a.edit) c.before.lent_by.ensures
+answered : (c : tie.After-decide) → c.decide.result ≡ slice_answer (given (entry c)) (entry c).args.edit
+answered c = let a = (entry c).args in c.decide.ensures ∙ ap (edit_answer a.plan a.edit) c.before.lent_by.ensures
 
 -- a taken edit has room for its rows, and its head is one of the plan's
 room : (c : tie.After-enum-told) → let s = entry (decided c) in Room s.args.plan.n (given s).tables × (s.args.edit.head < s.args.plan.n)
-room c = let s = entry (decided c) in edit-room (given s) s.args.edit (ten s) (sym (answered (decided c)) ∙ c.enum_told.given.1)
+room c = let s = entry (decided c) in edit_room (given s) s.args.edit (ten s) (sym (answered (decided c)) ∙ c.enum_told.given.1)
 
 enum_told : tie.Need-enum-told
 enum_told c = search rules
@@ -66,16 +66,16 @@ returns c =
     let earlier = found.before.sets_of in
     let later = found.sets-of2 in
     let many = length-set p.heads e.head (head_of e) ∙ ten s in
-    edit-step planSets (given s) e earlier.result later.result next.result _ (sym (answered (decided t)) ∙ t.enum_told.given.1)
-    (λ S h. ap (λ l. stands l S) (earlier.ensures ∙ sets-made p true _ ready.before.Ready-of.ensures) ∙ sets-say p (ten s) few S h)
-    (λ S h. ap (λ l. stands l S) (later.ensures ∙ sets-made (applied p e) true _ (made ready)) ∙ sets-say (applied p e) many few S h)
+    edit_step plan_sets (given s) e earlier.result later.result next.result _ (sym (answered (decided t)) ∙ t.enum_told.given.1)
+    (λ S h. ap (λ l. stands l S) (earlier.ensures ∙ sets_made p true _ ready.before.Ready-of.ensures) ∙ sets_say p (ten s) few S h)
+    (λ S h. ap (λ l. stands l S) (later.ensures ∙ sets_made (applied p e) true _ (made ready)) ∙ sets_say (applied p e) many few S h)
     next.ensures
     c.before.before.before.before.before.before.before.before.write-edited.ensures
 
 returns-2 : tie.Need-returns-2
 returns-2 c =
     let s = entry c.before.before.before in
-    edit-step-refused clippedTable (given s) s.args.edit _ _ (sym (answered c.before.before.before) ∙ c.before.answer.given.1)
+    edit_step_refused clipped_table (given s) s.args.edit _ _ (sym (answered c.before.before.before) ∙ c.before.answer.given.1)
 
 pub edit-one-spec : {M : Type 1} → statement M
 edit-one-spec =

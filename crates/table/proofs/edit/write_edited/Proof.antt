@@ -2,13 +2,13 @@ use borrow.Author.Rules.{rules}
 use mathlib.Core.Path.{sym, ap₂, ◌∙◌, subst}
 use mathlib.Core.Bool.{true}
 use Rattle.plan.specs.Book.{applied}
-use Rattle.areas.specs.Sets.{planSets}
+use Rattle.areas.specs.Sets.{plan_sets}
 use Rattle.regions.specs.Slices.{LentTables, tables_of}
 use Rattle.regions.proofs.Slices.{Room}
-use Rattle.table.specs.Method.{clippedTable}
-use Rattle.table.specs.Rows.{rowsWritten}
-use Rattle.table.specs.Tables.{tablesWritten}
-use Rattle.table.proofs.Calls.{serves, edited-written}
+use Rattle.table.specs.Method.{clipped_table}
+use Rattle.table.specs.Rows.{rows_written}
+use Rattle.table.specs.Tables.{tables_written}
+use Rattle.table.proofs.Calls.{serves, edited_written}
 use Rattle.table.proofs.edit.write_edited.Statement.{statement}
 use Rattle.table.proofs.edit.write_edited.Tie as tie
 
@@ -33,9 +33,9 @@ returns c =
     let of = s.pre.2 in
     let r = a.ready in
     c.before.before.before.before.before.before.before.before.write-tables.ensures
-    ∙ ap₂ (λ n change. tablesWritten n (rowsWritten r change a.earlier.now a.later.now a.presence.now a.rows.now) (given s))
+    ∙ ap₂ (λ n change. tables_written n (rows_written r change a.earlier.now a.later.now a.presence.now a.rows.now) (given s))
     of.n changed.change-of.ensures
-    ∙ edited-written clippedTable a.plan a.edit r (serves true planSets (applied a.plan a.edit) r of) a.earlier.now a.later.now
+    ∙ edited_written clipped_table a.plan a.edit r (serves true plan_sets (applied a.plan a.edit) r of) a.earlier.now a.later.now
     a.presence.now a.rows.now a.plan.n a.exclusive-presence.now a.exclusives.now
 
 pub write-edited-spec : {M : Type 1} → statement M

@@ -4,7 +4,7 @@ use native.Mathlib.Omega.{arith}
 use Prim.Native.Nat.{ℕ, ◌-◌, ◌≤◌}
 use lib.ListN.{length, get_or}
 use Rattle.lists.specs.Written.{written}
-use Rattle.lists.proofs.Writing.{written_none, length-written, write-next}
+use Rattle.lists.proofs.Writing.{written_none, length_written, write_next}
 use Rattle.table.proofs.exclusives.copy_bytes.Statement.{statement}
 use Rattle.table.proofs.exclusives.copy_bytes.Tie as tie
 
@@ -18,7 +18,7 @@ decreases-loop from to₀ count i₀ to i = count - i
 to-length : (c : tie.At-loop invariant-loop decreases-loop) → length c.loop.to ≡ length c.before.args.to.now
 to-length c =
     let s = c.before in
-    ap length c.loop.invariant.1 ∙ length-written (λ S. get_or s.args.from.now S 0) c.loop.i s.args.to.now (omega (arith, s.requires.1))
+    ap length c.loop.invariant.1 ∙ length_written (λ S. get_or s.args.from.now S 0) c.loop.i s.args.to.now (omega (arith, s.requires.1))
 
 slice-write-to : tie.Need-slice-write-to invariant-loop decreases-loop
 slice-write-to c = let k = to-length c.before.before in omega arith
@@ -27,7 +27,7 @@ loop-again : tie.Need-loop-preserved invariant-loop decreases-loop
 loop-again c =
     let l = c.before.before.loop in
     let a = c.before.before.before.args in
-    (omega arith, rw l.invariant.1 (write-next (λ S. get_or a.from.now S 0) l.i a.to.now _ 0 (omega arith) refl))
+    (omega arith, rw l.invariant.1 (write_next (λ S. get_or a.from.now S 0) l.i a.to.now _ 0 (omega arith) refl))
 
 returns : tie.Need-returns invariant-loop decreases-loop
 returns c =

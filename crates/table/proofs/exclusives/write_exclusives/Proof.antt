@@ -2,9 +2,9 @@ use borrow.Author.Rules.{rules}
 use mathlib.Core.Path.{◌≡◌, ap, ◌∙◌}
 use native.Mathlib.Omega.{arith}
 use Prim.Native.Nat.{◌^◌}
-use Rattle.areas.specs.Exclusives.{toExclusives}
-use Rattle.regions.specs.Slices.{slicesOf, row_at, writtenBytes}
-use Rattle.table.proofs.Second.{rows-count, exclusives-written}
+use Rattle.areas.specs.Exclusives.{to_exclusives}
+use Rattle.regions.specs.Slices.{slices_of, row_at, written_bytes}
+use Rattle.table.proofs.Second.{rows_count, exclusives-written}
 use Rattle.table.proofs.exclusives.write_exclusives.Statement.{statement}
 use Rattle.table.proofs.exclusives.write_exclusives.Tie as tie
 
@@ -12,7 +12,7 @@ use Rattle.table.proofs.exclusives.write_exclusives.Tie as tie
 counted : (c : tie.After-rows-needed) → c.rows-needed.result ≡ 2 ^ c.before.before.before.before.before.before.args.n
 counted c =
     let s = c.before.before.before.before.before.before in
-    rows-count s.args.n c.rows-needed.result s.requires.0 c.rows-needed.ensures
+    rows_count s.args.n c.rows-needed.result s.requires.0 c.rows-needed.ensures
 
 copy-bytes-requires : tie.Need-copy-bytes-requires
 copy-bytes-requires c κs =
@@ -26,8 +26,8 @@ returns c =
     let needed = c.before.before.before.before.before.before.before in
     let s = needed.before.before.before.before.before.before in
     let a = s.args in
-    let rows = toExclusives.of a.n (row_at (slicesOf a.presence.now a.rows.now)) in (
-      written.ensures ∙ ap (λ count. writtenBytes rows count a.exclusive-presence.now) (counted needed),
+    let rows = to_exclusives.of a.n (row_at (slices_of a.presence.now a.rows.now)) in (
+      written.ensures ∙ ap (λ count. written_bytes rows count a.exclusive-presence.now) (counted needed),
       c.before.before.to-exclusive-areas.ensures.1
           ∙ exclusives-written a.n a.presence.now a.rows.now a.exclusives.now s.requires.0 s.requires.1 s.requires.2 s.requires.4,
     )

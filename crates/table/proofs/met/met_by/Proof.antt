@@ -7,10 +7,10 @@ use mathlib.Core.List.{List, [], ◌∷◌}
 use mathlib.Core.Logic.{⊎_elim}
 use lib.Dec.{eqb}
 use lib.ListN.{get_or}
-use Rattle.plan.specs.Limits.{noHead}
+use Rattle.plan.specs.Limits.{no_head}
 use Rattle.masks.specs.Mask.{gather}
-use Rattle.regions.specs.Edit.{meetsAny, met}
-use Rattle.intersections.proofs.Adopting.{gather-with, gather-without}
+use Rattle.regions.specs.Edit.{meets_any, met}
+use Rattle.intersections.proofs.Adopting.{gather_with, gather_without}
 use Rattle.table.proofs.met.met_by.Statement.{statement}
 use Rattle.table.proofs.met.met_by.Tie as tie
 use Rattle.table.proofs.met.met_by.Reads as reads
@@ -18,7 +18,7 @@ use Rattle.table.proofs.met.met_by.Lts as lts
 use Rattle.table.proofs.met.is_met.Reads as is-met-reads
 
 abbrev invariant-loop : tie.invariant-loop
-invariant-loop heads n k head mask₀ j₀ mask j = (j ≤ n) × (mask ≡ gather j (λ i. not (eqb i k) && meetsAny (get_or heads k noHead ∷ head ∷ []) (get_or heads i noHead)))
+invariant-loop heads n k head mask₀ j₀ mask j = (j ≤ n) × (mask ≡ gather j (λ i. not (eqb i k) && meets_any (get_or heads k no_head ∷ head ∷ []) (get_or heads i no_head)))
 
 abbrev decreases-loop : tie.decreases-loop
 decreases-loop heads n k head mask₀ j₀ mask j = n - j
@@ -31,12 +31,12 @@ loop-again : tie.Need-loop-preserved invariant-loop decreases-loop
 loop-again c =
     let l = c.before.before.before.loop in
     let a = c.before.before.before.before.args in
-    let p : ℕ → Bool = λ i. not (eqb i a.k) && meetsAny (get_or a.heads a.k noHead ∷ a.head ∷ []) (get_or a.heads i noHead) in
+    let p : ℕ → Bool = λ i. not (eqb i a.k) && meets_any (get_or a.heads a.k no_head ∷ a.head ∷ []) (get_or a.heads i no_head) in
     let test = c.before.is-met.ensures in (
       omega arith,
       ⊎_elim
-          (λ w. rw (w.1, l.invariant.1) (gather-with p l.j (omega arith) (sym test ∙ w.0.taken)))
-          (λ w. rw (w.1, l.invariant.1) (gather-without p l.j (sym test ∙ w.0.left)))
+          (λ w. rw (w.1, l.invariant.1) (gather_with p l.j (omega arith) (sym test ∙ w.0.taken)))
+          (λ w. rw (w.1, l.invariant.1) (gather_without p l.j (sym test ∙ w.0.left)))
           c.if1.branch,
     )
 

@@ -1,15 +1,15 @@
 use borrow.Author.Rules.{rules}
 use mathlib.Core.Path.{◌≡◌, refl, ap, ◌∙◌}
 use lib.ListN.{take}
-use Rattle.drawn.specs.Drawn.{planCircles}
+use Rattle.drawn.specs.Drawn.{plan_circles}
 use Rattle.geometry.specs.Rectangle.{bounds}
 use Rattle.intersections.specs.Points.{collected}
 use Rattle.table.proofs.ready.ready_of.Statement.{statement}
 use Rattle.table.proofs.ready.ready_of.Tie as tie
 
 -- the first n circles are the plan's
-circles : (c : tie.After-circles-of) → take c.before.before.args.plan.n c.circles-of.result ≡ planCircles c.before.before.args.plan
-unfolding planCircles
+circles : (c : tie.After-circles-of) → take c.before.before.args.plan.n c.circles-of.result ≡ plan_circles c.before.before.args.plan
+unfolding plan_circles
 circles c = ap (take c.before.before.args.plan.n) c.circles-of.ensures
 
 returns : tie.Need-returns

@@ -6,23 +6,23 @@ use native.Mathlib.Omega.{arith}
 use Prim.Native.Nat.{ℕ, ◌-◌, ◌≤◌, ◌<◌}
 use lib.ListN.{length, replicate, get_or-replicate, length-replicate}
 use Rattle.lists.specs.Written.{written}
-use Rattle.lists.proofs.Writing.{written_none, write-next, written-keep}
+use Rattle.lists.proofs.Writing.{written_none, write_next, written_keep}
 use Rattle.masks.specs.Presence.{byte, stands}
-use Rattle.table.specs.Rows.{workedOut}
-use Rattle.table.proofs.Tests.{worked-own}
+use Rattle.table.specs.Rows.{worked_out}
+use Rattle.table.proofs.Tests.{worked_own}
 use Rattle.table.proofs.rows.rows_worked_out.Statement.{statement}
 use Rattle.table.proofs.rows.rows_worked_out.Tie as tie
 
 abbrev invariant-loop : tie.invariant-loop
 invariant-loop change earlier later count wanted₀ mask₀ wanted mask =
-    (mask ≤ count) × (count ≤ 1024) × (wanted ≡ written (λ S. byte (workedOut change (stands earlier) (stands later) S)) mask (replicate 1024 0))
+    (mask ≤ count) × (count ≤ 1024) × (wanted ≡ written (λ S. byte (worked_out change (stands earlier) (stands later) S)) mask (replicate 1024 0))
 
 abbrev decreases-loop : tie.decreases-loop
 decreases-loop change earlier later count wanted₀ mask₀ wanted mask = count - mask
 
 -- the byte of each row
 abbrev byte_of : tie.Start invariant-loop decreases-loop → ℕ → ℕ
-byte_of s S = let a = s.args in byte (workedOut a.change (stands a.earlier.now) (stands a.later.now) S)
+byte_of s S = let a = s.args in byte (worked_out a.change (stands a.earlier.now) (stands a.later.now) S)
 
 loop-holds : tie.Need-loop-init invariant-loop decreases-loop
 loop-holds c = (omega arith, c.requires, written_none (byte_of c) (replicate 1024 0))
@@ -36,12 +36,12 @@ loop-again c =
     let test = m.loop-test.true in
     let inside : l.mask < 1024 = omega (arith, l.invariant.1) in
     let place : l.mask < length (replicate {A = ℕ} 1024 0) = omega (arith, length-replicate {A = ℕ} 1024 0) in
-    let asked = c.before.is-worked-out.ensures ∙ worked-own a.change (stands a.earlier.now) (stands a.later.now) l.mask in (
+    let asked = c.before.is-worked-out.ensures ∙ worked_own a.change (stands a.earlier.now) (stands a.later.now) l.mask in (
       omega arith,
       l.invariant.1,
       ⊎_elim
-          (λ w. w.1 ∙ rw l.invariant.2 (write-next (byte_of s) l.mask (replicate 1024 0) 1 0 place (sym (ap byte (sym asked ∙ w.0.taken)))))
-          (λ w. w.1 ∙ l.invariant.2 ∙ written-keep (byte_of s) l.mask (replicate 1024 0) 0 place
+          (λ w. w.1 ∙ rw l.invariant.2 (write_next (byte_of s) l.mask (replicate 1024 0) 1 0 place (sym (ap byte (sym asked ∙ w.0.taken)))))
+          (λ w. w.1 ∙ l.invariant.2 ∙ written_keep (byte_of s) l.mask (replicate 1024 0) 0 place
           (ap byte (sym asked ∙ w.0.left) ∙ sym (get_or-replicate {A = ℕ} 1024 l.mask 0 0 inside)))
           c.if1.branch,
     )

@@ -8,10 +8,10 @@ use lib.ListN.{length, length-set}
 use Rattle.lists.specs.Run as Run
 use Rattle.lists.specs.Written.{tab}
 use Rattle.plan.specs.declared.Edit.{Edit}
-use Rattle.regions.specs.Run.{editAt, editCount, editsOf, slicesAfter, answersAfter, answersWritten, SlicesEnd}
-use Rattle.regions.specs.Slices.{LentTables, PlanSlices, planSlices}
-use Rattle.regions.proofs.Run.{slices-next, answers_next, run_ends}
-use Rattle.table.specs.Method.{clippedTable}
+use Rattle.regions.specs.Run.{edit_at, edit_count, edits_of, slices_after, answers_after, answers_written, SlicesEnd}
+use Rattle.regions.specs.Slices.{LentTables, PlanSlices, plan_slices}
+use Rattle.regions.proofs.Run.{slices_next, answers_next, run_ends}
+use Rattle.table.specs.Method.{clipped_table}
 use Rattle.table.proofs.run.run.Statement.{statement}
 use Rattle.table.proofs.run.run.Tie as tie
 
@@ -24,16 +24,16 @@ record Lengths (t u : LentTables) : Type 0 where
 
 -- the first i edits have been tried: the slices are what they leave, and their answers' numbers are written
 record Tried (start : PlanSlices) (f : ℕ → Edit) (out : List ℕ) (i : ℕ) (left : PlanSlices) (so_far : List ℕ) : Type 0 where
-  slices : left ≡ slicesAfter clippedTable start (tab f i)
-  answers : so_far ≡ answersWritten clippedTable start (tab f i) out
+  slices : left ≡ slices_after clipped_table start (tab f i)
+  answers : so_far ≡ answers_written clipped_table start (tab f i) out
   many : length so_far ≡ length out
   lengths : Lengths left.tables start.tables
 
 abbrev invariant-loop : tie.invariant-loop
 invariant-loop head x y radius answers₀ presence₀ rows₀ exclusive-presence₀ exclusives₀ count left₀ i₀ answers presence rows exclusive-presence exclusives left i =
-    (i ≤ count) × (count ≡ editCount head x y radius answers₀)
-    × Tried (planSlices left₀ presence₀ rows₀ exclusive-presence₀ exclusives₀) (editAt head x y radius) answers₀ i
-    (planSlices left presence rows exclusive-presence exclusives) answers
+    (i ≤ count) × (count ≡ edit_count head x y radius answers₀)
+    × Tried (plan_slices left₀ presence₀ rows₀ exclusive-presence₀ exclusives₀) (edit_at head x y radius) answers₀ i
+    (plan_slices left presence rows exclusive-presence exclusives) answers
 
 abbrev decreases-loop : tie.decreases-loop
 decreases-loop head x y radius answers₀ presence₀ rows₀ exclusive-presence₀ exclusives₀ count left₀ i₀ answers presence rows exclusive-presence exclusives left i =
@@ -47,13 +47,13 @@ looping c = c.before.before.before.before.before.before.before.before.before.bef
 
 -- the plan and the slices handed in, and edit i of the lists
 abbrev given : tie.Start invariant-loop decreases-loop → PlanSlices
-given c = let a = c.args in planSlices a.plan a.presence.now a.rows.now a.exclusive-presence.now a.exclusives.now
+given c = let a = c.args in plan_slices a.plan a.presence.now a.rows.now a.exclusive-presence.now a.exclusives.now
 
 abbrev edit-of : tie.Start invariant-loop decreases-loop → ℕ → Edit
-edit-of c = let a = c.args in editAt a.head.now a.x.now a.y.now a.radius.now
+edit-of c = let a = c.args in edit_at a.head.now a.x.now a.y.now a.radius.now
 
 abbrev count-of : tie.Start invariant-loop decreases-loop → ℕ
-count-of c = let a = c.args in editCount a.head.now a.x.now a.y.now a.radius.now a.answers.now
+count-of c = let a = c.args in edit_count a.head.now a.x.now a.y.now a.radius.now a.answers.now
 
 -- the shortest of five
 counted : (c : tie.After-shorter4 invariant-loop decreases-loop)
@@ -107,13 +107,13 @@ loop-again c =
     let next = c.before.before.before.before.before.before.before.before.before.before.before.before.before.before.before.edit-at in
     let tried = c.before.before.before.before.before.before.before.before.before.before.edit-one in
     let kept = tried.auto.1.1 in
-    let now = planSlices l.left l.presence l.rows l.exclusive-presence l.exclusives in (
+    let now = plan_slices l.left l.presence l.rows l.exclusive-presence l.exclusives in (
       omega arith,
       l.inv.1,
       record {
-        slices = slices-next clippedTable (given s) (edit-of s) l.i now _ next.result tried.result.answer so_far.slices next.ensures
+        slices = slices_next clipped_table (given s) (edit-of s) l.i now _ next.result tried.result.answer so_far.slices next.ensures
             tried.ensures;
-        answers = answers_next clippedTable (given s) (edit-of s) l.i now _ next.result tried.result.answer so_far.slices next.ensures
+        answers = answers_next clipped_table (given s) (edit-of s) l.i now _ next.result tried.result.answer so_far.slices next.ensures
             tried.ensures s.args.answers.now l.answers _ so_far.answers (within (looping c)).answers c.answer-number.ensures;
         many = length-set l.answers l.i _ ∙ so_far.many;
         lengths = record {
@@ -133,13 +133,13 @@ returns c =
     let f = edit-of s in
     let es = tab f (count-of s) in
     let all : l.i ≡ count-of s = (let t = c.loop-test.false in let h = l.invariant.0 in omega (arith, l.invariant.1)) in
-    let left = l.invariant.2.slices ∙ ap (λ n. slicesAfter clippedTable start (tab f n)) all in
+    let left = l.invariant.2.slices ∙ ap (λ n. slices_after clipped_table start (tab f n)) all in
     record {
       tried = l.invariant.1;
       folded = left;
-      numbered = l.invariant.2.answers ∙ ap (λ n. answersWritten clippedTable start (tab f n) s.args.answers.now) all;
+      numbered = l.invariant.2.answers ∙ ap (λ n. answers_written clipped_table start (tab f n) s.args.answers.now) all;
       ends = λ fresh.
-          subst (λ d. SlicesEnd clippedTable start es d (answersAfter clippedTable start es)) (sym left) (run_ends clippedTable start es fresh);
+          subst (λ d. SlicesEnd clipped_table start es d (answers_after clipped_table start es)) (sym left) (run_ends clipped_table start es fresh);
     }
 
 pub run_spec : {M : Type 1} → statement M

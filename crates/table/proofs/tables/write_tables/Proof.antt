@@ -3,11 +3,11 @@ use mathlib.Core.Path.{◌≡◌, ap, ◌∙◌}
 use native.Mathlib.Omega.{arith}
 use Prim.Native.Nat.{ℕ, ◌^◌}
 use Rattle.regions.specs.Edit.{Row}
-use Rattle.regions.specs.Slices.{tables_of, writtenBytes, writtenNumbers}
-use Rattle.regions.proofs.Slices.{settled-of}
-use Rattle.table.specs.Method.{clippedTable}
-use Rattle.table.specs.Rows.{rowsWritten}
-use Rattle.table.proofs.Second.{rows-count}
+use Rattle.regions.specs.Slices.{tables_of, written_bytes, written_numbers}
+use Rattle.regions.proofs.Slices.{settled_of}
+use Rattle.table.specs.Method.{clipped_table}
+use Rattle.table.specs.Rows.{rows_written}
+use Rattle.table.proofs.Second.{rows_count}
 use Rattle.table.proofs.tables.write_tables.Statement.{statement}
 use Rattle.table.proofs.tables.write_tables.Tie as tie
 
@@ -15,7 +15,7 @@ use Rattle.table.proofs.tables.write_tables.Tie as tie
 counted : (c : tie.After-rows-needed) → c.rows-needed.result ≡ 2 ^ c.before.before.before.before.before.args.ready.n
 counted c =
     let s = c.before.before.before.before.before in
-    rows-count s.args.ready.n c.rows-needed.result s.requires.count c.rows-needed.ensures
+    rows_count s.args.ready.n c.rows-needed.result s.requires.count c.rows-needed.ensures
 
 write-rows-requires : tie.Need-write-rows-requires
 write-rows-requires c κs =
@@ -38,11 +38,11 @@ returns c =
     let s = at_rows.before.before.before.before.before.before.before.before in
     let a = s.args in
     let n = a.ready.n in
-    let rows : ℕ → Row = rowsWritten a.ready a.change a.earlier.now a.later.now a.presence.now a.rows.now in
+    let rows : ℕ → Row = rows_written a.ready a.change a.earlier.now a.later.now a.presence.now a.rows.now in
     let e = counted at_rows.before.before.before in
-    settled-of clippedTable n rows (tables_of a.presence.now a.rows.now a.exclusive-presence.now a.exclusives.now)
-    (w.0 ∙ ap (λ count. writtenBytes rows count a.presence.now) e)
-    (w.1 ∙ ap (λ count. writtenNumbers rows count a.rows.now) e)
+    settled_of clipped_table n rows (tables_of a.presence.now a.rows.now a.exclusive-presence.now a.exclusives.now)
+    (w.0 ∙ ap (λ count. written_bytes rows count a.presence.now) e)
+    (w.1 ∙ ap (λ count. written_numbers rows count a.rows.now) e)
     x.0
     x.1
 

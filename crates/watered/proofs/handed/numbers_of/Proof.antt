@@ -9,16 +9,16 @@ use lib.Signed.{mag}
 use mir.Val.{to_z, of_z}
 use lib.ListN.{get_or}
 use Rattle.heads.proofs.Signed.{read_back}
-use Rattle.plan.specs.Limits.{noHead}
+use Rattle.plan.specs.Limits.{no_head}
 use Rattle.heads.specs.declared.Head.{Head}
 use Rattle.watered.specs.Handed.{three}
 use Rattle.watered.proofs.handed.numbers_of.Statement.{statement}
 use Rattle.watered.proofs.handed.numbers_of.Tie as tie
 
 -- three numbers of 32 bits come back from their bits
-three-kept : (h : Head) {r r' : List ℤ} → mag h.x < 2 ^ 31 → mag h.y < 2 ^ 31 → mag h.radius < 2 ^ 31 → r ≡ r'
+three_kept : (h : Head) {r r' : List ℤ} → mag h.x < 2 ^ 31 → mag h.y < 2 ^ 31 → mag h.radius < 2 ^ 31 → r ≡ r'
     → (to_z w32 (of_z w32 h.x) ∷ to_z w32 (of_z w32 h.y) ∷ to_z w32 (of_z w32 h.radius) ∷ r) ≡ three h r'
-three-kept h a b c e = rw (read_back h.x a, read_back h.y b, read_back h.radius c, e)
+three_kept h a b c e = rw (read_back h.x a, read_back h.y b, read_back h.radius c, e)
 
 returns : tie.Need-returns
 returns c =
@@ -33,16 +33,16 @@ returns c =
     let t7 = c.before.before.struct-told8.given in
     let t8 = c.before.struct-told9.given in
     let t9 = c.struct-told10.given in
-    three-kept (get_or l 0 noHead) t0.0.1 t0.1.0.1 t0.1.1.0.1 (
-    three-kept (get_or l 1 noHead) t1.0.1 t1.1.0.1 t1.1.1.0.1 (
-    three-kept (get_or l 2 noHead) t2.0.1 t2.1.0.1 t2.1.1.0.1 (
-    three-kept (get_or l 3 noHead) t3.0.1 t3.1.0.1 t3.1.1.0.1 (
-    three-kept (get_or l 4 noHead) t4.0.1 t4.1.0.1 t4.1.1.0.1 (
-    three-kept (get_or l 5 noHead) t5.0.1 t5.1.0.1 t5.1.1.0.1 (
-    three-kept (get_or l 6 noHead) t6.0.1 t6.1.0.1 t6.1.1.0.1 (
-    three-kept (get_or l 7 noHead) t7.0.1 t7.1.0.1 t7.1.1.0.1 (
-    three-kept (get_or l 8 noHead) t8.0.1 t8.1.0.1 t8.1.1.0.1 (
-    three-kept (get_or l 9 noHead) t9.0.1 t9.1.0.1 t9.1.1.0.1 refl)))))))))
+    three_kept (get_or l 0 no_head) t0.0.1 t0.1.0.1 t0.1.1.0.1 (
+    three_kept (get_or l 1 no_head) t1.0.1 t1.1.0.1 t1.1.1.0.1 (
+    three_kept (get_or l 2 no_head) t2.0.1 t2.1.0.1 t2.1.1.0.1 (
+    three_kept (get_or l 3 no_head) t3.0.1 t3.1.0.1 t3.1.1.0.1 (
+    three_kept (get_or l 4 no_head) t4.0.1 t4.1.0.1 t4.1.1.0.1 (
+    three_kept (get_or l 5 no_head) t5.0.1 t5.1.0.1 t5.1.1.0.1 (
+    three_kept (get_or l 6 no_head) t6.0.1 t6.1.0.1 t6.1.1.0.1 (
+    three_kept (get_or l 7 no_head) t7.0.1 t7.1.0.1 t7.1.1.0.1 (
+    three_kept (get_or l 8 no_head) t8.0.1 t8.1.0.1 t8.1.1.0.1 (
+    three_kept (get_or l 9 no_head) t9.0.1 t9.1.0.1 t9.1.1.0.1 refl)))))))))
 
 pub numbers-of-spec : {M : Type 1} → statement M
 numbers-of-spec =

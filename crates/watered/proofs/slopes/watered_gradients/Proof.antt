@@ -3,8 +3,8 @@ use mathlib.Core.Path.{◌∙◌}
 use Rattle.lists.specs.Run.{Step}
 use Rattle.plan.specs.declared.Answer.{Answer}
 use Rattle.plan.specs.declared.Plan.{Plan}
-use Rattle.areas.specs.Sets.{planSets}
-use Rattle.gradients.specs.Step.{GradientSlices, gradientSlices, clippedStep}
+use Rattle.areas.specs.Sets.{plan_sets}
+use Rattle.gradients.specs.Step.{GradientSlices, gradient_slices, clipped_step}
 use Rattle.watered.proofs.Told.{told}
 use borrow.Author.Rules.{rules}
 use Rattle.watered.proofs.slopes.watered_gradients.Statement.{statement}
@@ -21,7 +21,7 @@ returns : tie.Need-returns
 returns c =
     let a = (start c).args in
     let f : Plan → Step GradientSlices Answer =
-    λ p. clippedStep planSets p (gradientSlices a.presence.now a.exclusives.now a.gradients.now) in
+    λ p. clipped_step plan_sets p (gradient_slices a.presence.now a.exclusives.now a.gradients.now) in
     let t = told f _ _ _ _ (called c).before.before.before.before.plan-of.ensures (called c).gradients.ensures in
     (c.number-of.ensures ∙ t.0, t.1)
 

@@ -4,8 +4,8 @@ use borrow.Author.Rules.{rules}
 use Rattle.lists.specs.Run.{Step}
 use Rattle.plan.specs.declared.Answer.{Answer}
 use Rattle.plan.specs.declared.Plan.{Plan}
-use Rattle.regions.specs.Slices.{PlanSlices, planSlices, afreshSlices}
-use Rattle.table.specs.Method.{clippedTable}
+use Rattle.regions.specs.Slices.{PlanSlices, plan_slices, afresh_slices}
+use Rattle.table.specs.Method.{clipped_table}
 use Rattle.watered.proofs.Told.{told}
 use Rattle.watered.proofs.tables.watered_afresh.Statement.{statement}
 use Rattle.watered.proofs.tables.watered_afresh.Tie as tie
@@ -21,7 +21,7 @@ returns : tie.Need-returns
 returns c =
     let a = (start c).args in
     let f : Plan → Step PlanSlices Answer =
-    λ p. afreshSlices clippedTable (planSlices p a.presence.now a.rows.now a.exclusive-presence.now a.exclusives.now) in
+    λ p. afresh_slices clipped_table (plan_slices p a.presence.now a.rows.now a.exclusive-presence.now a.exclusives.now) in
     let t = told f _ _ _ _ (called c).before.before.before.before.before.plan-of.ensures (called c).afresh.ensures in
     (c.number-of.ensures ∙ t.0, ap (λ z. z.tables) t.1)
 

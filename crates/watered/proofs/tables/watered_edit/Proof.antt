@@ -5,12 +5,12 @@ use Rattle.lists.specs.Run.{Step}
 use Rattle.plan.specs.declared.Answer.{Answer}
 use Rattle.plan.specs.declared.Edit.{Edit}
 use Rattle.plan.specs.declared.Plan.{Plan}
-use Rattle.regions.specs.Slices.{PlanSlices, planSlices, editSlices}
-use Rattle.table.specs.Method.{clippedTable}
-use Rattle.table.specs.Tables.{editOf}
-use Rattle.table.proofs.Calls.{edit-kept}
-use Rattle.watered.specs.Handed.{numbersOf}
-use Rattle.watered.proofs.Told.{edit-told}
+use Rattle.regions.specs.Slices.{PlanSlices, plan_slices, edit_slices}
+use Rattle.table.specs.Method.{clipped_table}
+use Rattle.table.specs.Tables.{edit_of}
+use Rattle.table.proofs.Calls.{edit_kept}
+use Rattle.watered.specs.Handed.{numbers_of}
+use Rattle.watered.proofs.Told.{edit_told}
 use Rattle.watered.proofs.tables.watered_edit.Statement.{statement}
 use Rattle.watered.proofs.tables.watered_edit.Tie as tie
 
@@ -26,11 +26,11 @@ returns c =
     let s = start c in
     let a = s.args in
     let f : Plan → Edit → Step PlanSlices Answer =
-    λ p. editSlices clippedTable (planSlices p a.presence.now a.rows.now a.exclusive-presence.now a.exclusives.now) in
-    let kept = edit-kept a.head a.x a.y a.radius s.fits.x s.fits.y s.fits.radius in
-    let t = edit-told f _ _ _ _ _ _ (called c).before.before.before.before.before.plan-of.ensures kept (called c).edit.ensures.0 in (
+    λ p. edit_slices clipped_table (plan_slices p a.presence.now a.rows.now a.exclusive-presence.now a.exclusives.now) in
+    let kept = edit_kept a.head a.x a.y a.radius s.fits.x s.fits.y s.fits.radius in
+    let t = edit_told f _ _ _ _ _ _ (called c).before.before.before.before.before.plan-of.ensures kept (called c).edit.ensures.0 in (
       c.number-of.ensures ∙ t.0,
-      (c.before.Numbers-of.ensures ∙ ap (λ z. numbersOf z.plan.heads) t.1, ap (λ z. z.tables) t.1),
+      (c.before.Numbers-of.ensures ∙ ap (λ z. numbers_of z.plan.heads) t.1, ap (λ z. z.tables) t.1),
     )
 
 pub watered-edit-spec : {M : Type 1} → statement M

@@ -2,9 +2,9 @@
 use mathlib.Core.Path.{◌≡◌}
 use borrow.Author.Rules.{rules}
 use Rattle.plan.specs.declared.Plan.{Plan}
-use Rattle.regions.specs.Slices.{PlanSlices, planSlices}
-use Rattle.table.specs.Method.{clippedTable}
-use Rattle.watered.proofs.Told.{run-told}
+use Rattle.regions.specs.Slices.{PlanSlices, plan_slices}
+use Rattle.table.specs.Method.{clipped_table}
+use Rattle.watered.proofs.Told.{run_told}
 use Rattle.watered.proofs.tables.watered_run.Statement.{statement}
 use Rattle.watered.proofs.tables.watered_run.Tie as tie
 
@@ -22,8 +22,8 @@ returns : tie.Need-returns
 returns c =
     let a = (start c).args in
     let given : Plan → PlanSlices =
-    λ p. planSlices p a.presence.now a.rows.now a.exclusive-presence.now a.exclusives.now in
-    run-told clippedTable given a.edit-heads.now a.x.now a.y.now a.radius.now a.answers.now
+    λ p. plan_slices p a.presence.now a.rows.now a.exclusive-presence.now a.exclusives.now in
+    run_told clipped_table given a.edit-heads.now a.x.now a.y.now a.radius.now a.answers.now
     _ _ _ _ _ _ (planned c).plan-of.ensures (called c).run.ensures c.Numbers-of.ensures
 
 pub watered-run-spec : {M : Type 1} → statement M

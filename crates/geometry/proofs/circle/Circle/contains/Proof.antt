@@ -3,7 +3,7 @@ use mathlib.Core.Path.{◌≡◌, sym, ap, ◌∙◌}
 use borrow.Author.Rules.{rules}
 use lib.Ieee.{Float}
 use Rattle.binary64.specs.Floats.{◌+ᶠ◌, ◌≤ᶠ◌}
-use Rattle.elementary.proofs.root.Values.{root-minus}
+use Rattle.elementary.proofs.root.Values.{root_minus}
 use Rattle.geometry.proofs.Roots.{sum_past}
 use Rattle.geometry.proofs.circle.Circle.contains.Statement.{statement}
 use Rattle.geometry.proofs.circle.Circle.contains.Tie as tie
@@ -15,7 +15,7 @@ returns c =
     let q = m.before in
     let a = q.before.args in
     sym (ap (λ (d : Float). d +ᶠ a.other.radius ≤ᶠ a.self.radius) (sym q.squared-distance.ensures)
-    ∙ sum_past _ _ _ (r.root-above.ensures c.if2.true) (root-minus q.squared-distance.result (search rules)) (search rules)
+    ∙ sum_past _ _ _ (r.root-above.ensures c.if2.true) (root_minus q.squared-distance.result (search rules)) (search rules)
     (sym m.moderate.ensures ∙ r.before.if1.true))
 
 returns-2 : tie.Need-returns-2
