@@ -1,5 +1,7 @@
 // The small functions of f64 that the Rust calls as methods, each equal to its definition in specs/Functions.antt.
 // The laws of f64 arithmetic that every crate above cites are in specs/ and proofs/.
+#![tactic(auto)]
+
 ghost use Rattle.std.specs.Prelude.{◌≡◌};
 ghost use Rattle.binary64.specs.Units.{negative};
 ghost use Rattle.binary64.specs.Functions.{absolute, signum_of, clamp_to_zero, larger_of, smaller_of, rem_euclid};

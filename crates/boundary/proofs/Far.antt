@@ -1,17 +1,17 @@
 -- Points so far from the edge of a circle that no division is needed to tell on which side they lie (specs/Measured.antt).
 use Prim.{tt}
-use mathlib.Core.Path.{◌≡◌, refl, sym, ap, ◌∙◌}
-use mathlib.Core.Bool.{true, false, not}
-use Prim.Native.Nat.{ℕ, ◌+◌, ◌*◌, ◌^◌, ◌≤◌, ◌<◌}
+use mathlib.Core.Path.{◌≡◌, refl, ap, ◌∙◌}
+use mathlib.Core.Bool.{true, not}
+use Prim.Native.Nat.{◌+◌, ◌*◌, ◌≤◌, ◌<◌}
 use native.Mathlib.Nat.{le_refl, lt_of_lt_of_le, mul-le-mul}
 use native.Mathlib.Omega.{arith}
 use lib.Dec.{T, leb→le}
 use lib.Ieee.{Float, binary64, fits, lt, le, add, sub, mul, div, of_bits}
 use Rattle.binary64.specs.Constants.{zero64, one64, two64}
-use Rattle.binary64.specs.Functions.{absolute, larger_of}
+use Rattle.binary64.specs.Functions.{absolute}
 use Rattle.binary64.specs.Magnitude.{Most, Least}
 use Rattle.binary64.specs.Rounding.{Rounded}
-use Rattle.binary64.specs.Units.{pow2, one, mag, plus, minus, Finite, Digits53}
+use Rattle.binary64.specs.Units.{pow2, one, mag, plus, minus, Finite}
 use Rattle.binary64.proofs.Constants.{one64_mag, one64_most}
 use Rattle.binary64.proofs.Functions.{larger_most, absolute_finite, absolute_mag, absolute_sign}
 use Rattle.binary64.proofs.Magnitude.{literal_most, add_most, sub_most, mul_most, div_most}

@@ -2,32 +2,31 @@
 -- one has the circle. Every step there is exact, since all its numbers are whole.
 use mathlib.Core.Path.{◌≡◌, refl, sym, ap, ap₂, ◌∙◌, subst}
 use mathlib.Core.Bool.{Bool, true, false, cond, not, ◌&&◌, ◌||◌}
-use mathlib.Core.List.{List, [], ◌∷◌, ◌++◌, map, append_assoc, map-append}
-use Prim.Native.Nat.{ℕ, zero, suc, ◌+◌, ◌-◌, ◌*◌, ◌^◌, ◌≤◌, ◌<◌, zero-le}
+use mathlib.Core.List.{List, [], ◌∷◌, ◌++◌, append_assoc, map-append}
+use Prim.Native.Nat.{ℕ, suc, ◌+◌, ◌*◌, ◌≤◌, ◌<◌, zero-le}
 use native.Mathlib.Nat.{le_refl, le_trans, le_of_eq, lt_of_lt_of_le, mul-le-mul}
 use native.Mathlib.Omega.{arith}
-use lib.Dec.{ltb, eqb, leb}
+use lib.Dec.{ltb, eqb}
 use lib.IntN.{ℤ, pos, negsuc, nat_abs, sub_ℕ, ◌+ℤ◌, ◌-ℤ◌, +ℤ_comm, +ℤ_invr, +ℤ-neg_ℤ_cancel}
-use lib.Ieee.{Float, binary64, of_int, of_bits, add, sub, mul, div, lt, le, round, is_nan}
+use lib.Ieee.{Float, binary64, of_int, of_bits, mul, div, round, is_nan}
 use lib.ListN.{length, length-append, length-map}
-use borrow.Author.Tests.{ltb-true, ltb-false, lt-ltb, le-ltb, le-leb, eq-eqb, ne_eqb}
-use Rattle.binary64.specs.Constants.{zero64, one64, two64}
+use borrow.Author.Tests.{lt-ltb, le-ltb, le-leb, eq-eqb, ne_eqb}
+use Rattle.binary64.specs.Constants.{one64, two64}
 use Rattle.binary64.specs.Floats.{◌+ᶠ◌, ◌-ᶠ◌, ◌*ᶠ◌, ◌/ᶠ◌, ◌<ᶠ◌, ◌≤ᶠ◌}
-use Rattle.binary64.specs.Functions.{absolute, larger_of}
+use Rattle.binary64.specs.Functions.{absolute}
 use Rattle.binary64.specs.Magnitude.{Most, Least}
-use Rattle.binary64.specs.Units.{one, Finite, Digits53, mag, negative, plus, minus, pow2, of_units, limit, signed_zero}
+use Rattle.binary64.specs.Units.{one, Finite, Digits53, mag, negative, plus, minus, pow2, of_units, limit}
 use Rattle.binary64.proofs.Constants.{one64_mag, one64_sign, one64_most}
 use Rattle.binary64.proofs.Functions.{absolute_test, larger_most}
 use Rattle.binary64.proofs.Magnitude.{literal_most, add_most, mul_most, div_most}
-use Rattle.binary64.proofs.Operations.{add_result, mul_sign, div_sign, div_result, result_plus, result_rounded}
+use Rattle.binary64.proofs.Operations.{add_result, div_sign, div_result, result_plus, result_rounded}
 use Rattle.binary64.proofs.Rounding.{plus_ge, minus_none}
 use Rattle.binary64.proofs.Units.{one_pos, is_of_units, lt_units, mag_digits, mag_limit, plus_is, zero_finite, zero_mag}
 use Rattle.binary64.proofs.Whole.{of_int_finite, of_int_pos, of_int_mag, of_int_sign, of_int_least, add_of_int, sub_of_int, square_of_int}
 use Rattle.geometry.specs.declared.circle.Circle.{Circle}
-use Rattle.geometry.specs.declared.point.Point.{Point}
 use Rattle.geometry.specs.Tolerances.{coincidence, coincidence_share}
 use Rattle.intersections.specs.Members.{Member, circles_of}
-use Rattle.boundary.specs.Identical.{whole_circle, unmet, Identical, LowerOwns}
+use Rattle.boundary.specs.Identical.{whole_circle, unmet, LowerOwns}
 use Rattle.boundary.specs.NoArc.{NoneOf}
 use Rattle.boundary.specs.Outline.{implicit_value, tolerance, lets, owned_from, owned, probe, full_circle, arcs_at, angles_of, outline_from, outline}
 use Rattle.boundary.specs.Sort.{sort_onto, sorted}

@@ -1,6 +1,6 @@
 -- The outline of a set: the arcs that go round what its heads water together. A set is the list of its members; an arc
 -- names its member by the position in that list.
-use Rattle.std.specs.Prelude.{ℕ, zero, suc, ◌+◌, ◌%◌, Bool, true, not, ◌&&◌, ◌||◌, cond, List, [], ◌∷◌, ◌++◌, map, eqb, ltb, length, get_or, Float}
+use Rattle.std.specs.Prelude.{ℕ, suc, ◌+◌, ◌%◌, Bool, true, not, ◌&&◌, ◌||◌, cond, List, [], ◌∷◌, ◌++◌, map, eqb, ltb, length, get_or, Float}
 use Rattle.std.specs.Float.{nan}
 use Rattle.elementary.specs.Sine.{sine as sin, cosine as cos}
 use Rattle.elementary.specs.Arctangent.{atan2}

@@ -13,7 +13,7 @@ use geometry::circle::Circle;
 use intersections::members::Members;
 
 // An arc, and whether the outline has it: not where the gap is collapsed or the midpoint is another member's.
-#[derive(Drop)]
+#[derive(Clone, Copy)]
 pub struct Candidate {
     pub kept: bool,
     pub arc: BoundaryArc,

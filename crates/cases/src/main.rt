@@ -2,6 +2,7 @@
 // a plan file (0, its length in two bytes, its bytes) or a call in memory (1, n, an edit's head number, 37 numbers of four
 // bytes: the box, ten heads, the edit's x, y and radius; a byte for the gradients that the call writes, 0 for none, 1 for rows in the
 // box, 2 for rows without it; and two numbers of two bytes: rows and gradients lent). Numbers are little-endian. The stored input and what it must print are worked out by tests/plan/trials.py from document 01.
+#![tactic(auto)]
 ghost use Rattle.std.specs.Prelude.{◌<◌, ◌≤◌, length};
 
 use file::reader::{Handed, Reader};

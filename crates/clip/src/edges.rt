@@ -22,7 +22,7 @@ fn moved(grad: &mut [f64], added: bool, i: usize, x: f64)
 
 // An edge of the box: whether it is vertical, whether its outward side is that of greater x or y, the factor of its length in
 // the area, and the box's side across it.
-#[derive(Drop)]
+#[derive(Clone, Copy)]
 pub struct Edge {
     pub upright: bool,
     pub outward: bool,

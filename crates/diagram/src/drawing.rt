@@ -9,7 +9,7 @@ use intersections::members::at_most_ten;
 use intersections::points::Intersections;
 
 // `boxed`: the rows are those in the box `container`; without it `container` is not looked at. `points`: the meeting points of the first n circles.
-#[derive(Drop)]
+#[derive(Clone, Copy)]
 pub struct Drawing {
     pub boxed: bool,
     pub n: usize,

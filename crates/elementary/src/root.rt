@@ -38,7 +38,7 @@ pub fn hypot(a: f64, b: f64) -> f64
 }
 
 // A positive number of units (2^-1074) by its leading digits: digits * 2^lead / 2^52.
-#[derive(Drop)]
+#[derive(Clone, Copy)]
 struct Parts {
     digits: u64,
     lead: u64,
@@ -172,7 +172,7 @@ fn settle(m: u64, q: u64) -> u64
 }
 
 // q * q and m * 2^52, both less the same number.
-#[derive(Drop)]
+#[derive(Clone, Copy)]
 struct Scales {
     square: u64,
     radicand: u64,

@@ -1,5 +1,7 @@
 // A head as a circle of f64. What is here for a reader are the theorems of specs/: on the heads of the domain the float
 // decisions about circles are the whole-number ones. Rests on `heads`, `geometry`, and the laws of `binary64` and `elementary`.
+#![tactic(auto)]
+
 ghost use Rattle.std.specs.Prelude.{◌≡◌};
 ghost use Rattle.exact.specs.Circle.{circle_of};
 

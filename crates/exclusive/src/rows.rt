@@ -9,7 +9,7 @@ ghost use Rattle.exclusive.specs.RowOrder.{row_order, row_list};
 use crate::areas::shorter;
 
 // The first n of all: present rows in row order.
-#[derive(Drop)]
+#[derive(Clone, Copy)]
 pub struct Rows {
     pub n: usize,
     pub all: [usize; 1024],

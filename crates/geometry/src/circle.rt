@@ -15,7 +15,7 @@ use binary64::{abs, smaller};
 use elementary::arctangent::acos;
 use elementary::root::root;
 
-#[derive(Drop)]
+#[derive(Clone, Copy)]
 pub struct Circle {
     pub center: Point,
     pub radius: f64,

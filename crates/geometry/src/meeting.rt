@@ -5,7 +5,7 @@ ghost use Rattle.geometry.specs.Meeting as spec;
 use crate::point::Point;
 
 // The coordinates x, y of each point.
-#[derive(Drop)]
+#[derive(Clone, Copy)]
 pub enum Meeting {
     None,
     One(f64, f64),

@@ -7,7 +7,7 @@ use crate::circle::Circle;
 use crate::meeting::Meeting;
 
 // The numbers of the two heads in the plan, and their meeting.
-#[derive(Drop)]
+#[derive(Clone, Copy)]
 pub struct Pair {
     pub first: usize,
     pub second: usize,

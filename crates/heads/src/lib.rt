@@ -1,12 +1,14 @@
 // A sprinkler head, document 01's limits, and how two heads lie to each other, in whole centimetres. No floats.
 // The contracts rest on specs/Limits.antt, specs/Relation.antt and specs/Pair.antt.
+#![tactic(auto)]
+
 ghost use Rattle.std.specs.Prelude.{◌≡◌, ◌+◌, ◌*◌, min, ltb, nat_abs, ◌-ℤ◌};
 ghost use Rattle.heads.specs.Limits.{within, position_in_limits, radius_in_limits, side_in_limits};
 ghost use Rattle.heads.specs.Relation.{gap, relation, number, meeting};
 ghost use Rattle.heads.specs.Pair.{above_zero, squared_distance, greatest, relation_of, meets_of};
 
 // A head: a circle about (x, y), in centimetres.
-#[derive(Drop)]
+#[derive(Clone, Copy)]
 pub struct Head {
     pub x: i32,
     pub y: i32,
@@ -30,7 +32,7 @@ pub const SIDE_LIMIT: i32 = 40000;
 const GREATEST: u64 = 0xFFFF_FFFF_FFFF_FFFF;
 
 // How two heads lie to each other, by whole numbers.
-#[derive(Drop)]
+#[derive(Clone, Copy)]
 pub enum Relation {
     Apart,
     TouchingOutside,

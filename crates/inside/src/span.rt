@@ -11,7 +11,7 @@ use geometry::point::Point;
 use intersections::members::Members;
 
 // No span, or the low and the high end.
-#[derive(Drop)]
+#[derive(Clone, Copy)]
 pub enum Span {
     None,
     Ends(f64, f64),

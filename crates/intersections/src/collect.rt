@@ -64,7 +64,7 @@ fn with_adopters(circles: [Circle; 10], n: usize, i: usize, j: usize, p: Point) 
 }
 
 // The first n of all. Two circles meet in at most two points.
-#[derive(Drop)]
+#[derive(Clone, Copy)]
 struct MeetingPoints {
     n: usize,
     all: [Point; 2],

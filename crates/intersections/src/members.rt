@@ -15,7 +15,7 @@ pub fn at_most_ten(n_sets: usize) -> usize
 }
 
 // The first n of each: the numbers of a set's heads and their circles.
-#[derive(Drop)]
+#[derive(Clone, Copy)]
 pub struct Members {
     pub n: usize,
     pub heads: [usize; 10],

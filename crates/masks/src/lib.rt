@@ -1,5 +1,7 @@
 // Sets of heads as masks: a mask has bit i set if head i is in the set. A usize has 64 bits, so a head of 64 or more is in no mask.
 // Code elsewhere writes its shifts and masks itself and cites the laws of specs/, which hold for every width.
+#![tactic(auto)]
+
 ghost use Rattle.std.specs.Prelude.{◌≡◌};
 ghost use Rattle.masks.specs.Mask.{subset};
 

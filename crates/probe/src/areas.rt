@@ -14,7 +14,7 @@ use sets::discover::discover_regions;
 
 // The byte of every mask.
 #[repr(C)]
-#[derive(Drop)]
+#[derive(Clone, Copy)]
 pub struct Sets {
     pub bytes: [u8; 1024],
 }

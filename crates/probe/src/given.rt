@@ -15,14 +15,14 @@ use intersections::points::Intersections;
 
 // Ten circles: x, y and radius of each in turn.
 #[repr(C)]
-#[derive(Drop)]
+#[derive(Clone, Copy)]
 pub struct Circles {
     pub numbers: [f64; 30],
 }
 
 // A meeting point.
 #[repr(C)]
-#[derive(Drop)]
+#[derive(Clone, Copy)]
 pub struct Met {
     pub x: f64,
     pub y: f64,
@@ -33,7 +33,7 @@ pub struct Met {
 
 // An arc.
 #[repr(C)]
-#[derive(Drop)]
+#[derive(Clone, Copy)]
 pub struct Arc {
     pub head: usize,
     pub start: f64,
@@ -43,7 +43,7 @@ pub struct Arc {
 
 // How many spans, and the ends of the one; without one both are +0.
 #[repr(C)]
-#[derive(Drop)]
+#[derive(Clone, Copy)]
 pub struct Ends {
     pub number: usize,
     pub low: f64,

@@ -18,7 +18,7 @@ use table::edit::edit_one;
 use table::tables::lent_by;
 
 // The reader between two bytes, and the plan that the tables are of.
-#[derive(Drop)]
+#[derive(Clone, Copy)]
 pub struct Reading {
     pub reader: Reader,
     pub plan: Plan,

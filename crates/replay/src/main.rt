@@ -2,6 +2,7 @@
 // comes from standard input and was made by tests/differential/list. A line is a letter and numbers
 // in hexadecimal, one space before each; f64s are their bits. What a line of each letter holds is
 // said where it is compared; a line W has an angle (place 1) and the wrapped angle (2).
+#![tactic(auto)]
 mod clipped;
 mod numbers;
 mod outlines;
@@ -17,7 +18,7 @@ use plans::Plan;
 
 // How far the list was read: the place of the number that is being read in its line, the lines
 // read, those of them on which an answer differs, and the plan that the next lines are about.
-#[derive(Drop)]
+#[derive(Clone, Copy)]
 struct Reading {
     at: usize,
     lines: u64,

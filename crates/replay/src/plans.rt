@@ -11,7 +11,7 @@ use intersections::collect::collect_intersections;
 use intersections::points::Intersections;
 
 // The first n circles, their meeting points, and the box, where it is given. Of no plan n is 0.
-#[derive(Drop)]
+#[derive(Clone, Copy)]
 pub struct Plan {
     pub n: usize,
     pub circles: [Circle; 10],

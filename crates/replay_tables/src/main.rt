@@ -2,6 +2,7 @@
 // comes from standard input and was made by tests/tables/list from the Rust's answers; those of plans with identical heads by the Rust's
 // functions from the meeting points that document 01 leaves. A line is a letter and numbers in hexadecimal, one space before each; f64s are
 // their bits. What a line of each letter holds is said in tables.rt. tests/stored/run shows that a changed bit is seen.
+#![tactic(auto)]
 mod numbers;
 mod rows;
 mod tables;
@@ -11,7 +12,7 @@ use tables::Held;
 
 // How far the list was read: the place of the number that is being read in its line, the lines
 // read, those of them on which an answer differs, and the plan that the next lines are about.
-#[derive(Drop)]
+#[derive(Clone, Copy)]
 struct Reading {
     at: usize,
     lines: u64,

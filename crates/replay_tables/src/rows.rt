@@ -6,7 +6,7 @@ use table::afresh::{afresh, open_afresh};
 
 // A plan's rows and exclusives, and its exclusives as they come with their gradients, where all calls took it. The gradients stand in an array
 // of their own, lent beside it: a row of them has `width` numbers.
-#[derive(Drop)]
+#[derive(Clone, Copy)]
 pub struct Table {
     pub taken: bool,
     pub presence: [u8; 1024],

@@ -17,7 +17,7 @@ use overlaps::overlaps::{compute_overlaps_circles, compute_overlaps_of};
 use plan::{Ground, Plan, rows_needed};
 
 // A plan with its tables in the box and without it, and how many masks its heads have: none, where there are too many heads.
-#[derive(Drop)]
+#[derive(Clone, Copy)]
 pub struct Held {
     pub plan: Plan,
     pub masks: usize,

@@ -1,5 +1,6 @@
 // Reads a plan file of any length from standard input and prints the exclusive area of each present row after the last edit, or the refusal. All
 // that it works out is `reading`'s; here are the buffer, the tables and the two ends.
+#![tactic(auto)]
 ghost use Rattle.std.specs.Prelude.{◌≤◌, length};
 
 use libc::{STDERR_FILENO, STDIN_FILENO, STDOUT_FILENO};
@@ -7,7 +8,7 @@ use reading::feeding::{Reading, begin, feed};
 use reading::listing::print_file;
 
 // Standard input: it may have more, it has ended, or a read failed.
-#[derive(Drop)]
+#[derive(Clone, Copy)]
 enum Input {
     Open,
     Ended,
@@ -15,7 +16,7 @@ enum Input {
 }
 
 // What is read so far, and the input after it.
-#[derive(Drop)]
+#[derive(Clone, Copy)]
 struct Part {
     reading: Reading,
     input: Input,

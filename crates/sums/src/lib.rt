@@ -1,6 +1,7 @@
 // The areas of all rows of a pass, worked out together, so that what rows share is worked out once: of each head its meeting points by angle,
 // who lets it have each gap between them, what each gap adds to a sum, and its chords with the edges of the box (`chords`). And which rows of
 // a table are there.
+#![tactic(auto)]
 mod edges;
 mod fast;
 mod fill;

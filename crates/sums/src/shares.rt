@@ -23,7 +23,7 @@ use inside::breaks::breaks_between;
 use inside::parts::summed;
 
 // How many parts an arc has in the box, and its integral along them.
-#[derive(Drop)]
+#[derive(Clone, Copy)]
 pub struct Along {
     pub many: usize,
     pub sum: f64,

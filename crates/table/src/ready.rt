@@ -11,7 +11,7 @@ use plan::Plan;
 use sets::discover::discover_regions;
 
 // `clipped`: the rows are those in the box.
-#[derive(Drop)]
+#[derive(Clone, Copy)]
 pub struct Ready {
     pub clipped: bool,
     pub n: usize,

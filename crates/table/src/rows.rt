@@ -10,7 +10,7 @@ use sums::presence::{clear_absent, write_presence};
 use sums::rows::write_areas;
 
 // The edited head, and those that it met before or after, as masks.
-#[derive(Drop)]
+#[derive(Clone, Copy)]
 pub struct Change {
     pub own: usize,
     pub met: usize,

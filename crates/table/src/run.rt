@@ -8,7 +8,7 @@ use crate::edit::edit_one;
 use plan::{Edit, Plan, answer_number, shorter};
 
 // The plan that a run leaves, and how many edits it tried.
-#[derive(Drop)]
+#[derive(Clone, Copy)]
 pub struct Ran {
     pub plan: Plan,
     pub count: usize,

@@ -1,4 +1,5 @@
 // The C interface, declared in include/watered.h: thin calls of the crates below, each with its callee's definition.
+#![tactic(auto)]
 ghost use Rattle.std.specs.Prelude.{◌≡◌};
 ghost use Rattle.elementary.specs.Root.{root, hypot};
 ghost use Rattle.elementary.specs.Sine.{sine, cosine};

@@ -1,5 +1,5 @@
 -- The root digit by digit: what holds after each pair of the radicand's digits, and that the end is the nearest whole number.
-use Rattle.std.proofs.Common.{◌≡◌, ℕ, suc, ◌+◌, ◌-◌, ◌*◌, ◌/◌, ◌%◌, ◌^◌, ◌<◌, ◌≤◌, sym, ap, ◌∙◌, subst, mul-le-mul_right, mul_assoc, mul-le-mul_left, pow-suc, sub-one, arith, pow_pos}
+use Rattle.std.proofs.Common.{zero, ◌≡◌, ℕ, suc, ◌+◌, ◌-◌, ◌*◌, ◌/◌, ◌%◌, ◌^◌, ◌<◌, ◌≤◌, sym, ap, ◌∙◌, subst, mul-le-mul_right, mul_assoc, mul-le-mul_left, pow-suc, sub-one, arith, pow_pos}
 use native.Mathlib.Nat.{pow-succ'}
 use lib.Arith.{le-zero}
 use Rattle.elementary.specs.Root.{nearest_root}
@@ -30,12 +30,14 @@ taken_short m digits root rest left t = omega (arith, t.short, mul-le-mul_left (
 
 -- a pair is moved from the digits to come to those taken
 moved : (w a b left : ℕ) → 0 < left → w ≡ a * 4 ^ left → a * 4 ≡ b → w ≡ b * 4 ^ (left - 1)
+moved w a b zero p h e = elim p [ ]
 moved w a b (suc k) p h e =
     rw (sub-one (suc k))
     (h ∙ ap (λ (z : ℕ). a * z) (pow-succ' 4 k) ∙ sym (mul_assoc a 4 (4 ^ k)) ∙ ap (λ (z : ℕ). z * 4 ^ k) e)
 
 -- the root has one digit more
 longer : (r s left : ℕ) → 0 < left → (r + 1) * 2 ^ left ≤ 2 ^ 53 → s ≤ r * 2 + 1 → (s + 1) * 2 ^ (left - 1) ≤ 2 ^ 53
+longer r s zero q h l = elim q [ ]
 longer r s (suc k) q h l = rw (sub-one (suc k)) (go (2 ^ k) (subst (λ (p : ℕ). (r + 1) * p ≤ 2 ^ 53) (pow-suc 2 k) h))
   where
     go : (p : ℕ) → (r + 1) * (p * 2) ≤ 2 ^ 53 → (s + 1) * p ≤ 2 ^ 53

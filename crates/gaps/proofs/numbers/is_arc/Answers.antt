@@ -1,0 +1,24 @@
+use borrow.Author.Rules.{rules}
+use mathlib.Core.Path.{sym, ◌∙◌}
+use Rattle.gaps.specs.Gaps.{circles_in}
+use Rattle.gaps.proofs.Owning.{arc_none, arc_some}
+use Rattle.gaps.proofs.Circles.{circle_held}
+use Rattle.gaps.proofs.numbers.is_arc.Goals as goal
+
+pub returns-then-collapsed : goal.returns-then-collapsed
+returns-then-collapsed c =
+    let a = c.args in
+    arc_none (circles_in a.c.now a.n_sets) a.mask a.j a.phi_a a.phi_b _ c.gap-delta.ensures
+    (sym c.collapsed.ensures ∙ c.if-collapsed.true)
+
+pub returns : goal.returns
+returns c =
+    let k = c.before.before in
+    let e = k.before in
+    let s = e in
+    let a = s.args in
+    arc_some (circles_in a.c.now a.n_sets) a.mask a.j a.phi_a a.phi_b _ s.gap-delta.ensures _ _ _
+    (sym e.collapsed.ensures ∙ e.if-collapsed.false)
+    (k.circle_at-circle.ensures ∙ circle_held a.c.now a.n_sets a.j s.requires.1 s.requires.0)
+    c.point_at.ensures
+    c.owned_in.ensures

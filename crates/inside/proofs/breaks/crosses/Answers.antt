@@ -1,0 +1,6 @@
+-- `breaks::crosses`: the test, of what `abs` gives.
+use borrow.Author.Rules.{rules}
+use Rattle.inside.proofs.breaks.crosses.Goals as goal
+
+pub returns : goal.returns
+returns c = rw c.abs.ensures

@@ -1,0 +1,12 @@
+-- `span::seen`: for a vertical edge what the two makers give is the swapped circle.
+use borrow.Author.Rules.{rules}
+use Rattle.inside.specs.Span.{seen, swapped}
+use Rattle.inside.proofs.span.seen.Goals as goal
+
+pub returns-then-upright : goal.returns-then-upright
+unfolding seen swapped
+returns-then-upright c = cc
+
+pub returns : goal.returns
+unfolding seen swapped
+returns c = cc

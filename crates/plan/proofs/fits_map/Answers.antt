@@ -1,0 +1,14 @@
+-- `plan::fits_map` meets its contract. Assumes nothing.
+use mathlib.Core.Path.{sym}
+use native.Mathlib.Nat.{lt_of_lt_of_le}
+use lib.Pow.{pow_mono}
+use borrow.Author.Tests.{lt-ltb}
+use Rattle.plan.proofs.Conditions.{below_iff}
+use borrow.Author.Rules.{rules}
+use Rattle.plan.proofs.fits_map.Goals as goal
+
+pub returns-then-fields-lt8 : goal.returns-then-fields-lt8
+returns-then-fields-lt8 c = below_iff c.args.fields c.args.map
+
+pub returns-else-fields-lt8 : goal.returns-else-fields-lt8
+returns-else-fields-lt8 c = sym (lt-ltb _ _ (lt_of_lt_of_le c.ranges.map.fits (pow_mono c.if-fields-lt8.false)))
