@@ -1,5 +1,6 @@
 // A plan drawn: its heads as circles and its ground as a box, of f64. Rests on the plan of `plan` and the circle of a head of `exact`.
 #![tactic(auto)]
+
 ghost use Rattle.std.specs.Prelude.{◌≡◌, map};
 ghost use Rattle.exact.specs.Circle.{circle_of};
 ghost use Rattle.drawn.specs.Drawn.{box_of};

@@ -8,7 +8,7 @@ use native.Mathlib.Numerals.{add-one}
 use native.Mathlib.Omega.{arith}
 use lib.Arith.{digits_div, digits_mod}
 use lib.Ieee.{Float, nan}
-use lib.ListN.{length, get_or, drop, set, length-set}
+use lib.ListN.{length, get_or, set, length-set}
 use lib.Seq.{get_or-set_same, get_or-set_other, drop-set-lt}
 use Rattle.lists.specs.Every.{Every, every_map}
 use Rattle.binary64.specs.Constants.{zero64}

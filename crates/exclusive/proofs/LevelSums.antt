@@ -1,26 +1,24 @@
 -- Sums by levels: over all rows after a level, with +0 for a row that is no superset, they are those over a row's strict supersets.
 use mathlib.Core.Path.{◌≡◌, refl, sym, ap, ap₂, ◌∙◌, subst}
-use mathlib.Core.Bool.{Bool, true, false, not, cond, ◌&&◌, and-true}
-use mathlib.Core.List.{List, [], ◌∷◌, ◌++◌}
+use mathlib.Core.Bool.{Bool, true, false, cond}
+use mathlib.Core.List.{List, [], ◌∷◌}
 use mathlib.Core.Logic.{⊎_elim}
-use Prim.Native.Nat.{ℕ, zero, suc, ◌+◌, ◌*◌, ◌-◌, ◌^◌, ◌≤◌, ◌<◌}
+use Prim.Native.Nat.{ℕ, ◌+◌, ◌*◌, ◌-◌, ◌^◌, ◌≤◌, ◌<◌}
 use native.Mathlib.Nat.{eq-or-lt_of_le, le_of_suc-le-suc}
 use native.Mathlib.Numerals.{add-one}
 use native.Mathlib.Omega.{arith}
-use borrow.Author.Tests.{ne_eqb}
 use lib.Count.{ones}
-use lib.Dec.{T, eqb}
+use lib.Dec.{T}
 use lib.Ieee.{Float, nan, binary64, fits}
 use lib.Ieee.Fits.{sub-fits}
 use lib.ListN.{length, get_or, take, drop, set, length-set, drop_of_length-le}
-use lib.Seq.{drop-drop, get_or-take, get_or-set_same, get_or-set_other, length-take-le}
+use lib.Seq.{get_or-take, get_or-set_same, get_or-set_other, length-take-le}
 use Rattle.lists.specs.Lists.{keep}
 use Rattle.lists.specs.Every.{Every, every_map, every_at}
 use Rattle.masks.specs.Mask.{subset, strict_subset}
-use Rattle.masks.specs.Subset.{and_test}
 use Rattle.binary64.specs.Constants.{zero64}
 use Rattle.binary64.specs.Floats.{◌+ᶠ◌, ◌-ᶠ◌}
-use Rattle.exclusive.specs.RowOrder.{row_order, Ordered}
+use Rattle.exclusive.specs.RowOrder.{row_order}
 use Rattle.exclusive.specs.Exclusive.{sum_onto, above, unclamped}
 use Rattle.exclusive.specs.Entries.{entry, sum_all, LevelAdded, RowSubtracted}
 use Rattle.exclusive.proofs.RowOrder.{rows_ordered, every_row}

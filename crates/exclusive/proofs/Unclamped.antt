@@ -1,13 +1,13 @@
 -- Document 01's sentence on exclusive areas as an equation: from the area of a row the unclamped exclusives of its present strict supersets.
 -- And a row below 2^n looks at presence and areas below 2^n only.
 use mathlib.Core.Path.{◌≡◌, refl, sym, ap, ap₂, ◌∙◌, fun_ext}
-use mathlib.Core.Bool.{Bool, true, false, cond}
+use mathlib.Core.Bool.{Bool, cond}
 use mathlib.Core.List.{List, [], ◌∷◌}
 use Prim.Native.Nat.{ℕ, zero, suc, ◌+◌, ◌^◌, ◌≤◌, ◌<◌}
 use native.Mathlib.Omega.{arith}
 use lib.Count.{ones, ones-le}
 use lib.Ieee.{Float}
-use Rattle.lists.specs.Lists.{up_to, keep}
+use Rattle.lists.specs.Lists.{keep}
 use Rattle.lists.proofs.Lists.{up_to_cong}
 use Rattle.lists.specs.Every.{Every, every_kept}
 use Rattle.masks.specs.Mask.{strict_subset}

@@ -2,6 +2,7 @@
 // form with gradients.
 // Rests on presence bytes, one a mask, and knows nothing of heads or plans.
 #![tactic(auto)]
+
 pub mod areas;
 pub mod levels;
 pub mod rows;

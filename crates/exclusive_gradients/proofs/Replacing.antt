@@ -16,7 +16,7 @@ use Rattle.masks.specs.Presence.{stands}
 use Rattle.binary64.specs.Constants.{zero64}
 use Rattle.exclusive.specs.Exclusive.{unclamped}
 use Rattle.exclusive.specs.Entries.{entry, Subtracted}
-use Rattle.exclusive_gradients.specs.Gradient.{unless_replaced, exclusive_with_gradient, gradient_entry, kept_row}
+use Rattle.exclusive_gradients.specs.Gradient.{exclusive_with_gradient, gradient_entry, kept_row}
 use Rattle.exclusive.proofs.TableRows.{row_of_place, place}
 use Rattle.exclusive.proofs.Closing.{subtracted_row, subtracted_one, rest_one}
 

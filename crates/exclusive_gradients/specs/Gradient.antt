@@ -1,7 +1,7 @@
 -- The exclusives with their gradients (the Rust's to_exclusive_areas_and_gradients). Each entry of a gradient goes the way of the areas, by
 -- itself; "the gradient form only replaces values below 0.0 and then zeroes that gradient row". So a NaN and a -0 stay, unlike in the
 -- form without gradients.
-use Rattle.std.specs.Prelude.{ℕ, min, ◌+◌, ◌*◌, ◌/◌, ◌%◌, ◌^◌, Bool, not, cond, ◌&&◌, List, eqb, ltb, Float, get_or, length}
+use Rattle.std.specs.Prelude.{ℕ, min, ◌*◌, ◌/◌, ◌%◌, ◌^◌, Bool, not, cond, ◌&&◌, List, eqb, ltb, Float, get_or, length}
 use Rattle.std.specs.Float.{nan}
 use Rattle.std.specs.Float.Ieee.{lt}
 use Rattle.lists.specs.Written.{written}

@@ -1,9 +1,9 @@
 -- The theorems that `specs/Exactly.antt` states: where a field began, by the steps of the reader; and the answer by the first check that fails.
-use Prim.Native.Nat.{ℕ, zero, suc, ◌+◌, ◌-◌, ◌^◌, ◌≤◌, ◌<◌, min}
+use Prim.Native.Nat.{ℕ, suc, ◌+◌, ◌-◌, ◌^◌, ◌<◌}
 use mathlib.Core.Path.{◌≡◌, refl, sym, ap, ◌∙◌, subst}
 use mathlib.Core.Bool.{Bool, true, false, cond, false≢true}
 use mathlib.Core.List.{List, [], ◌∷◌, ◌++◌}
-use mathlib.Core.Logic.{◌↔◌, ◌⊎◌, inl, inr, ⊎_elim}
+use mathlib.Core.Logic.{◌⊎◌, inl, inr, ⊎_elim}
 use native.Mathlib.Omega.{arith}
 use lib.Dec.{ltb}
 use lib.IntN.{ℤ}
@@ -12,15 +12,13 @@ use Rattle.lists.specs.Every.{Every, every_append}
 use Rattle.plan.specs.declared.Answer.{Answer}
 use Rattle.plan.specs.declared.Answer.TheVariants.{Taken, Refused}
 use Rattle.plan.specs.declared.Item.{Item}
-use Rattle.plan.specs.declared.Item.TheVariants.{Count, Map, Coordinate, Side, Radius, HeadNumber, Tables}
+use Rattle.plan.specs.declared.Item.TheVariants.{Count, Map, Coordinate, Side, Radius, HeadNumber}
 use Rattle.plan.specs.declared.Plan.{Plan}
 use Rattle.plan.specs.declared.Refusal.{Refusal}
-use Rattle.plan.specs.declared.Refusal.TheVariants.{Ended, TablesTooShort}
+use Rattle.plan.specs.declared.Refusal.TheVariants.{Ended}
 use Rattle.plan.specs.Book.{with_head}
-use Rattle.plan.specs.Checks.{first_of}
 use Rattle.plan.specs.Exactly.{Satisfied}
-use Rattle.plan.specs.Table.{holds, refusal_of, number_of, answer_number, answer_offset, examined}
-use Rattle.plan.proofs.Answers.{first_of_assoc}
+use Rattle.plan.specs.Table.{holds, refusal_of, number_of, answer_number, answer_offset}
 use Rattle.plan.proofs.Exactly.{holds_exactly}
 use Rattle.file.specs.declared.reader.Handed.TheVariants.{Nothing, ThePlan}
 use Rattle.file.specs.declared.reader.Reader.{Reader}
@@ -29,10 +27,10 @@ use Rattle.file.specs.declared.reader.Stage.TheVariants.{AtCount, AtMap, AtByte0
 use Rattle.file.specs.declared.reader.Target.{Target}
 use Rattle.file.specs.declared.reader.Target.TheVariants.{TheBox, HeadAt, EditOf}
 use Rattle.file.specs.File.{next_offset, number32, read_file}
-use Rattle.file.specs.Reader.{count_of, item_of, next_field, start, move_on, goes_on, check_or, begin, map_read, value_read, to_field, turn, to_head, complete_at, complete, seek, choose, step_at, step, finished_at, finish, feed}
+use Rattle.file.specs.Reader.{count_of, item_of, next_field, start, goes_on, check_or, begin, map_read, value_read, to_field, turn, to_head, complete_at, complete, seek, choose, step_at, step, finished_at, feed}
 use Rattle.file.specs.Same.{end_of}
 use Rattle.file.specs.Exactly.{Check, check_of, checks_at, checks_of, checks, PlacedAt, ChecksPlaced, AllPassed, FirstFails, Wanted, FileTaken, FileEnded, FileRefused, FirstNumbered, FileNumber, FileSevenNever}
-use Rattle.file.proofs.Offsets.{At, Clean, fed_at, ended_at}
+use Rattle.file.proofs.Offsets.{fed_at, ended_at}
 use Rattle.file.proofs.Reading.{by_test, checked}
 use Rattle.file.proofs.Same.{reader_answers}
 

@@ -1,7 +1,7 @@
 -- Laws of digits: how many they are, the value of the first of them, and how many a number has in base ten.
 use mathlib.Core.Path.{◌≡◌, refl, sym, ap, ◌∙◌}
 use mathlib.Core.Bool.{Bool, true, false, cond}
-use mathlib.Core.List.{List, [], ◌∷◌, ◌++◌}
+use mathlib.Core.List.{List, ◌∷◌}
 use Prim.Native.Nat.{ℕ, zero, suc, ◌+◌, ◌*◌, ◌/◌, ◌%◌, ◌-◌, ◌^◌, ◌≤◌, ◌<◌}
 use native.Mathlib.Nat.{mul-div_cancel_left, mul-le-mul_left, mul-pos, pow-suc, pow-succ', pow-zero, pow-le-pow_right}
 use native.Mathlib.Numerals.{add-one}
@@ -9,7 +9,7 @@ use native.Mathlib.Omega.{arith}
 use borrow.Author.Tests.{lt-ltb, le-ltb, ltb-true, ltb-false}
 use lib.Dec.{ltb}
 use lib.ListN.{length, set}
-use Rattle.printing.specs.Text.{glyph, digits, places, decimal, put}
+use Rattle.printing.specs.Text.{glyph, digits, places, put}
 use Rattle.printing.proofs.Putting.{put_next}
 
 pub length_digits : (b k n : ℕ) → length (digits b k n) ≡ k

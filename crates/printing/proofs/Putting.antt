@@ -1,11 +1,11 @@
 -- Laws of a text put into a lent slice.
-use mathlib.Core.Path.{◌≡◌, refl, sym, ap, ap₂, ◌∙◌}
+use mathlib.Core.Path.{◌≡◌, refl, sym, ap, ◌∙◌}
 use mathlib.Core.List.{List, [], ◌∷◌, ◌++◌, append_assoc}
 use Prim.Native.Nat.{ℕ, zero, suc, ◌+◌, ◌≤◌, ◌<◌}
 use native.Mathlib.Numerals.{add-one}
 use native.Mathlib.Omega.{arith}
 use lib.ListN.{length, get_or, set, take, drop, length-append, length-set}
-use lib.Seq.{set_at, take-append-le, take_all, drop-cons, take-suc}
+use lib.Seq.{set_at, drop-cons}
 use Rattle.printing.specs.Text.{put, PutFits, PutCut}
 
 -- one text and then another

@@ -1,12 +1,11 @@
 -- An edit of a plan's afresh rows gives the edited plan's afresh rows.
-use mathlib.Core.Path.{◌≡◌, refl, sym, ap, ◌∙◌, subst}
+use mathlib.Core.Path.{◌≡◌, refl, sym, ap, ◌∙◌}
 use mathlib.Core.Bool.{Bool, true, false, not, cond, ◌&&◌, ◌||◌, true≢false}
 use mathlib.Core.List.{[], ◌∷◌}
 use Prim.Native.Nat.{ℕ, zero, suc, ◌<◌, ◌^◌}
 use native.Mathlib.Nat.{lt_of_lt_of_le}
 use native.Mathlib.Omega.{arith}
 use lib.Dec.{eqb}
-use lib.Ieee.{Float}
 use lib.ListN.{length}
 use lib.Pow.{pow_mono}
 use borrow.Author.Tests.{ne_eqb}
@@ -29,7 +28,7 @@ use Rattle.intersections.specs.Points.{collected}
 use Rattle.regions.specs.Edit.{Row, absent, present, box_row, afresh_row, overlaps, meets_any, met, reworked, edited_row}
 use Rattle.intersections.proofs.Masks.{head_below}
 use Rattle.regions.proofs.Masks.{no_overlap, own_head}
-use Rattle.regions.specs.Table.{Method, head_at, plan_members, area_at, afresh, met_by}
+use Rattle.regions.specs.Table.{Method, head_at, area_at, afresh, met_by}
 use Rattle.intersections.proofs.Kept.{Apart, area_same}
 
 or-false : (a b : Bool) → (a || b) ≡ false → (a ≡ false) × (b ≡ false)

@@ -1,10 +1,9 @@
 -- Slices are tables: what is written into slices is what the rows say, each call over slices is the step on their rows, and what a taken call has been
 -- checked for. A function over slices puts its parts together by the laws of the last section.
-use Prim.Native.Nat.{ℕ, ◌^◌, ◌≤◌, ◌<◌, min}
-use mathlib.Core.Path.{◌≡◌, refl, sym, ap, ap₂, ◌∙◌, subst, fun_ext}
+use Prim.Native.Nat.{ℕ, ◌^◌, ◌≤◌, ◌<◌}
+use mathlib.Core.Path.{◌≡◌, refl, sym, ap, ap₂, ◌∙◌, fun_ext}
 use mathlib.Core.Bool.{Bool, true, false, cond}
-use mathlib.Core.List.{List, [], ◌∷◌}
-use native.Mathlib.Nat.{le_of_eq}
+use mathlib.Core.List.{List}
 use native.Mathlib.Omega.{arith}
 use lib.Dec.{ltb}
 use lib.Ieee.{Float, nan}
@@ -18,13 +17,12 @@ use Rattle.plan.specs.declared.Edit.{Edit}
 use Rattle.plan.specs.declared.Plan.{Plan}
 use Rattle.plan.specs.declared.Refusal.{Refusal}
 use Rattle.plan.specs.Book.{applied, leaves}
-use Rattle.plan.specs.Table.{least}
 use Rattle.plan.proofs.Exactly.{call_taken, edit_taken}
 use Rattle.regions.specs.Edit.{Row}
 use Rattle.regions.specs.Table.{Method, PlanTable, afresh, edited, overlaid, settled, rows_over, afresh_step, table_step}
 use Rattle.regions.specs.Slices.{Slices, slices_of, row_at, written_bytes, written_numbers, with_rows, RowWritten, RowsFix, LentTables, tables_of}
 use Rattle.regions.specs.Slices.{lent_of, PlanSlices, settled_tables, step_of, afresh_answer, afresh_left, afresh_slices, slice_answer, edited_left}
-use Rattle.regions.specs.Slices.{edit_slices, plan_table, entry_of, SlicesAreTables}
+use Rattle.regions.specs.Slices.{edit_slices, plan_table, SlicesAreTables}
 use Rattle.regions.proofs.Steps.{rows-over}
 
 -- ---- what is written is read

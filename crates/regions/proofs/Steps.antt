@@ -1,6 +1,6 @@
 -- What a step writes and what it leaves: the rows below a count are new, the others stay; and what a list of steps keeps from the first taken one on.
 use Prim.Native.Nat.{ℕ, ◌≤◌, ◌<◌, ◌^◌}
-use mathlib.Core.Path.{◌≡◌, refl, sym, ap, ◌∙◌, subst}
+use mathlib.Core.Path.{◌≡◌, refl, sym, ap, ◌∙◌}
 use mathlib.Core.List.{List, [], ◌∷◌}
 use native.Mathlib.Nat.{le_refl, lt_of_lt_of_le, max-eq_left}
 use native.Mathlib.Omega.{arith}

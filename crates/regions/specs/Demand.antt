@@ -1,7 +1,6 @@
 -- Demand 3 in two halves, over any way to work out a table (a `Method`): any area of members, any list of sets.
 -- proofs/Demand.antt proves both: `list_ends_afresh`, `edit_reworks_exactly`; and what the afresh call leaves, `afresh_works`.
 use Rattle.std.specs.Prelude.{ℕ, ◌≤◌, ◌<◌, ◌^◌, ◌≡◌, true, false, List, ◌⊎◌, length}
-use Rattle.heads.specs.declared.Head.{Head}
 use Rattle.heads.specs.Pair.{meets_of}
 use Rattle.masks.specs.Mask.{in_set}
 use Rattle.plan.specs.declared.Answer.{Answer}

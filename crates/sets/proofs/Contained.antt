@@ -3,7 +3,7 @@
 use mathlib.Core.Path.{◌≡◌, refl, sym, ap, ◌∙◌, subst}
 use mathlib.Core.Bool.{Bool, true, false, not, false≢true}
 use mathlib.Core.Logic.{⊎_elim}
-use Prim.Native.Nat.{ℕ, ◌+◌, ◌*◌, ◌≤◌, ◌<◌}
+use Prim.Native.Nat.{ℕ, ◌+◌, ◌≤◌}
 use native.Mathlib.Omega.{arith}
 use lib.Dec.{T}
 use lib.IntN.{pos}
@@ -12,7 +12,7 @@ use lib.Ieee.Fits.{add-fits}
 use lib.Ieee.Order.{round_mono}
 use lib.Ieee.Scale.{finite}
 use Rattle.binary64.specs.Rounding.{Result}
-use Rattle.binary64.specs.Units.{Finite, Digits53, one, mag, plus, minus}
+use Rattle.binary64.specs.Units.{Finite, Digits53, one, plus, minus}
 use Rattle.binary64.proofs.Operations.{add_result, result_finite, result_rounded}
 use Rattle.binary64.proofs.Rounding.{plus_ge, minus_le, minus_none}
 use Rattle.binary64.proofs.Units.{one_pos, mag_digits, mag_limit, plus_minus, one_sided, of_units_zero, units_of_lt, units_of_le}

@@ -9,7 +9,7 @@ use lib.Dec.{eqb, ltb}
 use lib.ListN.{length, get_or, set, replicate, length-set, length-replicate, get_or-replicate}
 use lib.Seq.{ext_get_or, get_or-set_same, get_or-set_other}
 use Rattle.lists.specs.Some.{some}
-use Rattle.lists.specs.Written.{tab, written}
+use Rattle.lists.specs.Written.{written}
 use Rattle.masks.specs.Presence.{byte}
 use Rattle.lists.proofs.Somes.{some_next}
 use Rattle.lists.proofs.Writing.{length_tab, get_d_tab, tab_cong, length_written, written_before, written_past}

@@ -1,5 +1,5 @@
 -- What code writes on usize masks, for heads below n, as sets of width n.
-use mathlib.Core.Path.{◌≡◌, refl, sym, ap, ◌∙◌, subst}
+use mathlib.Core.Path.{◌≡◌, sym, ap, ◌∙◌, subst}
 use mathlib.Core.Bool.{Bool, true, false, not, ◌&&◌}
 use Prim.Native.Nat.{ℕ, suc, ◌^◌, ◌≤◌, ◌<◌}
 use lib.Count.{ones}
@@ -7,7 +7,7 @@ use native.Mathlib.Nat.{lt_of_lt_of_le}
 use native.Mathlib.Omega.{arith}
 use lib.Bits.{bit_and, bit_or}
 use lib.Dec.{eqb}
-use lib.Pow.{pow_mono, pow-lt}
+use lib.Pow.{pow_mono}
 use Rattle.masks.specs.Mask.{in_set, single, with_head, without_head, shifted, complement}
 use Rattle.masks.specs.Operations.{shifted_is, shifted_lt, in_minus, in_shifted, in_of_zero, in_of_one, zero_by_mask, one_by_mask, without_below, one_of_in, zero_of_in}
 use Rattle.masks.specs.Size.{ones_with, ones_without}

@@ -55,9 +55,9 @@ module _ (n : ℕ) (o : ℕ → ℕ) (S : ℕ) where
       implied (in_set others b) (in_set (o a) b) (every_below n (λ j. not (in_set others j) || in_set (o a) j) all b hb)
       (in_gather n (λ j. in_set S j && not (eqb j a)) b hb ∙ ap₂ ◌&&◌ kb (ap not ne))
 
-  pairs_of : ((a b : ℕ) → a < n → b < n → in_set S a ≡ true → in_set S b ≡ true → eqb b a ≡ false → in_set (o a) b ≡ true) → all_pairs n o S ≡ true
+  pairs_each : ((a b : ℕ) → a < n → b < n → in_set S a ≡ true → in_set S b ≡ true → eqb b a ≡ false → in_set (o a) b ≡ true) → all_pairs n o S ≡ true
   unfolding all_pairs
-  pairs_of each =
+  pairs_each each =
       every_of n (λ i. not (in_set S i) || subset n (without_head n S i) (o i))
       (λ a ha. implies (in_set S a) (subset n (without_head n S a) (o a))
       (λ ka. every_of n (λ j. not (in_set (without_head n S a) j) || in_set (o a) j)
@@ -83,7 +83,7 @@ module _ (n : ℕ) (o : ℕ → ℕ) (turned : (a b : ℕ) → a < n → b < n �
       (ne_eqb j i (λ f. false≢true (sym out ∙ ap (in_set s) (sym f) ∙ k)))))
 
   from_sub : subset n s (o i) ≡ true → all_pairs n o t ≡ true
-  from_sub e = pairs_of n o t (λ a b ha hb ka kb ne. go a b ha hb (eqb a i) refl (eqb b i) refl (sym (in_t a ha) ∙ ka) (sym (in_t b hb) ∙ kb) ne)
+  from_sub e = pairs_each n o t (λ a b ha hb ka kb ne. go a b ha hb (eqb a i) refl (eqb b i) refl (sym (in_t a ha) ∙ ka) (sym (in_t b hb) ∙ kb) ne)
     where
       with_i : (j : ℕ) → j < n → in_set s j ≡ true → in_set (o i) j ≡ true
       with_i j h k = implied (in_set s j) (in_set (o i) j) (every_below n (λ j. not (in_set s j) || in_set (o i) j) e j h) k
@@ -154,7 +154,7 @@ module _ (n : ℕ) (found : ℕ → Bool) (o : ℕ → ℕ) (over : (i : ℕ) �
           let few : ones S ≤ 2 = omega (arith, leb-false 3 (ones S) k) in
           let two : ones S ≡ 2 = omega (arith, few, two_heads n found o containing S e) in
           let got = and_both (eqb (ones S) 2) (found S) (sym (is_few n found o containing S few) ∙ e) in
-          pairs_of n o S (λ a b ha hb ka kb ne. in_over a b ha hb ∙ ap found (pair_is S a b hs two ha hb ka kb ne) ∙ got.1)
+          pairs_each n o S (λ a b ha hb ka kb ne. in_over a b ha hb ∙ ap found (pair_is S a b hs two ha hb ka kb ne) ∙ got.1)
 
   -- ---- the pairs found, as the masks of two heads
 

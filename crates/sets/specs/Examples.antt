@@ -1,7 +1,7 @@
 -- What sets there are for some answers about three or four heads: one list, `examples`, of cases that tell the rules of specs/Sets.antt
 -- from the slips that this trade makes. Both sides of each equation are computed.
 use Prim.{Unit, tt}
-use Rattle.std.specs.Prelude.{ℕ, suc, Bool, true, false, ◌&&◌, ◌||◌, List, [], ◌∷◌, ◌≡◌, refl, eqb, leb}
+use Rattle.std.specs.Prelude.{ℕ, Bool, true, false, ◌||◌, List, [], ◌∷◌, ◌≡◌, refl, eqb}
 use Rattle.std.specs.Int.Count.{ones}
 use Rattle.lists.specs.Some.{some, any}
 use Rattle.masks.specs.Mask.{bit, in_set, gather, every}

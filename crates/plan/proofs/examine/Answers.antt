@@ -1,5 +1,4 @@
 -- `plan::examine` meets its contract. Assumes nothing.
-use borrow.Author.Rules.{rules}
 use Rattle.plan.proofs.examine.Goals as goal
 
 pub returns-else-item_holds : goal.returns-else-item_holds

@@ -4,7 +4,6 @@ use native.Mathlib.Nat.{lt_of_lt_of_le}
 use lib.Pow.{pow_mono}
 use borrow.Author.Tests.{lt-ltb}
 use Rattle.plan.proofs.Conditions.{below_iff}
-use borrow.Author.Rules.{rules}
 use Rattle.plan.proofs.fits_map.Goals as goal
 
 pub returns-then-fields-lt8 : goal.returns-then-fields-lt8

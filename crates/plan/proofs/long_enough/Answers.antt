@@ -3,7 +3,6 @@ use Prim.Native.Nat.{zero-le}
 use mathlib.Core.Path.{sym}
 use native.Mathlib.Nat.{mul-zero}
 use native.Mathlib.Omega.{arith}
-use borrow.Author.Rules.{rules}
 use borrow.Author.Tests.{le-leb, lt-leb}
 use Rattle.plan.proofs.Conditions.{gradients_iff}
 use Rattle.plan.proofs.long_enough.Goals as goal

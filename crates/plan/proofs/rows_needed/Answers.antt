@@ -1,6 +1,5 @@
 -- `plan::rows_needed` meets its contract: a shift is the power. Assumes nothing.
 use native.Mathlib.Omega.{arith}
-use borrow.Author.Rules.{rules}
 use borrow.Author.Tests.{le-leb, lt-leb}
 use Rattle.masks.specs.Operations.{shifted_is}
 use Rattle.plan.proofs.rows_needed.Goals as goal

@@ -18,9 +18,8 @@ use Rattle.gaps.proofs.numbers.gap_number.Tie as tie
 -- the head is one of those that count, and both places are among its 32
 within : (c : lts.Else3 tie.the-claims reads.Pre reads.Post) → let a = c.args in (a.j < length (circles_in a.c.now (min a.n_sets 10))) × (a.a < 32) × (a.b < 32)
 within c =
-    let t = c.before.before.before in
-    let a = t.args in (
-      omega (arith, circles_many a.c.now (min a.n_sets 10), t.at_most_ten-heads.ensures, c.if-j-heads.false),
+    let a = c.args in (
+      omega (arith, circles_many a.c.now (min a.n_sets 10), c.at_most_ten-heads.ensures, c.if-j-heads.false),
       omega (arith, c.if-a-ge32.false),
       omega (arith, c.if-b-ge32.false),
     )
@@ -59,8 +58,8 @@ returns-then-b-ge32 c =
 
 pub returns-then-mask-lets : goal.returns-then-mask-lets
 returns-then-mask-lets c =
-    let t = c.before.before.before in
-    let d = t.before.before.before.before.before.before.before in
+    let t = c.before.before.before.before in
+    let d = t.before.before in
     let s = d in
     let a = s.args in
     let w = within d in
@@ -69,8 +68,8 @@ returns-then-mask-lets c =
 
 pub returns-then-b-next : goal.returns-then-b-next
 returns-then-b-next c =
-    let t = c.before.before.before in
-    let d = t.before.before.before.before.before.before.before in
+    let t = c.before.before.before.before in
+    let d = t.before.before in
     let s = d in
     let a = s.args in
     let w = within d in

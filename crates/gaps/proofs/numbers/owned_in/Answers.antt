@@ -13,6 +13,7 @@ use Rattle.gaps.specs.Gaps.{circles_in}
 use Rattle.gaps.proofs.Owning.{true_or, not_in, every_suc, owned_all_of, owned_fails}
 use Rattle.gaps.proofs.Circles.{circles_many, circle_held}
 use Rattle.gaps.proofs.numbers.owned_in.Goals as goal
+use Rattle.gaps.proofs.numbers.owned_in.Goals.{then-mask-l-eq1+else-not-lets, else-mask-l-eq1}
 
 pub loop-l-init : goal.loop-l-init
 unfolding every
@@ -36,20 +37,20 @@ loop-l-preserved c =
     let l = d.loop-l.l in
     let below : l < a.n_sets = omega arith in
     let f : ℕ → Bool = λ i. not (in_set a.mask i) || lets a.j a.p i (circle_at (circles_in a.c.now a.n_sets) i) in
-    ⊎_elim
-    (λ w. (
-      omega arith,
-      every_suc f l d.loop-l.invariant.1
-          (true_or (not (in_set a.mask l)) (lets a.j a.p l (circle_at (circles_in a.c.now a.n_sets) l))
-          (ap (lets a.j a.p l) (sym (w.1.ensures ∙ circle_held a.c.now a.n_sets l below d.requires)) ∙ sym w.2.ensures ∙ not-false _ w.3.left)),
-    ))
-    (λ w. (
-      omega arith,
-      every_suc f l d.loop-l.invariant.1
-          (not_in (in_set a.mask l) (lets a.j a.p l (circle_at (circles_in a.c.now a.n_sets) l))
-          (sym (in_by_shift a.mask l) ∙ ne_eqb _ _ w.left)),
-    ))
-    c.if-mask-l-eq1.branch
+    elim c.if-mask-l-eq1.branch [
+      | then-mask-l-eq1+else-not-lets w ↦ (
+        omega arith,
+        every_suc f l d.loop-l.invariant.1
+            (true_or (not (in_set a.mask l)) (lets a.j a.p l (circle_at (circles_in a.c.now a.n_sets) l))
+            (ap (lets a.j a.p l) (sym (w.circle_at.ensures ∙ circle_held a.c.now a.n_sets l below d.requires)) ∙ sym w.lets.ensures ∙ w.if-not-lets.false)),
+      )
+      | else-mask-l-eq1 w ↦ (
+        omega arith,
+        every_suc f l d.loop-l.invariant.1
+            (not_in (in_set a.mask l) (lets a.j a.p l (circle_at (circles_in a.c.now a.n_sets) l))
+            (sym (in_by_shift a.mask l) ∙ ne_eqb _ _ w.if-mask-l-eq1.false)),
+      )
+    ]
 
 pub returns : goal.returns
 returns c =

@@ -39,7 +39,7 @@ loop-i-preserved c = let l = c.loop-i in
     let p = c in
     let a = p.args in
     let n = p.put_breaks-n.result in
-    let phi = p.put_breaks-n.new.0 in
+    let phi = p.put_breaks-n.new.phi in
     let f = add_part a.bounds a.c in
     let long : length (take n phi) ≡ n = omega (arith, l.invariant.places, l.invariant.few, length-take n phi) in
     record {
@@ -57,7 +57,7 @@ returns c = let l = c.loop-i in
     let p = c in
     let a = p.args in
     let n = p.put_breaks-n.result in
-    let phi = p.put_breaks-n.new.0 in
+    let phi = p.put_breaks-n.new.phi in
     sym (pairs_end (add_part a.bounds a.c) l.sum (take n phi) l.i (omega (arith, l.invariant.places, l.invariant.few, length-take n phi)))
     ∙ l.invariant.rest
     ∙ rw p.put_breaks-n.ensures.phi_after

@@ -26,11 +26,11 @@ returns-then-near_side c e =
     let a = start.args in
     let f = fitting start in
     stays-near a.low a.high a.v a.r
-    (bounded_most a.low f.0 (sym one.bounded.ensures ∙ one.else-bounded.true))
+    (bounded_most a.low f.0 (sym one.bounded.ensures ∙ one.if-bounded.true))
     (bounded_most a.high f.1 (sym two.bounded-then-bounded.ensures ∙ two.if-bounded-2.true))
-    (bounded_most a.v f.2 (sym three.bounded-then-bounded-2.ensures ∙ three.else-bounded-3.true))
+    (bounded_most a.v f.2 (sym three.bounded-then-bounded-2.ensures ∙ three.if-bounded-3.true))
     (bounded_most a.r f.3 (sym four.bounded-then-bounded-3.ensures ∙ four.if-bounded-4.true))
-    five.else-r.true (sym six.near_side.ensures ∙ six.if-near_side.true) (sym c.near_side-then-near_side.ensures ∙ e)
+    five.if-r.true (sym six.near_side.ensures ∙ six.if-near_side.true) (sym c.near_side-then-near_side.ensures ∙ e)
 
 pub returns-else-r : goal.returns-else-r
 returns-else-r c e = absurd (false≢true e)

@@ -12,11 +12,11 @@ unfolding open_area area_of
 returns c =
     let m = c in
     let a = m.args in
-    let given = m.members_of-set.ensures.1 in
+    let given = m.members_of-set.ensures in
     let set = m.members_of-set.result in
     let circles = take a.n_sets a.circles in
     rw (
       c.arcs_sum.ensures,
-      outline_of_set circles (point_list a.points) a.mask (head_list set) (circle_list set) given.0 given.1 c.outline_of.ensures.result_value,
-      given.1 ∙ sym (circles_of_members circles (point_list a.points) a.mask),
+      outline_of_set circles (point_list a.points) a.mask (head_list set) (circle_list set) given.result_value given.result_value_2 c.outline_of.ensures.result_value,
+      given.result_value_2 ∙ sym (circles_of_members circles (point_list a.points) a.mask),
     )

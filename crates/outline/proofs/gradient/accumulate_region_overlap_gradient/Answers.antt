@@ -24,7 +24,7 @@ pub loop-i-preserved : goal.loop-i-preserved
 loop-i-preserved c =
     let l = c.loop-i in
     let slopes = c.add_slopes in
-    record { same = slopes.auto.0 ∙ l.invariant.same; added = arcs_next l.invariant.added _ (omega arith) (omega arith) slopes.ensures }
+    record { same = slopes.auto.grad ∙ l.invariant.same; added = arcs_next l.invariant.added _ (omega arith) (omega arith) slopes.ensures }
 
 pub returns : goal.returns
 returns c = arcs_by_room c.loop-i.invariant.added (omega arith)

@@ -1,6 +1,5 @@
 -- `plan::book::apply` meets its contract. Assumes nothing.
 use Rattle.heads.proofs.Signed.{read_back}
-use borrow.Author.Rules.{rules}
 use Rattle.plan.proofs.book.apply.Goals as goal
 
 pub returns : goal.returns

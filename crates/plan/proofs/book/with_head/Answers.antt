@@ -1,5 +1,4 @@
 -- `plan::book::with_head` meets its contract. Assumes nothing.
-use borrow.Author.Rules.{rules}
 use Rattle.plan.proofs.book.with_head.Goals as goal
 
 pub returns : goal.returns

@@ -1,6 +1,5 @@
 -- `plan::check::check` meets its contract. Assumes nothing.
 use Rattle.plan.proofs.Answers.{plan-answer}
-use borrow.Author.Rules.{rules}
 use Rattle.plan.proofs.check.check.Goals as goal
 
 pub returns : goal.returns

@@ -1,6 +1,5 @@
 -- `plan::check::check_call` meets its contract. Assumes nothing.
 use Rattle.plan.proofs.Answers.{call_few}
-use borrow.Author.Rules.{rules}
 use Rattle.plan.proofs.check.check_call.Goals as goal
 
 pub returns : goal.returns

@@ -1,7 +1,6 @@
 -- `plan::check::check_fields` meets its contract. Assumes nothing.
 use mir.Facts.{to_z-of_z}
 use Rattle.plan.proofs.Answers.{first_of_taken}
-use borrow.Author.Rules.{rules}
 use Rattle.plan.proofs.check.check_fields.Goals as goal
 
 pub returns : goal.returns

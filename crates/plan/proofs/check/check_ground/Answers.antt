@@ -1,7 +1,6 @@
 -- `plan::check::check_ground` meets its contract. Assumes nothing.
 use Rattle.plan.proofs.Answers.{first_of_taken}
 use Rattle.heads.proofs.Signed.{read_back}
-use borrow.Author.Rules.{rules}
 use Rattle.plan.proofs.check.check_ground.Goals as goal
 
 pub returns : goal.returns

@@ -1,6 +1,5 @@
 -- `plan::check::check_head` meets its contract. Assumes nothing.
 use Rattle.heads.proofs.Signed.{read_back}
-use borrow.Author.Rules.{rules}
 use Rattle.plan.proofs.check.check_head.Goals as goal
 
 pub returns : goal.returns

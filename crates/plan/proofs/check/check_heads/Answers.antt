@@ -1,10 +1,10 @@
 -- `plan::check::check_heads` meets its contract. Assumes nothing.
-use Prim.Native.Nat.{◌≤◌, ◌<◌, ◌-◌, zero-le}
+use Prim.Native.Nat.{◌≤◌, ◌<◌, zero-le}
 use mathlib.Core.Path.{◌≡◌, ◌∙◌, refl, sym, ap}
 use mathlib.Core.List.{[]}
 use native.Mathlib.Omega.{arith}
 use lib.Seq.{take_all}
-use lib.ListN.{length, take}
+use lib.ListN.{length}
 use Rattle.plan.specs.declared.Answer.TheVariants.{Taken}
 use Rattle.plan.specs.Checks.{first_failed, heads_items}
 use Rattle.plan.proofs.Answers.{heads_next}
@@ -18,7 +18,7 @@ nothing = refl
 pub returns-then-i-ge10 : goal.returns-then-i-ge10
 returns-then-i-ge10 c =
     let loop = c.before.before in
-    let hs = loop.args.t1 in
+    let hs = loop.args.heads in
     let n = loop.args.n in
     let past : length hs ≤ loop.loop-i.i = omega arith in
     let more : length hs ≤ n = omega arith in
@@ -28,7 +28,7 @@ pub loop-i-preserved : goal.loop-i-preserved
 loop-i-preserved c =
     let inv = c.loop-i.invariant in
     let i = c.loop-i.i in
-    let hs = c.args.t1 in
+    let hs = c.args.heads in
     let below : i < length hs = omega arith in
     (omega arith, rw (c.first_of-answer.ensures, c.check_head.ensures, inv.1) (sym (heads_next hs i _ below)), inv.2)
 
@@ -43,12 +43,6 @@ offset_bounds-heads-i c = omega arith
 
 pub bounds-heads-i : goal.bounds-heads-i
 bounds-heads-i c = omega arith
-
-pub check_head-requires : goal.check_head-requires
-check_head-requires c = tt
-
-pub first_of-answer-requires : goal.first_of-answer-requires
-first_of-answer-requires c = tt
 
 pub overflow_add-i : goal.overflow_add-i
 overflow_add-i c = omega arith

@@ -1,14 +1,8 @@
 -- `plan::check::check_heads` meets its contract. Assumes nothing.
-use Prim.Native.Nat.{◌≤◌, ◌<◌, ◌-◌, zero-le}
-use mathlib.Core.Path.{◌≡◌, ◌∙◌, refl, sym, ap}
-use mathlib.Core.List.{[]}
-use native.Mathlib.Omega.{arith}
-use lib.Seq.{take_all}
+use Prim.Native.Nat.{◌≤◌, ◌-◌}
+use mathlib.Core.Path.{◌≡◌}
 use lib.ListN.{length, take}
-use Rattle.plan.specs.declared.Answer.TheVariants.{Taken}
 use Rattle.plan.specs.Checks.{first_failed, heads_items}
-use Rattle.plan.proofs.Answers.{heads_next}
-use borrow.Author.Rules.{rules}
 use Rattle.plan.proofs.check.check_heads.Given as goal
 
 abbrev pub invariant-loop-i : goal.invariant-loop-i

@@ -1,7 +1,6 @@
 -- `plan::check::decide` meets its contract. Assumes nothing.
 use Rattle.plan.proofs.Answers.{edit_few}
 use Rattle.heads.proofs.Signed.{read_back}
-use borrow.Author.Rules.{rules}
 use Rattle.plan.proofs.check.decide.Goals as goal
 
 pub returns : goal.returns

@@ -1,6 +1,4 @@
 -- `plan::check::row_width` meets its contract. Assumes nothing.
-use native.Mathlib.Omega.{arith}
-use borrow.Author.Rules.{rules}
 use borrow.Author.Tests.{lt-leb, le-leb}
 use Rattle.plan.proofs.check.row_width.Goals as goal
 
@@ -8,10 +6,10 @@ pub returns-then-n-gt10 : goal.returns-then-n-gt10
 returns-then-n-gt10 c = rw (lt-leb _ _ c.if-n-gt10.true)
 
 pub returns-in-None : goal.returns-in-None
-returns-in-None c = rw (le-leb c.args.n 10 c.if-n-gt10.false, c.enum_told-1.given.1)
+returns-in-None c = rw (le-leb c.args.n 10 c.if-n-gt10.false, c.in-None.is)
 
 pub returns-in-Clipped : goal.returns-in-Clipped
-returns-in-Clipped c = rw (le-leb c.args.n 10 c.if-n-gt10.false, c.enum_told-in-Clipped-1.given.1)
+returns-in-Clipped c = rw (le-leb c.args.n 10 c.if-n-gt10.false, c.in-Clipped.is)
 
 pub returns-in-Open : goal.returns-in-Open
-returns-in-Open c = rw (le-leb c.args.n 10 c.if-n-gt10.false, c.enum_told-in-Open-1.given.1)
+returns-in-Open c = rw (le-leb c.args.n 10 c.if-n-gt10.false, c.in-Open.is)

@@ -1,0 +1,14 @@
+-- `subtract::add_eight` meets its contract. The invariant: the first q sums have their numbers.
+use mathlib.Core.Path.{◌≡◌}
+use Prim.Native.Nat.{◌+◌, ◌-◌, ◌≤◌}
+use lib.Ieee.{nan}
+use lib.ListN.{length, get_or}
+use Rattle.lists.specs.Written.{written}
+use Rattle.binary64.specs.Floats.{◌+ᶠ◌}
+use Rattle.exclusive_gradients.proofs.subtract.add_eight.Given as goal
+
+abbrev pub invariant-loop-q : goal.invariant-loop-q
+invariant-loop-q l = (l.q ≤ 8) × (l.at + 8 ≤ length l.numbers) × (length l.initial.sums ≡ 8) × (l.sums ≡ written (λ q. get_or l.initial.sums q nan +ᶠ get_or l.numbers (l.at + q) nan) l.q l.initial.sums)
+
+abbrev pub decreases-loop-q : goal.decreases-loop-q
+decreases-loop-q l = 8 - l.q
