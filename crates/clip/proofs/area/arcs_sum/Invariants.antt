@@ -1,0 +1,16 @@
+-- `arcs_sum`: the arcs one after another (ArcsTo), whose step is `add_clipped_arc`.
+use mathlib.Core.Path.{refl}
+use Prim.Native.Nat.{◌-◌}
+use native.Mathlib.Omega.{arith}
+use lib.ListN.{take}
+use Rattle.binary64.specs.Constants.{zero64}
+use Rattle.lists.proofs.Arrays.{length_of_values}
+use Rattle.outline.proofs.Walking.{ArcsTo, arcs_next, arcs_by_count, arcs_by_room}
+use Rattle.clip.specs.Area.{add_clipped_arc}
+use Rattle.clip.proofs.area.arcs_sum.Given as goal
+
+abbrev pub invariant-loop-i : goal.invariant-loop-i
+invariant-loop-i l = ArcsTo (add_clipped_arc l.bounds (take l.n_sets l.circles)) zero64 l.arcs.all 320 l.arcs.n l.n l.i l.total
+
+abbrev pub decreases-loop-i : goal.decreases-loop-i
+decreases-loop-i l = 320 - l.i

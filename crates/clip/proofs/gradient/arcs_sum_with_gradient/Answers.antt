@@ -1,0 +1,53 @@
+-- `arcs_sum_with_gradient`: the arcs one after another (ArcsTo), whose step is `add_clipped_arc_with_gradient`, on a lent gradient.
+use mathlib.Core.Path.{◌≡◌, refl, ◌∙◌}
+use mathlib.Core.List.{List}
+use Prim.Native.Nat.{ℕ, ◌-◌}
+use native.Mathlib.Omega.{arith}
+use lib.Ieee.{Float}
+use lib.ListN.{length, take}
+use Rattle.binary64.specs.Constants.{zero64}
+use Rattle.geometry.specs.declared.bounds.Bounds.{Bounds}
+use Rattle.geometry.specs.declared.circle.Circle.{Circle}
+use Rattle.boundary.specs.declared.arcs.Outline.{Outline}
+use Rattle.lists.proofs.Arrays.{length_of_values}
+use Rattle.outline.proofs.Walking.{ArcsTo, arcs_next, arcs_by_count, arcs_by_room}
+use Rattle.clip.specs.Gradient.{with_gradient, add_clipped_arc_with_gradient}
+use Rattle.clip.proofs.gradient.arcs_sum_with_gradient.Invariants.{Added}
+use Rattle.clip.proofs.gradient.arcs_sum_with_gradient.Goals as goal
+
+pub loop-i-init : goal.loop-i-init
+loop-i-init c =
+    record { same = refl; added = record { long = search length_of_values; count = refl; most = omega arith; within = omega arith; sum = refl } }
+
+pub returns-then-n-i : goal.returns-then-n-i
+returns-then-n-i c = arcs_by_count c.loop-i.invariant.added (omega arith)
+
+pub bounds-arcs-i : goal.bounds-arcs-i
+bounds-arcs-i c = omega arith
+
+pub add_clipped_arc_with_gradient-total-requires : goal.add_clipped_arc_with_gradient-total-requires
+add_clipped_arc_with_gradient-total-requires c = omega arith
+
+pub loop-i-preserved : goal.loop-i-preserved
+loop-i-preserved c =
+    let one = c.add_clipped_arc_with_gradient-total in
+    let inv = c.loop-i.invariant in
+    record { same = one.auto.grad ∙ inv.same; added = arcs_next inv.added _ (omega arith) (omega arith) one.ensures }
+
+pub returns : goal.returns
+returns c = arcs_by_room c.loop-i.invariant.added (omega arith)
+
+pub shape_of-grad-then-n-i : goal.shape_of-grad-then-n-i
+shape_of-grad-then-n-i c = c.loop-i.invariant.same
+
+pub offset_bounds-arcs-i : goal.offset_bounds-arcs-i
+offset_bounds-arcs-i c = omega arith
+
+pub overflow_add-i : goal.overflow_add-i
+overflow_add-i c = omega arith
+
+pub loop-i-smaller : goal.loop-i-smaller
+loop-i-smaller c = omega arith
+
+pub shape_of-grad : goal.shape_of-grad
+shape_of-grad c = c.loop-i.invariant.same
