@@ -2,6 +2,7 @@
 // who lets it have each gap between them, what each gap adds to a sum, and its chords with the edges of the box (`chords`). And which rows of
 // a table are there.
 #![tactic(auto)]
+
 mod edges;
 mod fast;
 mod fill;

@@ -1,0 +1,45 @@
+-- `fast::wanted_heads`: the heads of the wanted sets below mask.
+use borrow.Author.Rules.{rules}
+use mathlib.Core.Path.{◌≡◌, refl, sym, ap, ◌∙◌}
+use mathlib.Core.Bool.{true, false, true≢false}
+use mathlib.Core.Logic.{⊎_elim}
+use Prim.Native.Nat.{ℕ, ◌+◌, ◌-◌, ◌*◌, ◌^◌, ◌/◌, ◌%◌, ◌≤◌, ◌<◌}
+use native.Mathlib.Omega.{arith}
+use borrow.Author.Tests.{eq-eqb, ne_eqb, lt-ltb, le-ltb, not-true, not-false}
+use lib.Dec.{eqb, ltb}
+use lib.ListN.{length, take, get_or, set, length-take, length-set}
+use lib.Seq.{get_or-take, take_all}
+use lib.Ieee.{Float, nan}
+use Rattle.lists.proofs.Arrays.{length_of_values}
+use lib.Pow.{pow_pos}
+use Rattle.masks.specs.Mask.{Subset}
+use Rattle.sums.specs.Fast.{OfWanted}
+use Rattle.sums.proofs.Passing.{wanted_with, wanted_without, or_below}
+use Rattle.sums.proofs.fast.wanted_heads.Goals as goal
+use Rattle.sums.proofs.fast.wanted_heads.Goals.{then-wanted-mask-eq1, else-wanted-mask-eq1}
+
+pub loop-mask-init : goal.loop-mask-init
+loop-mask-init c = (omega arith, λ S h is. absurd (omega arith), λ n h. omega (arith, pow_pos n))
+
+pub loop-mask-preserved : goal.loop-mask-preserved
+loop-mask-preserved c =
+    let d = c in
+    let l = d.loop-mask in
+    let a = d.args in
+    elim c.if-wanted-mask-eq1.branch [
+      | then-wanted-mask-eq1 w ↦ (
+        omega arith,
+        rw w.heads-is (wanted_with a.wanted.now l.heads l.mask l.invariant.1),
+        λ n h. rw w.heads-is (or_below n l.heads l.mask (l.invariant.2 n h) (omega (arith, h))),
+      )
+      | else-wanted-mask-eq1 w ↦ (
+        omega arith,
+        rw w.heads-is (wanted_without a.wanted.now l.heads l.mask (ne_eqb _ 1 w.if-wanted-mask-eq1.false) l.invariant.1),
+        λ n h. rw w.heads-is (l.invariant.2 n h),
+      )
+    ]
+
+pub returns : goal.returns
+returns c =
+    let d = c in
+    let e : d.loop-mask.mask ≡ d.args.count = omega arith in record { of_wanted = rw e at d.loop-mask.invariant.1; by_index = d.loop-mask.invariant.2 }
