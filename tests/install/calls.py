@@ -32,7 +32,7 @@ def rattle_types(words):
 
 
 def of_crate(text):
-    """{name: [gives, takes..]} of the exported functions of a file of crate watered."""
+    """{name: [gives, takes..]} of the exported functions of a file of crate watered_c."""
     found = re.findall(r'^pub extern "C" fn (watered_\w+)\(([^)]*)\) -> (\w+)', text, re.M)
     split = lambda takes: [words for words in re.split(r',\s*(?=\w+:|$)', takes.strip()) if words]
     return {name: [RUST_TYPES[gives]] + [one for words in split(takes) for one in rattle_types(words)] for name, takes, gives in found}

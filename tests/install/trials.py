@@ -101,7 +101,7 @@ header = calls.of_header((PREFIX / 'include' / 'watered.h').read_text())
 mentioned = set(re.findall(r'\b(watered_\w+)\(', re.sub(r'/\*.*?\*/', '', (PREFIX / 'include' / 'watered.h').read_text(), flags=re.S)))
 see('the header: %d calls' % len(header), others(header, mentioned) or ('' if header else 'none'))
 crate = {}
-for path in (ROOT / 'crates' / 'watered' / 'src').glob('*.rt'):
+for path in (ROOT / 'crates' / 'watered_c' / 'src').glob('*.rt'):
     crate.update(calls.of_crate(path.read_text()))
 see('the crate exports these, with these types', different(header, crate))
 exported = [line.split()[-1] for line in must('nm', '-D', '--defined-only', SHARED).splitlines()]

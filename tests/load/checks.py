@@ -1,21 +1,14 @@
 """What the tests of load share: the program rows, counted checks, and a last line `NAME: N checks, M failed`."""
 import os
-import subprocess
 import sys
 
 ROOT = os.path.dirname(os.path.dirname(os.path.dirname(os.path.abspath(__file__))))
 sys.path[:0] = [os.path.join(ROOT, 'tests', 'plan'), os.path.join(ROOT, 'tools')]
 
-# tools/rows makes the program as this machine can start it, and starts it with a status.
+# tools/rows starts the program and gives it a status.
 TOOL = os.path.join(ROOT, 'tools', 'rows')
-PROGRAM = os.path.join(ROOT, 'target', 'bin', 'rows-here')
+PROGRAM = os.path.join(ROOT, 'target', 'bin', 'rows')
 LIMIT = 20      # seconds that a run may take before it counts as hanging
-
-
-def program():
-    """The program rows itself, without the tool around it."""
-    subprocess.run([TOOL], stdin=subprocess.DEVNULL, stdout=subprocess.DEVNULL)
-    return PROGRAM
 
 
 class Checks:

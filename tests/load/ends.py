@@ -1,6 +1,6 @@
 """ends.py BYTES: the two ends of the program rows. Its memory over inputs of BYTES bytes beside that of a small one; input that stops in the
-middle, that comes byte by byte, that cannot be read; output that is closed, full, slow, or whose reader has gone. A program in Rattle has no
-status: the program itself ends with 0, or by SIGPIPE, and says on standard error what it could not do; tools/rows gives the status."""
+middle, that comes byte by byte, that cannot be read; output that is closed, full, slow, or whose reader has gone. The program itself ends
+with 0, does not take SIGPIPE, and says on standard error what it could not do; tools/rows gives the status, and takes SIGPIPE as any script."""
 import array
 import fcntl
 import os
@@ -14,7 +14,7 @@ import checks
 import trials
 
 CHECKS = checks.Checks('ends')
-PROGRAM = checks.program()
+PROGRAM = checks.PROGRAM
 BOTH = (PROGRAM, checks.TOOL)
 UNREAD, UNWRITTEN = 'rows: standard input could not be read\n', 'rows: standard output could not be written\n'
 EXAMPLE = bytes.fromhex('010C140000000A00000003E8030000E8030000')
@@ -184,7 +184,8 @@ def unwritten_output():
             CHECKS.same('output that is closed', done, (status, '', UNWRITTEN))
             with open('/dev/full', 'wb') as full:
                 CHECKS.same('output to a full device', run(command, input=data, stdout=full, stderr=subprocess.PIPE), (status, '', UNWRITTEN))
-            CHECKS.same('output whose reader has gone', reader_gone(command, data)[0], -signal.SIGPIPE)
+            gone = (0, UNWRITTEN) if command == PROGRAM else (-signal.SIGPIPE, '')
+            CHECKS.same('output whose reader has gone', reader_gone(command, data), gone)
         ends = run(command, preexec_fn=lambda: os.closerange(0, 3))
         CHECKS.same('both ends closed, and standard error', ends, (status, '', ''))
 

@@ -179,7 +179,7 @@ def faults_are_seen(program):
 
 def main():
     count, chance = int(sys.argv[1]), random.Random(int(sys.argv[2]) if len(sys.argv) > 2 else 20)
-    program = checks.program()
+    program = checks.PROGRAM
     resource.setrlimit(resource.RLIMIT_CORE, (0, 0))
     faults_are_seen(program)
     answers, slowest, began = {}, 0.0, time.monotonic()

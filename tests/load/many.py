@@ -11,7 +11,7 @@ import checks
 import trials
 
 CHECKS = checks.Checks('many')
-PROGRAM = checks.program()
+PROGRAM = checks.PROGRAM
 MANY = os.path.join(checks.ROOT, 'example', 'many')
 NAMES = ['a.plan', 'with space.plan', 'two\nlines.plan', "it's.plan", '"quoted".plan', '-n.plan', '$(exit 1).plan', '*.plan', 'é.plan', '.plan',
          'in/b.plan', 'in/deep er/-P.plan', 'in.rows/c.plan', 'x.plan.plan', '\\.plan', '#.plan']

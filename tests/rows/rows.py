@@ -6,7 +6,6 @@ import os
 import random
 import re
 import resource
-import shutil
 import subprocess
 import sys
 import time
@@ -15,10 +14,7 @@ ROOT = os.path.dirname(os.path.dirname(os.path.dirname(os.path.abspath(__file__)
 sys.path.insert(0, os.path.join(ROOT, 'tests', 'plan'))
 import trials  # noqa: E402
 
-# under the kit's loader and C library, as rt runs a program: the machine's own may be older than the one it is linked with
-KIT = os.path.dirname(os.path.dirname(os.path.realpath(shutil.which('rt'))))
-LIBRARY = os.path.join(KIT, 'toolchain', 'lib')
-ROWS = [os.path.join(LIBRARY, 'ld-linux-x86-64.so.2'), '--library-path', LIBRARY, os.path.join(ROOT, 'target', 'bin', 'rows')]
+ROWS = [os.path.join(ROOT, 'target', 'bin', 'rows')]
 EXAMPLE = bytes.fromhex('010C140000000A00000003E8030000E8030000')
 EXAMPLE_PRINTS = '000 4069000000000000\n001 0000000000000000\n'
 TABLE = re.compile(r'(?:[0-9A-F]{3} [0-9A-F]{16}\n)+\Z')

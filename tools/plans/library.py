@@ -34,7 +34,7 @@ def load(chosen=None):
     """The library: the one chosen, the one of this tree, or, from the sources, one that is installed; with the types of its calls."""
     path = chosen or linked() or (None if INSTALLED else ctypes.util.find_library('watered'))
     if not path:
-        raise NoLibrary('the library is not there; ' + ('install it anew' if INSTALLED else 'build it with: rt staticlib watered'))
+        raise NoLibrary('the library is not there; ' + ('install it anew' if INSTALLED else 'build it with: tools/build watered_c'))
     try:
         library = ctypes.CDLL(path)
         afresh, edit = library.watered_afresh, library.watered_edit

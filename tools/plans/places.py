@@ -10,7 +10,7 @@ PREFIX = os.path.dirname(ROOT)  # where INSTALLED
 # as the user calls tools/plan
 PLAN = 'watered-plan' if INSTALLED else 'tools/plan'
 
-# the program, which has to start on this machine (tools/rows sees to that in the sources), and the shared library; if they are there
+# the program, which tools/rows starts in the sources, and the shared library; if they are there
 ROWS = os.path.join(PREFIX, 'bin', 'rows') if INSTALLED else os.path.join(ROOT, 'tools', 'rows')
 BUILT_ROWS = ROWS if INSTALLED else os.path.join(ROOT, 'target', 'bin', 'rows')
 LIBRARY = os.path.join(PREFIX, 'lib', 'libwatered.so.1') if INSTALLED else os.path.join(ROOT, 'target', 'staticlib', 'libwatered.so')

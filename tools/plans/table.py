@@ -29,7 +29,7 @@ def program(chosen=None):
     """The program `rows`: the one chosen, the one of this tree, or, from the sources, one in PATH."""
     found = chosen or (ROWS if os.path.exists(BUILT_ROWS) else None if INSTALLED else shutil.which('rows'))
     if not found:
-        raise NoProgram('the program rows is not there; ' + ('install it anew' if INSTALLED else 'build it with: rt check rows'))
+        raise NoProgram('the program rows is not there; ' + ('install it anew' if INSTALLED else 'build it with: tools/build rows'))
     return found
 
 

@@ -3,12 +3,18 @@
 // bytes: the box, ten heads, the edit's x, y and radius; a byte for the gradients that the call writes, 0 for none, 1 for rows in the
 // box, 2 for rows without it; and two numbers of two bytes: rows and gradients lent). Numbers are little-endian. The stored input and what it must print are worked out by tests/plan/trials.py from document 01.
 #![tactic(auto)]
-ghost use Rattle.std.specs.Prelude.{◌<◌, ◌≤◌, length};
+
+ghost use Rattle.std.specs.Prelude.{◌≡◌, ◌∷◌, ◌<◌, ◌≤◌, length, false, IfOk, OnOk};
+ghost use Rattle.std.specs.Int.{w32, cast_unsigned};
+ghost use Rattle.std.specs.Fmt.{digits};
+ghost use Rattle.std.specs.Io.KnownBytes.{Appends};
 
 use file::reader::{Handed, Reader};
 use file::{fields, reader};
 use heads::Head;
 use plan::{Answer, Edit, Gradients, Ground, Lent, Plan, book, check};
+use std::io;
+use std::io::{BufWriter, Read, Write};
 
 fn byte_at(s: &[u8], i: usize) -> u8 {
     if i < s.len() { s[i] } else { 0 }
@@ -33,7 +39,9 @@ fn int_at(s: &[u8], i: usize) -> i32
 }
 
 // The bits of a signed number.
-fn bits(z: i32) -> u32 {
+fn bits(z: i32) -> u32
+    ensures { result ≡ cast_unsigned w32 z }
+{
     if 0 <= z {
         z as u32
     } else {
@@ -41,102 +49,94 @@ fn bits(z: i32) -> u32 {
     }
 }
 
-fn print_int(z: i32) {
-    io::write_all(1, b" ");
-    io::print_hex(1, bits(z) as u64, 1);
+// A space and the bits, in hexadecimal with no zero in front.
+fn print_int<W: Write>(out: &mut W, z: i32) -> io::Result<()>
+    ensures { OnOk result (Appends (W.contents out.old) (W.contents out.new) (32 ∷ digits 16 false (cast_unsigned w32 z))) }
+{
+    write!(out, " {:x}", bits(z))
 }
 
-fn print_head(h: Head) {
-    print_int(h.x);
-    print_int(h.y);
-    print_int(h.radius);
+fn print_head<W: Write>(out: &mut W, h: Head) -> io::Result<()> {
+    print_int(out, h.x)?;
+    print_int(out, h.y)?;
+    print_int(out, h.radius)
 }
 
-fn print_plan(plan: Plan) {
-    io::write_all(1, b"plan ");
-    io::print_decimal(1, plan.n as u64);
+fn print_plan<W: Write>(out: &mut W, plan: Plan) -> io::Result<()> {
+    write!(out, "plan {}", plan.n)?;
     let g = plan.ground;
-    print_int(g.x);
-    print_int(g.y);
-    print_int(g.width);
-    print_int(g.height);
+    print_int(out, g.x)?;
+    print_int(out, g.y)?;
+    print_int(out, g.width)?;
+    print_int(out, g.height)?;
     let heads = plan.heads;
-    print_heads(heads);
-    io::write_all(1, b"\n");
+    print_heads(out, heads)?;
+    out.write_all(b"\n")
 }
 
-fn print_heads(heads: [Head; 10]) {
-    let mut i: usize = 0;
-    while i < 10 {
-        let h = heads[i];
-        print_head(h);
-        i += 1;
+fn print_heads<W: Write>(out: &mut W, heads: [Head; 10]) -> io::Result<()> {
+    for h in heads {
+        print_head(out, h)?;
     }
+    Ok(())
 }
 
-fn print_edit(edit: Edit) {
-    io::write_all(1, b"edit ");
-    io::print_decimal(1, edit.head as u64);
-    print_int(edit.x);
-    print_int(edit.y);
-    print_int(edit.radius);
-    io::write_all(1, b"\n");
+fn print_edit<W: Write>(out: &mut W, edit: Edit) -> io::Result<()> {
+    write!(out, "edit {}", edit.head)?;
+    print_int(out, edit.x)?;
+    print_int(out, edit.y)?;
+    print_int(out, edit.radius)?;
+    out.write_all(b"\n")
 }
 
-fn print_answer(answer: Answer) {
+fn print_answer<W: Write>(out: &mut W, answer: Answer) -> io::Result<()> {
     match answer {
-        Answer::Taken => {
-            io::write_all(1, b"taken\n");
-        }
+        Answer::Taken => writeln!(out, "taken"),
         Answer::Refused(_, _) => {
-            io::write_all(1, b"refused ");
-            io::print_decimal(1, plan::answer_number(answer) as u64);
-            io::write_all(1, b" at ");
-            io::print_decimal(1, plan::answer_offset(answer));
-            io::write_all(1, b"\n");
+            let number = plan::answer_number(answer);
+            let offset = plan::answer_offset(answer);
+            writeln!(out, "refused {number} at {offset}")
         }
     }
 }
 
 // What the last byte completed.
-fn print_handed(r: Reader) {
+fn print_handed<W: Write>(out: &mut W, r: Reader) -> io::Result<()> {
     let handed = r.handed;
     let plan = r.plan;
     match handed {
-        Handed::Nothing => {}
-        Handed::ThePlan => print_plan(plan),
-        Handed::AnEdit(edit) => print_edit(edit),
+        Handed::Nothing => Ok(()),
+        Handed::ThePlan => print_plan(out, plan),
+        Handed::AnEdit(edit) => print_edit(out, edit),
     }
 }
 
 // A plan file: what is handed out, the answer, the plan left where it is taken; and the answer again, fed in two pieces.
-fn run_file(s: &[u8]) {
+fn run_file<W: Write>(out: &mut W, s: &[u8]) -> io::Result<()> {
     let mut r = reader::start();
-    let mut i: usize = 0;
-    while i < s.len() {
-        r = reader::step(r, s[i]);
-        print_handed(r);
-        i += 1;
+    for b in s {
+        r = reader::step(r, *b);
+        print_handed(out, r)?;
     }
-    print_end(r);
-    print_fed(s);
+    print_end(out, r)?;
+    print_fed(out, s)
 }
 
-fn print_end(r: Reader) {
+fn print_end<W: Write>(out: &mut W, r: Reader) -> io::Result<()> {
     let answer = reader::finish(r);
     let plan = r.plan;
-    print_answer(answer);
+    print_answer(out, answer)?;
     match answer {
-        Answer::Taken => print_plan(plan),
-        Answer::Refused(_, _) => {}
+        Answer::Taken => print_plan(out, plan),
+        Answer::Refused(_, _) => Ok(()),
     }
 }
 
-fn print_fed(s: &[u8]) {
+fn print_fed<W: Write>(out: &mut W, s: &[u8]) -> io::Result<()> {
     let half = s.len() / 2;
     let first = reader::feed(reader::start(), &s[..half]);
     let whole = reader::feed(first, &s[half..]);
-    print_answer(reader::finish(whole));
+    print_answer(out, reader::finish(whole))
 }
 
 fn heads_at(s: &[u8]) -> [Head; 10] {
@@ -146,8 +146,7 @@ fn heads_at(s: &[u8]) -> [Head; 10] {
         radius: 0,
     };
     let mut heads = [none; 10];
-    let mut i: usize = 0;
-    while i < 10 {
+    for i in 0..10 {
         let at = 18 + 12 * i;
         let h = Head {
             x: int_at(s, at),
@@ -155,7 +154,6 @@ fn heads_at(s: &[u8]) -> [Head; 10] {
             radius: int_at(s, at + 8),
         };
         heads[i] = h;
-        i += 1;
     }
     heads
 }
@@ -172,7 +170,7 @@ fn gradients_of(kind: u8) -> Gradients {
 }
 
 // A call in memory: the answers to the plan, to the plan with lent tables and to the edit, and the book after the edit.
-fn run_call(s: &[u8]) {
+fn run_call<W: Write>(out: &mut W, s: &[u8]) -> io::Result<()> {
     let ground = Ground {
         x: int_at(s, 2),
         y: int_at(s, 6),
@@ -196,49 +194,52 @@ fn run_call(s: &[u8]) {
         rows: short_at(s, 151),
         gradients: short_at(s, 153),
     };
-    print_answer(check::check(plan));
-    print_answer(check::check_call(plan, gradients, lent));
-    print_entered(plan, edit, lent);
+    print_answer(out, check::check(plan))?;
+    print_answer(out, check::check_call(plan, gradients, lent))?;
+    print_entered(out, plan, edit, lent)
 }
 
-fn print_entered(plan: Plan, edit: Edit, lent: Lent) {
-    print_answer(check::decide(plan, edit, lent));
+fn print_entered<W: Write>(out: &mut W, plan: Plan, edit: Edit, lent: Lent) -> io::Result<()> {
+    print_answer(out, check::decide(plan, edit, lent))?;
     let booked = book::enter(plan, edit, lent);
     let answer = booked.answer;
     let after = booked.plan;
-    print_answer(answer);
-    print_plan(after);
+    print_answer(out, answer)?;
+    print_plan(out, after)
 }
 
 // One trial from the front of s; how many bytes it has.
-fn trial(s: &[u8]) -> usize
+fn trial<W: Write>(out: &mut W, s: &[u8]) -> io::Result<usize>
     requires { 0 < length s.now }
-    ensures { (0 < result) × (result ≤ length s.now) }
+    ensures { IfOk result (λ n. (0 < n) × (n ≤ length s.now)) }
 {
     if s[0] == 0 {
         let end = 3 + short_at(s, 1);
         if s.len() < end {
-            return s.len();
+            return Ok(s.len());
         }
-        run_file(&s[3..end]);
-        return end;
+        run_file(out, &s[3..end])?;
+        return Ok(end);
     }
     if s.len() < 156 {
-        return s.len();
+        return Ok(s.len());
     }
-    run_call(&s[1..156]);
-    156
+    run_call(out, &s[1..156])?;
+    Ok(156)
 }
 
-fn run(s: &[u8]) {
+fn run<W: Write>(out: &mut W, s: &[u8]) -> io::Result<()> {
     let mut at: usize = 0;
     while at < s.len() {
-        at += trial(&s[at..]);
+        at += trial(out, &s[at..])?;
     }
+    Ok(())
 }
 
-fn main() {
-    let mut buffer = io::large_buffer();
-    let n = io::read_full(0, &mut buffer);
-    run(&buffer[..n]);
+fn main(rt: HostRuntime) -> io::Result<()> {
+    let mut list = Vec::new(rt.alloc());
+    rt.stdin().take(65536).read_to_end(&mut list)?;
+    let mut out = BufWriter::new(rt.alloc(), rt.stdout())?;
+    run(&mut out, &list)?;
+    out.flush()
 }

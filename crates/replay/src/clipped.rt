@@ -39,15 +39,13 @@ pub(crate) fn same_span(words: &[u64; 40], bounds: Bounds, set: Members) -> bool
 fn by_heads(from: [f64; 34], mask: usize, n: usize) -> [f64; 34] {
     let mut to = [0.0f64; 34];
     let mut next: usize = 0;
-    let mut i: usize = 0;
-    while i < 34 {
+    for i in 0..34usize {
         if n <= i / 3 || mask >> (i / 3) & 1 == 1 {
             if next < 34 {
                 to[i] = from[next];
                 next += 1;
             }
         }
-        i += 1;
     }
     to
 }

@@ -3,6 +3,11 @@
 // in hexadecimal, one space before each; f64s are their bits. What a line of each letter holds is
 // said where it is compared; a line W has an angle (place 1) and the wrapped angle (2).
 #![tactic(auto)]
+
+ghost use Rattle.std.specs.Prelude.{◌∷◌, ◌++◌, [], OnOk, codes};
+ghost use Rattle.std.specs.Fmt.{decimal};
+ghost use Rattle.std.specs.Io.KnownBytes.{Appends};
+
 mod clipped;
 mod numbers;
 mod outlines;
@@ -12,9 +17,10 @@ mod points;
 mod sets;
 
 use boundary::angles::wrap_angle;
-use libc::STDOUT_FILENO;
 use numbers::{float, same, whole};
 use plans::Plan;
+use std::io;
+use std::io::{BufWriter, Read, Write};
 
 // How far the list was read: the place of the number that is being read in its line, the lines
 // read, those of them on which an answer differs, and the plan that the next lines are about.
@@ -98,14 +104,19 @@ fn counted(counts: &mut [u64; 128], word: u64) -> u8 {
     0
 }
 
-fn name_differing(line: u64) {
-    io::write_all(STDOUT_FILENO, b"differs: line ");
-    io::print_decimal(STDOUT_FILENO, line);
-    io::write_all(STDOUT_FILENO, b"\n");
+fn name_differing<W: Write>(out: &mut W, line: u64) -> io::Result<()>
+    ensures { OnOk result (Appends (W.contents out.old) (W.contents out.new) (codes "differs: line " ++ decimal line ++ 10 ∷ [])) }
+{
+    writeln!(out, "differs: line {line}")
 }
 
 // The line is whole: it is compared, and the next begins.
-fn line_ended(words: &mut [u64; 40], counts: &mut [u64; 128], r: Reading) -> Reading {
+fn line_ended<W: Write>(
+    out: &mut W,
+    words: &mut [u64; 40],
+    counts: &mut [u64; 128],
+    r: Reading,
+) -> io::Result<Reading> {
     let letter = counted(counts, words[0]);
     let at = r.at;
     let before = r.plan;
@@ -113,16 +124,16 @@ fn line_ended(words: &mut [u64; 40], counts: &mut [u64; 128], r: Reading) -> Rea
     let lines = std::num::wrapping_add_u64(r.lines, 1);
     let mut differing = r.differing;
     if !agrees(letter, words, at, plan) {
-        name_differing(lines);
+        name_differing(out, lines)?;
         differing = std::num::wrapping_add_u64(differing, 1);
     }
     *words = [0u64; 40];
-    Reading {
+    Ok(Reading {
         at: 0,
         lines: lines,
         differing: differing,
         plan: plan,
-    }
+    })
 }
 
 // One byte more of a line, and the place of the number that it belongs to. The first place has the
@@ -140,27 +151,28 @@ fn fed(words: &mut [u64; 40], at: usize, b: u8) -> usize {
 }
 
 // The bytes of a part of the list, one after the other.
-fn fed_all(
+fn fed_all<W: Write>(
+    out: &mut W,
     words: &mut [u64; 40],
     counts: &mut [u64; 128],
     start: Reading,
     bytes: &[u8],
-) -> Reading {
+) -> io::Result<Reading> {
     let mut r = start;
-    for i in 0..bytes.len() {
-        let b = bytes[i];
+    for byte in bytes {
+        let b = *byte;
         if b == b'\n' {
-            r = line_ended(words, counts, r);
+            r = line_ended(out, words, counts, r)?;
         } else {
             r.at = fed(words, r.at, b);
         }
     }
-    r
+    Ok(r)
 }
 
 // How many lines of each letter there are. In the text the letter at the beginning of a line stands
 // for their number.
-fn print_counts(counts: &[u64; 128]) {
+fn print_counts<W: Write>(out: &mut W, counts: &[u64; 128]) -> io::Result<()> {
     let text = b"P P, pairs of circles\n\
         H H, plans\n\
         X X, boxes\n\
@@ -175,30 +187,31 @@ fn print_counts(counts: &[u64; 128]) {
         L L, areas in the box with gradients\n\
         W W, wrapped angles\n";
     let mut begins = true;
-    for i in 0..text.len() {
-        let b = text[i];
+    for byte in text {
+        let b = *byte;
         if begins {
             if b < 128 {
-                io::print_decimal(STDOUT_FILENO, counts[b as usize]);
+                write!(out, "{}", counts[b as usize])?;
             }
         } else {
-            io::write_all(STDOUT_FILENO, &[b]);
+            out.write_all(&[b])?;
         }
         begins = b == b'\n';
     }
+    Ok(())
 }
 
-fn print_sums(lines: u64, differing: u64) {
-    io::print_decimal(STDOUT_FILENO, lines);
-    io::write_all(STDOUT_FILENO, b" lines, ");
-    io::print_decimal(STDOUT_FILENO, differing);
-    io::write_all(STDOUT_FILENO, b" differ\n");
+fn print_sums<W: Write>(out: &mut W, lines: u64, differing: u64) -> io::Result<()>
+    ensures { OnOk result (Appends (W.contents out.old) (W.contents out.new) (decimal lines ++ codes " lines, " ++ decimal differing ++ codes " differ" ++ 10 ∷ [])) }
+{
+    writeln!(out, "{lines} lines, {differing} differ")
 }
 
-fn main() {
+// Reads the list to its end, a piece at a time, and prints the lines that differ and the counts.
+fn replay<R: Read, W: Write>(list: &mut R, out: &mut W) -> io::Result<()> {
     let mut words = [0u64; 40];
     let mut counts = [0u64; 128];
-    let mut buffer = io::large_buffer();
+    let mut buffer = [0u8; 65536];
     let plan = plans::begun(&words, 0);
     let mut r = Reading {
         at: 0,
@@ -206,16 +219,20 @@ fn main() {
         differing: 0,
         plan: plan,
     };
-    // A proved loop has to end: it counts down from a number that no list uses up.
-    let mut turns = u64::MAX;
-    while 0 < turns {
-        let n = io::read_full(0, &mut buffer);
+    // A proved loop has to end: it counts up to a number that no list uses up.
+    for _ in 0..u64::MAX {
+        let n = list.read(&mut buffer)?;
         if n == 0 {
             break;
         }
-        r = fed_all(&mut words, &mut counts, r, &buffer[..n]);
-        turns = turns - 1;
+        r = fed_all(out, &mut words, &mut counts, r, &buffer[..n])?;
     }
-    print_counts(&counts);
-    print_sums(r.lines, r.differing);
+    print_counts(out, &counts)?;
+    print_sums(out, r.lines, r.differing)
+}
+
+fn main(rt: HostRuntime) -> io::Result<()> {
+    let mut out = BufWriter::new(rt.alloc(), rt.stdout())?;
+    replay(&mut rt.stdin(), &mut out)?;
+    out.flush()
 }

@@ -78,12 +78,10 @@ fn same_entries(words: &[u64; 40], gradients: &[f64; 34816], width: usize, s: us
     if width <= 34 {
         if s < 1024 {
             let from = s * width;
-            let mut k: usize = 0;
-            while k < width {
+            for k in 0..width {
                 if !same(gradients[from + k], words[3 + k]) {
                     return false;
                 }
-                k += 1;
             }
             return true;
         }

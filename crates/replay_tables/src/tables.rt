@@ -87,8 +87,7 @@ fn same_sets(
     gradients: &[f64; 34816],
     has_box: bool,
 ) -> bool {
-    let mut s: usize = 0;
-    while s < masks {
+    for s in 0..masks {
         let mut presence = listed(words, s);
         if has_box && s == 0 {
             presence = 1;
@@ -96,7 +95,6 @@ fn same_sets(
         if !same_absence(t, gradients, s, presence) {
             return false;
         }
-        s += 1;
     }
     true
 }

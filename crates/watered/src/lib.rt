@@ -1,5 +1,6 @@
-// The C interface, declared in include/watered.h: thin calls of the crates below, each with its callee's definition.
+// The calls of the C interface, which crate `watered_c` exports by these names: thin calls of the crates below, each with its callee's definition.
 #![tactic(auto)]
+
 ghost use Rattle.std.specs.Prelude.{◌≡◌};
 ghost use Rattle.elementary.specs.Root.{root, hypot};
 ghost use Rattle.elementary.specs.Sine.{sine, cosine};
@@ -10,56 +11,49 @@ pub mod slopes;
 pub mod tables;
 
 // The correctly rounded square root; +0 outside its domain.
-#[unsafe(no_mangle)]
-pub extern "C" fn watered_root(x: f64) -> f64
+pub fn watered_root(x: f64) -> f64
     ensures { result ≡ root x }
 {
     elementary::root::root(x)
 }
 
 // root(a * a + b * b), each step rounded.
-#[unsafe(no_mangle)]
-pub extern "C" fn watered_hypot(a: f64, b: f64) -> f64
+pub fn watered_hypot(a: f64, b: f64) -> f64
     ensures { result ≡ hypot a b }
 {
     elementary::root::hypot(a, b)
 }
 
 // The sine of an angle of magnitude at most 16; +0 outside.
-#[unsafe(no_mangle)]
-pub extern "C" fn watered_sin(v: f64) -> f64
+pub fn watered_sin(v: f64) -> f64
     ensures { result ≡ sine v }
 {
     elementary::sine::sin(v)
 }
 
 // The cosine of an angle of magnitude at most 16; +0 outside.
-#[unsafe(no_mangle)]
-pub extern "C" fn watered_cos(v: f64) -> f64
+pub fn watered_cos(v: f64) -> f64
     ensures { result ≡ cosine v }
 {
     elementary::sine::cos(v)
 }
 
 // The angle of the point (x, y), for magnitudes up to 2^20 that are not both zero; +0 outside.
-#[unsafe(no_mangle)]
-pub extern "C" fn watered_atan2(y: f64, x: f64) -> f64
+pub fn watered_atan2(y: f64, x: f64) -> f64
     ensures { result ≡ atan2 y x }
 {
     elementary::arctangent::atan2(y, x)
 }
 
 // atan2(root((1 - c) * (1 + c)), c) for c from -1 to 1; +0 outside.
-#[unsafe(no_mangle)]
-pub extern "C" fn watered_acos(c: f64) -> f64
+pub fn watered_acos(c: f64) -> f64
     ensures { result ≡ acos c }
 {
     elementary::arctangent::acos(c)
 }
 
 // atan2(c, root((1 - c) * (1 + c))) for c from -1 to 1; +0 outside.
-#[unsafe(no_mangle)]
-pub extern "C" fn watered_asin(c: f64) -> f64
+pub fn watered_asin(c: f64) -> f64
     ensures { result ≡ asin c }
 {
     elementary::arctangent::asin(c)

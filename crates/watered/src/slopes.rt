@@ -1,4 +1,4 @@
-// The C interface of exclusives with their gradients, and of what all heads of a plan water together. Each call is thin over the crates below.
+// The calls of the C interface for exclusives with their gradients, and for what all heads of a plan water together. Each call is thin over the crates below.
 ghost use Rattle.std.specs.Prelude.{◌≡◌};
 ghost use Rattle.areas.specs.Sets.{plan_sets};
 ghost use Rattle.gradients.specs.Step.{gradient_slices, clipped_step, open_step};
@@ -17,8 +17,7 @@ use plan::check::check;
 
 // The exclusives of a plan in its box with their gradients: presence bytes and numbers of rows 0 to 2^n - 1, and 3n + 4 gradient numbers a row.
 // The answer is 0, or the refusal's number (2, 4, 5, 7), which writes nothing.
-#[unsafe(no_mangle)]
-pub extern "C" fn watered_gradients(
+pub fn watered_gradients(
     n: usize,
     sides: &[i32; 4],
     heads: &[i32; 30],
@@ -35,8 +34,7 @@ pub extern "C" fn watered_gradients(
 }
 
 // The same without the box, which is checked all the same: row 0 is absent, and there are 3n gradient numbers a row.
-#[unsafe(no_mangle)]
-pub extern "C" fn watered_open_gradients(
+pub fn watered_open_gradients(
     n: usize,
     sides: &[i32; 4],
     heads: &[i32; 30],
@@ -61,13 +59,7 @@ fn overlap_of(plan: Plan) -> f64
 
 // What all heads of the plan water together, without the box, which is checked all the same. The answer is 0, or the refusal's number (2, 4,
 // 5), which leaves `overlap`.
-#[unsafe(no_mangle)]
-pub extern "C" fn watered_overlap(
-    n: usize,
-    sides: &[i32; 4],
-    heads: &[i32; 30],
-    overlap: &mut f64,
-) -> u32
+pub fn watered_overlap(n: usize, sides: &[i32; 4], heads: &[i32; 30], overlap: &mut f64) -> u32
     ensures value { result ≡ answer_number (plan_answer (spec.plan_of n sides.now heads.now)) }
     ensures overlap_after { overlap.new ≡ overlap_left (spec.plan_of n sides.now heads.now) overlap.old }
 {

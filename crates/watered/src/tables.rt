@@ -1,4 +1,4 @@
-// The C interface of a plan's tables: afresh, without the box, and edited. Each call is thin over crate `table`, whose definitions it has.
+// The calls of the C interface for a plan's tables: afresh, without the box, and edited. Each call is thin over crate `table`, whose definitions it has.
 ghost use Rattle.std.specs.Prelude.{◌≡◌};
 ghost use Rattle.plan.specs.Table.{answer_number};
 ghost use Rattle.regions.specs.Slices.{tables_of, plan_slices, afresh_slices, edit_slices};
@@ -11,8 +11,7 @@ use crate::handed::{number_of, numbers_of, plan_of};
 
 // The rows of a plan in its box and their exclusive areas, worked out afresh: presence bytes and numbers of rows 0 to 2^n - 1 of both
 // tables. The answer is 0, or document 01's number of the refusal (2, 4, 5, 7), which writes nothing.
-#[unsafe(no_mangle)]
-pub extern "C" fn watered_afresh(
+pub fn watered_afresh(
     n: usize,
     sides: &[i32; 4],
     heads: &[i32; 30],
@@ -30,8 +29,7 @@ pub extern "C" fn watered_afresh(
 }
 
 // The same without the box: row 0 is absent. The box is checked all the same.
-#[unsafe(no_mangle)]
-pub extern "C" fn watered_open_afresh(
+pub fn watered_open_afresh(
     n: usize,
     sides: &[i32; 4],
     heads: &[i32; 30],
@@ -50,8 +48,7 @@ pub extern "C" fn watered_open_afresh(
 
 // Head number `head` of the plan gets a new place and radius, and both tables follow; the plan left stands in `heads`. The answer is 0, or
 // the refusal's number (2, 4, 5, 6, 7), which leaves heads and tables.
-#[unsafe(no_mangle)]
-pub extern "C" fn watered_edit(
+pub fn watered_edit(
     n: usize,
     sides: &[i32; 4],
     heads: &mut [i32; 30],
@@ -89,8 +86,7 @@ pub extern "C" fn watered_edit(
 
 // A list of edits, each tried on what the one before left: as many as the shortest of the five lists allows, which count it gives. Answer i
 // is 0 where edit i was taken, or the refusal's number. The plan left stands in `heads`.
-#[unsafe(no_mangle)]
-pub extern "C" fn watered_run(
+pub fn watered_run(
     n: usize,
     sides: &[i32; 4],
     heads: &mut [i32; 30],

@@ -1,0 +1,50 @@
+-- The parts of an input, one after another.
+use Rattle.std.proofs.Common.{◌≡◌, ℕ, List, [], ◌++◌, length, take, IfSome, subst, sym, ap, ap₂, ◌∙◌, drop, ◌≤◌, take_at, arith}
+use Rattle.std.proofs.KnownBytes.{Consumes-nil, Consumes-trans, Consumes-whole}
+use Rattle.std.specs.declared.option.Option.{Option}
+use Rattle.std.specs.Io.KnownBytes.{Consumes}
+use Rattle.regions.specs.Slices.{LentTables}
+use Rattle.table.specs.Method.{clipped_table}
+use Rattle.printing.specs.Text.{Printed}
+use Rattle.printing.proofs.Putting.{put_fits}
+use Rattle.file.specs.declared.reader.Reader.{Reader}
+use Rattle.file.specs.Reader.{start}
+use Rattle.plan.specs.declared.Plan.{Plan}
+use Rattle.reading.specs.Whole.{over, no_plan}
+use Rattle.reading.specs.Reading.{State, state_of, AfterBytes}
+use Rattle.reading.proofs.Bytes.{begun_reads}
+use Rattle.rows.specs.declared.Input.{Input}
+use Rattle.rows.specs.declared.Input.TheVariants.{Open, Ended, Failed}
+use Rattle.rows.specs.Program.{PartRead}
+
+-- the bytes so far, and the state after them
+abbrev pub SoFar : Option (List ℕ) → Option (List ℕ) → LentTables → State → Type 0
+SoFar first now t state = (bs : List ℕ) × Consumes first now bs × AfterBytes clipped_table t bs state
+
+-- before the first
+pub none_yet : (first : Option (List ℕ)) (t : LentTables) (r : Reader) (p : Plan) → (r ≡ start) × (p ≡ no_plan) → SoFar first first t (state_of r (over t p))
+none_yet first t r p e =
+    ([], Consumes-nil first, subst (AfterBytes clipped_table t []) (sym (ap₂ (λ r p. state_of r (over t p)) e.0 e.1)) (begun_reads clipped_table t))
+
+-- one part more
+pub one_more : (first old new : Option (List ℕ)) (t : LentTables) (before after : State) (i : Input)
+    → i ≡ Open → SoFar first old t before → PartRead i old new before after → SoFar first new t after
+one_more first old new t before after Open e so part =
+    (so.0 ++ part.0, Consumes-trans first old new so.0 part.0 so.1 part.1, part.2 t so.0 so.2)
+one_more first old new t before after Ended e so part = cc
+one_more first old new t before after Failed e so part = cc
+
+-- no part more: all is read
+pub no_more : (first old new : Option (List ℕ)) (t : LentTables) (before after : State) (i : Input)
+    → i ≡ Ended → SoFar first old t before → PartRead i old new before after → IfSome first (λ xs. AfterBytes clipped_table t xs after)
+no_more first old new t before after Ended e so part =
+    Consumes-whole first old so.0 (λ xs. AfterBytes clipped_table t xs after) so.1 part.0
+    (subst (λ s. AfterBytes clipped_table t so.0 s) (sym part.1) so.2)
+no_more first old new t before after Open e so part = cc
+no_more first old new t before after Failed e so part = cc
+
+-- a text that was put together at the front of a buffer with room for it
+pub text_at_front : (text out left : List ℕ) (n : ℕ) → n ≤ length out → Printed text out left n → take n left ≡ text
+text_at_front text out left n h p =
+    let fits : length text ≤ length out = omega (arith, h, p.counted) in
+    ap (take n) (p.bytes ∙ put_fits out text fits) ∙ take_at text (drop (length text) out) n (sym p.counted)

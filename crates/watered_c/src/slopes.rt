@@ -1,0 +1,56 @@
+// The exports of exclusives with their gradients, and of what all heads of a plan water together.
+ghost use Rattle.std.specs.Prelude.{◌≡◌};
+ghost use Rattle.areas.specs.Sets.{plan_sets};
+ghost use Rattle.gradients.specs.Step.{gradient_slices, clipped_step, open_step};
+ghost use Rattle.plan.specs.Checks.{plan_answer};
+ghost use Rattle.plan.specs.Table.{answer_number};
+ghost use Rattle.watered.specs.Handed as spec;
+ghost use Rattle.watered.specs.Overlap.{overlap_left};
+
+// The exclusives of a plan in its box with their gradients: presence bytes and numbers of rows 0 to 2^n - 1, and 3n + 4 gradient numbers a row.
+// The answer is 0, or the refusal's number (2, 4, 5, 7), which writes nothing.
+#[unsafe(no_mangle)]
+pub extern "C" fn watered_gradients(
+    n: usize,
+    sides: &[i32; 4],
+    heads: &[i32; 30],
+    presence: &mut [u8],
+    exclusives: &mut [f64],
+    gradients: &mut [f64],
+) -> u32
+    ensures value { result ≡ answer_number (clipped_step plan_sets (spec.plan_of n sides.now heads.now) (gradient_slices presence.old exclusives.old gradients.old)).answer }
+    ensures gradients_after { gradient_slices presence.new exclusives.new gradients.new ≡ (clipped_step plan_sets (spec.plan_of n sides.now heads.now) (gradient_slices presence.old exclusives.old gradients.old)).left }
+{
+    watered::slopes::watered_gradients(n, sides, heads, presence, exclusives, gradients)
+}
+
+// The same without the box, which is checked all the same: row 0 is absent, and there are 3n gradient numbers a row.
+#[unsafe(no_mangle)]
+pub extern "C" fn watered_open_gradients(
+    n: usize,
+    sides: &[i32; 4],
+    heads: &[i32; 30],
+    presence: &mut [u8],
+    exclusives: &mut [f64],
+    gradients: &mut [f64],
+) -> u32
+    ensures value { result ≡ answer_number (open_step plan_sets (spec.plan_of n sides.now heads.now) (gradient_slices presence.old exclusives.old gradients.old)).answer }
+    ensures gradients_after { gradient_slices presence.new exclusives.new gradients.new ≡ (open_step plan_sets (spec.plan_of n sides.now heads.now) (gradient_slices presence.old exclusives.old gradients.old)).left }
+{
+    watered::slopes::watered_open_gradients(n, sides, heads, presence, exclusives, gradients)
+}
+
+// What all heads of the plan water together, without the box, which is checked all the same. The answer is 0, or the refusal's number (2, 4,
+// 5), which leaves `overlap`.
+#[unsafe(no_mangle)]
+pub extern "C" fn watered_overlap(
+    n: usize,
+    sides: &[i32; 4],
+    heads: &[i32; 30],
+    overlap: &mut f64,
+) -> u32
+    ensures value { result ≡ answer_number (plan_answer (spec.plan_of n sides.now heads.now)) }
+    ensures overlap_after { overlap.new ≡ overlap_left (spec.plan_of n sides.now heads.now) overlap.old }
+{
+    watered::slopes::watered_overlap(n, sides, heads, overlap)
+}
