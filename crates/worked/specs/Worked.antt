@@ -19,6 +19,7 @@ use Rattle.exclusive.specs.RowOrder.{rows_of, row_order}
 use Rattle.exclusive.specs.Exclusive.{sum_onto, above, subtracted, unclamped, exclusive_table}
 use Rattle.plan.specs.declared.Answer.{Answer}
 use Rattle.plan.specs.declared.Answer.TheVariants.{Taken}
+use Rattle.plan.specs.declared.Ground.{Ground}
 use Rattle.plan.specs.declared.Plan.{Plan}
 use Rattle.plan.specs.Checks.{heads_items, plan_items, call_answer}
 use Rattle.plan.specs.Limits.{no_head}
@@ -52,11 +53,9 @@ exclusives_of a b c d =
 
 -- The plan of zero heads in the box that a file gives where no field stands: 40000 by 40000 about (0, 0).
 abbrev pub no_heads : Plan
-no_heads = record {
-  ground = record { x = pos 0; y = pos 0; width = pos 40000; height = pos 40000 };
-  n = 0;
-  heads = replicate 10 no_head;
-}
+no_heads =
+    let ground : Ground = record { x = pos 0; y = pos 0; width = pos 40000; height = pos 40000 } in
+    record { ground = ground; n = 0; heads = replicate 10 no_head }
 
 -- Its afresh call over two tables of two rows each, whatever they hold.
 abbrev pub afresh_over : List ℕ → List Float → List ℕ → List Float → Step PlanSlices Answer
