@@ -1,5 +1,5 @@
 -- From the rows laid in lent slices to the exclusives that take their place.
-use mathlib.Core.Path.{◌≡◌, refl, sym, ap, ap₂, ◌∙◌}
+use mathlib.Core.Path.{◌≡◌, sym, ap, ap₂, ◌∙◌}
 use mathlib.Core.Bool.{Bool, true, cond}
 use mathlib.Core.List.{List}
 use Prim.Native.Nat.{ℕ, min, ◌+◌, ◌*◌, ◌/◌, ◌%◌, ◌^◌, ◌≤◌, ◌<◌}
@@ -21,7 +21,7 @@ use Rattle.exclusive.proofs.TableRows.{by_row, place}
 use Rattle.exclusive.proofs.Unclamped.{exclusive_alike}
 use Rattle.diagram.proofs.Alike.{unless_alike}
 use Rattle.diagram.specs.Rows.{Rows, Slopes, is_there, area_at, slopes_at}
-use Rattle.diagram.specs.Rows.{exclusive_at, exclusive_slope, presence_written, exclusives_written, areas_written, slopes_written}
+use Rattle.diagram.specs.Rows.{exclusive_at, presence_written, exclusives_written, areas_written, slopes_written}
 
 -- a byte that is written says what it stands for
 byte_of : (p : ℕ → Bool) (m S : ℕ) (l : List ℕ) → S < m → stands (written (λ T. byte (p T)) m l) S ≡ p S
