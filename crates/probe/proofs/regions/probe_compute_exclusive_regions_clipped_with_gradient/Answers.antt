@@ -1,0 +1,11 @@
+-- `regions::probe_compute_exclusive_regions_clipped_with_gradient` meets its contract: what its calls give, put in place from the last to the first.
+use mathlib.Core.Path.{◌∙◌}
+use borrow.Author.Rules.{rules}
+use Rattle.probe.proofs.regions.probe_compute_exclusive_regions_clipped_with_gradient.Goals as goal
+
+pub returns : goal.returns
+returns c =
+    let s = c in
+    let container = s.container.ensures in
+    let circles = s.circles_of.ensures in
+    let e = s.compute_exclusive_regions_clipped_with_gradient.ensures in record { value = e.value ∙ rw circles; presence_after = e.presence_after ∙ rw circles; exclusives_after = e.exclusives_after ∙ rw (container, circles); gradients_after = e.gradients_after ∙ rw (container, circles) }
