@@ -2,7 +2,7 @@
 -- scattered (`plan_by_head` of areas). For any list of sets.
 use mathlib.Core.Path.{◌≡◌, refl, sym, ap, ap₂, ◌∙◌, subst}
 use mathlib.Core.Bool.{Bool, true, false, cond}
-use mathlib.Core.List.{List, [], ◌∷◌}
+use mathlib.Core.List.{List}
 use Prim.Native.Nat.{ℕ, zero, suc, min, ◌+◌, ◌*◌, ◌^◌, ◌≤◌, ◌<◌}
 use native.Mathlib.Decide.{ℕ_discrete}
 use native.Mathlib.Omega.{arith}
@@ -33,7 +33,7 @@ use Rattle.drawn.specs.Drawn.{plan_circles, box_of}
 use Rattle.drawn.proofs.Circles.{circles_many}
 use Rattle.sums.specs.Presence.{among}
 use Rattle.diagram.specs.Rows.{Slopes, in_row, is_there, area_at, slopes_at, presence_written}
-use Rattle.diagram.specs.Drawing.{open_onto, clipped_onto, open_slopes, clipped_slopes}
+use Rattle.diagram.specs.Drawing.{open_onto, clipped_onto}
 use Rattle.diagram.specs.Diagram.{answer_with, presence_left_with, areas_left, gradients_left}
 use Rattle.diagram.proofs.Alike.{Alike, bytes_alike, areas_alike, rows_alike}
 use Rattle.diagram.proofs.Leaving.{fits}
@@ -191,10 +191,10 @@ module _ (p : Plan) (sets sets' : Plan → ℕ → Bool) (same : Alike p.n (sets
   there b zero h = refl
   there b (suc S) h = same (suc S) h
 
-  either : {A : Type 0} (b : Bool) (box box' : A) (row row' : ℕ → A) (absent : A) → box ≡ box' → ((S : ℕ) → S < 2 ^ p.n → row S ≡ row' S)
-      → Alike p.n (in_row b (sets p) box row absent) (in_row b (sets' p) box' row' absent)
-  either b box box' row row' absent e f zero h = ap (λ x. cond b x absent) e
-  either b box box' row row' absent e f (suc S) h = ap₂ (λ (t : Bool) x. cond t x absent) (same (suc S) h) (f (suc S) h)
+  either : {A : Type 0} (b : Bool) (first first' : A) (row row' : ℕ → A) (absent : A) → first ≡ first' → ((S : ℕ) → S < 2 ^ p.n → row S ≡ row' S)
+      → Alike p.n (in_row b (sets p) first row absent) (in_row b (sets' p) first' row' absent)
+  either b first first' row row' absent e f zero h = ap (λ x. cond b x absent) e
+  either b first first' row row' absent e f (suc S) h = ap₂ (λ (t : Bool) x. cond t x absent) (same (suc S) h) (f (suc S) h)
 
   clipped_same : (S : ℕ) → (0 < S → sets p S ≡ sets' p S) → clipped_gradients sets p S ≡ clipped_gradients sets' p S
   unfolding clipped_gradients

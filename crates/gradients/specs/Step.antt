@@ -4,7 +4,6 @@ use Rattle.std.specs.Prelude.{ℕ, ◌+◌, ◌*◌, ◌^◌, ◌≤◌, Bool, t
 use Rattle.lists.specs.Run.{Step}
 use Rattle.binary64.specs.Constants.{zero64}
 use Rattle.plan.specs.declared.Answer.{Answer}
-use Rattle.plan.specs.declared.Answer.TheVariants.{Taken, Refused}
 use Rattle.plan.specs.declared.Gradients.{Gradients}
 use Rattle.plan.specs.declared.Gradients.TheVariants.{Clipped, Open}
 use Rattle.plan.specs.declared.Lent.{Lent}

@@ -1,5 +1,6 @@
 // The exclusives of a plan with their gradients, in lent slices, with the box and without it: checks first, then the rows. Rests on specs/Step.antt.
 #![tactic(auto)]
+
 ghost use Rattle.std.specs.Prelude.{◌≡◌, [], ◌∷◌};
 ghost use Rattle.masks.specs.Presence.{stands};
 ghost use Rattle.plan.specs.Table.{lent_by};
