@@ -1,6 +1,6 @@
 -- Errors: how near a result is to the exact value, as two linear orders that `omega` closes. Half an ulp of a bound for each operation, then laws
 -- that carry errors on: through a negation, a sum, a product, a quotient and a Horner step. Rests on Operations and Magnitude.
-use Rattle.std.proofs.Common.{◌≡◌, ℕ, zero, ◌+◌, ◌-◌, ◌*◌, ◌^◌, ◌<◌, ◌≤◌, true, ◌⊎◌, sym, refl, ap, ◌∙◌, subst, ap₂, inl, inr, le_trans, le_of_eq, le_refl, le-add_right, le_of_lt, add-le-add, mul-le-mul_right, add-mul, add-sub_of_le, mul-le-mul, add_comm, lt_of_mul-lt-mul_right, mul-le-mul_left, zero-add, le-add_left, arith}
+use Rattle.std.proofs.Common.{◌≡◌, ℕ, ◌+◌, ◌-◌, ◌*◌, ◌^◌, ◌<◌, ◌≤◌, true, ◌⊎◌, sym, refl, ap, ◌∙◌, subst, ap₂, inl, inr, le_trans, le_of_eq, le_refl, le-add_right, le_of_lt, add-le-add, mul-le-mul_right, add-mul, add-sub_of_le, mul-le-mul, add_comm, lt_of_mul-lt-mul_right, mul-le-mul_left, zero-add, le-add_left, arith}
 use lib.Ieee.{lt, Float, binary64, add, sub, mul, div, neg}
 use Rattle.binary64.specs.Units.{pow2, one, Finite, mag, plus, minus}
 use Rattle.binary64.specs.Rounding.{Near, Result}

@@ -3,7 +3,6 @@
 use Rattle.std.proofs.Common.{◌≡◌, ℕ, ◌+◌, ◌^◌, ◌≤◌, Bool, true, false, cond, not, ◌||◌, T, leb, ℤ, nat_abs, sym, refl, ap, ◌∙◌, subst, ap₂, true≢false, le_trans, le_of_eq, add-zero}
 use mathlib.Core.Bool.{false≢true}
 use lib.Signed.{lt_z}
-use lib.Ieee.Scale.{finite}
 use lib.Ieee.{Float, nan, inf, fin, binary64, is_nan, fits, of_bits, neg, lt, le, eq, of_int, ne, to_bits}
 use lib.Ieee.Bits.{of_bits-to_bits, is_false}
 use lib.Ieee.Compare.{differs_from_itself}

@@ -9,5 +9,6 @@ pub mod Error
 pub mod Whole
 pub mod Functions
 pub mod Remainder
+mod Reducing
 pub mod Constants
 mod Examples

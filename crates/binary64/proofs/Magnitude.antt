@@ -1,6 +1,6 @@
 -- Laws of magnitudes: what +, -, *, / and negation make of bounds `Most` and `Least`. A bound j * 2 ^ a with j up to 2 ^ 53 is a float itself, so
 -- rounding never passes it; with a up to 2044 the result is finite. Rests on Operations.
-use Rattle.std.proofs.Common.{◌≡◌, ℕ, zero, suc, ◌+◌, ◌-◌, ◌*◌, ◌^◌, ◌<◌, ◌≤◌, Bool, true, false, cond, T, leb, ◌⊎◌, sym, refl, ap, ◌∙◌, subst, ap₂, inl, inr, zero-le, le_trans, le_of_eq, le_refl, lt_of_lt_of_le, mul-le-mul_right, mul_assoc, mul-le-mul, mul-le-mul_left, mul-pos, arith, leb→le}
+use Rattle.std.proofs.Common.{◌≡◌, ℕ, zero, suc, ◌+◌, ◌*◌, ◌^◌, ◌<◌, ◌≤◌, Bool, true, false, cond, T, leb, ◌⊎◌, sym, refl, ap, ◌∙◌, subst, ap₂, inl, inr, zero-le, le_trans, le_of_eq, le_refl, lt_of_lt_of_le, mul-le-mul_right, mul_assoc, mul-le-mul, mul-le-mul_left, mul-pos, arith, leb→le}
 use native.Mathlib.Nat.{mul-mul-mul_comm}
 use mathlib.Core.Bool.{false≢true}
 use lib.Ieee.Bits.{of_bits-fits}

@@ -4,7 +4,7 @@ use Rattle.std.proofs.Common.{◌≡◌, ℕ, ◌+◌, ◌-◌, ◌*◌, ◌^◌
 use mathlib.Core.Bool.{false≢true}
 use lib.Arith.{le→nltb}
 use lib.Ieee.Bits.{is_false}
-use lib.Ieee.{Float, inf, binary64, up, down, unlike, fits, odd, units, round, sum, add, sub, mul, div, neg}
+use lib.Ieee.{Float, inf, binary64, unlike, fits, odd, units, round, sum, add, sub, mul, div, neg}
 use lib.Ieee.Exact.{HasValue, units_val}
 use lib.Ieee.Fits.{round_is, round-fits}
 use lib.Ieee.Order.{drop, kept}

@@ -48,7 +48,7 @@ rem_values (fin u m e) (fin v n d) s t a b c B C h k =
     none n h z = omega arith
 
 -- A remainder of two numbers of 53 digits has 53 digits, so it is exact.
-mod_digits : (a b : ℕ) → 0 < b → Digits53 a → Digits53 b → Digits53 (a % b)
+pub mod_digits : (a b : ℕ) → 0 < b → Digits53 a → Digits53 b → Digits53 (a % b)
 mod_digits a b B d e = go (lt_or_ge d.zeros e.zeros)
   where
     shifted : (q j k : ℕ) → k ≤ j → q * 2 ^ j ≡ q * 2 ^ (j - k) * 2 ^ k

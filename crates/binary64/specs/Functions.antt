@@ -1,8 +1,8 @@
 -- The small functions of f64 that the Rust calls as methods, and what each gives for a NaN and for zeros of either sign.
 -- Rests on lib.Ieee. In code the functions are those of src/lib.rt.
-use Rattle.std.specs.Prelude.{◌≡◌, ◌≤◌, Bool, false, cond, ◌||◌, pos, is_nan}
+use Rattle.std.specs.Prelude.{◌≡◌, ◌<◌, ◌≤◌, Bool, false, cond, ◌||◌, pos, is_nan}
 use lib.Ieee.{Float, nan, inf, fin, binary64, lt, add, rem}
-use Rattle.binary64.specs.Units.{Finite, plus, minus}
+use Rattle.binary64.specs.Units.{Finite, mag, negative, plus, minus}
 use Rattle.binary64.specs.Constants.{zero64}
 
 -- `x.abs()`: the sign bit cleared. A NaN stays a NaN.
@@ -41,3 +41,11 @@ pub record FromZeroTo (z m : Float) : Type 0 where
   pub finite : Finite z
   pub above : minus z ≡ 0
   pub below : plus z ≤ plus m
+
+-- x and m are finite, without the sign bit, and m is no zero.
+pub record Reducible (x m : Float) : Type 0 where
+  pub number : Finite x
+  pub unsigned : negative x ≡ false
+  pub by : Finite m
+  pub by_unsigned : negative m ≡ false
+  pub by_nonzero : 0 < mag m

@@ -4,7 +4,9 @@
 
 ghost use Rattle.std.specs.Prelude.{◌≡◌};
 ghost use Rattle.binary64.specs.Units.{negative};
-ghost use Rattle.binary64.specs.Functions.{absolute, signum_of, clamp_to_zero, larger_of, smaller_of, rem_euclid};
+ghost use Rattle.std.specs.Float.{binary64};
+ghost use Rattle.std.specs.Float.Ieee.{rem};
+ghost use Rattle.binary64.specs.Functions.{absolute, signum_of, clamp_to_zero, larger_of, smaller_of, rem_euclid, Reducible};
 
 // The sign bit: true for -0 too. A NaN has none, and gives false.
 pub fn is_sign_negative(x: f64) -> bool
@@ -56,10 +58,35 @@ pub fn smaller(x: f64, y: f64) -> f64
     if x == x { if y < x { y } else { x } } else { y }
 }
 
+// The remainder of x by m, from that by twice m: it is that, or m less. No sum and no difference here is rounded.
+fn reduced(x: f64, m: f64) -> f64
+    requires { Reducible x m }
+    ensures { result ≡ rem binary64 x m }
+{
+    let twice = m + m;
+    let rest = if twice <= x { reduced(x, twice) } else { x };
+    if m <= rest { rest - m } else { rest }
+}
+
+// x % m, which C's fmod would work out: a program with a `%` of floats asks for one of the kit's C library, which the machine's may be too old to have.
+fn exact_remainder(x: f64, m: f64) -> f64
+    ensures { result ≡ rem binary64 x m }
+{
+    let by = abs(m);
+    if !x.is_finite() || !(0.0 < by) {
+        return f64::NAN;
+    }
+    if !m.is_finite() {
+        return x;
+    }
+    let rest = reduced(abs(x), by);
+    if is_sign_negative(x) { -rest } else { rest }
+}
+
 // The remainder of x by m, plus m if that is below zero.
 pub fn rem_euclid(x: f64, m: f64) -> f64
     ensures { result ≡ rem_euclid x m }
 {
-    let r = x % m;
+    let r = exact_remainder(x, m);
     if r < 0.0 { r + m } else { r }
 }

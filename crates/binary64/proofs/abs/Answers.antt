@@ -1,6 +1,6 @@
 -- `binary64::abs` meets its contract: a float with the sign bit set is negated.
 -- Assumes nothing.
-use Rattle.std.proofs.Common.{sym, ◌∙◌, rules}
+use Rattle.std.proofs.Common.{sym, ◌∙◌}
 use Rattle.binary64.proofs.Functions.{absolute_of_negative, absolute_of_other}
 use Rattle.binary64.proofs.abs.Goals as goal
 

@@ -1,6 +1,6 @@
 -- `binary64::signum` meets its contract, by the sign bit.
 -- Assumes nothing.
-use Rattle.std.proofs.Common.{true, false, sym, ap, ◌∙◌, rules}
+use Rattle.std.proofs.Common.{true, false, sym, ap, ◌∙◌}
 use lib.Ieee.{of_bits, neg}
 use Rattle.binary64.specs.Functions.{signum_of}
 use Rattle.binary64.proofs.Functions.{equals_itself, only_nan, signum_of_number}
