@@ -20,7 +20,7 @@ unfoldable pub ground_of : List ℤ → Ground
 ground_of l = record { x = get_or l 0 (pos 0); y = get_or l 1 (pos 0); width = get_or l 2 (pos 0); height = get_or l 3 (pos 0) }
 
 unfoldable pub plan_of : ℕ → List ℤ → List ℤ → Plan
-plan_of n box heads = record { ground = ground_of box; n = n; heads = heads_of heads }
+plan_of n box heads = let ground : Ground = ground_of box in record { ground = ground; n = n; heads = heads_of heads }
 
 -- ten heads as numbers again
 abbrev pub three : Head → List ℤ → List ℤ
