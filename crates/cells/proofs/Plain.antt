@@ -7,7 +7,7 @@ use native.Mathlib.Nat.{le_refl, le_trans, le_of_eq, add-le-add, mul-le-mul, pow
 use native.Mathlib.Omega.{arith}
 use lib.ListN.{length}
 use lib.IntN.{ℤ, pos, ◌+ℤ◌, ◌-ℤ◌, ◌*ℤ◌, nat_abs, *ℤ-zero, zero-*ℤ, +ℤ_idl, +ℤ_idr}
-use Rattle.series.proofs.Integers.{◌⊖◌, parts, ⊖-eq, differences, dist, dist_self, abs_add, abs_mul, distrib, distrib_r, *ℤ-assoc, *ℤ-left-comm}
+use Rattle.series.proofs.Integers.{parts, ⊖-eq, differences, dist, dist_self, abs_add, abs_mul, distrib, distrib_r, *ℤ-assoc, *ℤ-left-comm}
 use Rattle.series.proofs.Polynomial.{hval, one_pow, shift, shift_value}
 
 -- Σ c_i x^i

@@ -2,14 +2,14 @@
 -- both change where the angle changes by little. Rests on the computed tests.
 use mathlib.Core.Path.{◌≡◌, refl, sym, ap, ◌∙◌, subst}
 use mathlib.Core.List.{List, [], ◌∷◌}
-use Prim.Native.Nat.{ℕ, ◌+◌, ◌-◌, ◌*◌, ◌^◌, ◌≤◌}
+use Prim.Native.Nat.{ℕ, ◌*◌, ◌^◌, ◌≤◌}
 use native.Mathlib.Nat.{le_trans, le_of_eq, mul-le-mul_left, mul-le-mul_right, mul_assoc}
 use native.Mathlib.Omega.{arith}
 use lib.Dec.{T, leb, leb→le}
 use lib.ListN.{length}
 use lib.IntN.{ℤ, pos, neg_ℤ, ◌+ℤ◌, ◌-ℤ◌, ◌*ℤ◌, nat_abs, *ℤ-zero, +ℤ_idr, +ℤ_comm, neg_ℤ-neg_ℤ}
 use Rattle.series.specs.Taylor.{factorial, sign}
-use Rattle.series.proofs.Integers.{◌⊖◌, parts, ⊖-eq, differences, dist, abs-negℤ}
+use Rattle.series.proofs.Integers.{parts, ⊖-eq, differences, dist, abs-negℤ}
 use Rattle.series.proofs.Polynomial.{hval, shift, finer, slope, sizes, length_sizes, values_follow, slope_units}
 use Rattle.series.proofs.Alternating.{negated, negated_value}
 use Rattle.series.proofs.Sums.{rising, sin_from, cos_from, sin79, cos79}

@@ -1,6 +1,6 @@
 -- Sums over the arcs of a set, open and in the box: by head they are what they are by position.
-use mathlib.Core.Path.{◌≡◌, refl, sym, ◌∙◌}
-use mathlib.Core.List.{List, [], ◌∷◌, map, foldl}
+use mathlib.Core.Path.{◌≡◌, refl}
+use mathlib.Core.List.{List, map, foldl}
 use Prim.Native.Nat.{ℕ, ◌<◌}
 use lib.ListN.{length}
 use lib.Ieee.{Float}

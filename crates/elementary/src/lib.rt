@@ -1,6 +1,7 @@
 // The elementary functions below the geometry: root and hypot, sine and cosine, atan2, acos and asin.
 // What stands above knows only their promises, which specs/ states and proofs/ proves.
 #![tactic(auto)]
+
 pub mod arctangent;
 mod fixed;
 pub mod root;

@@ -5,7 +5,7 @@ use mathlib.Core.Logic.{◌⊎◌, inl, inr}
 use Prim.Native.Nat.{ℕ, ◌+◌, ◌-◌, ◌*◌, ◌^◌, ◌≤◌, ◌<◌}
 use native.Mathlib.Nat.{le_trans, le_of_eq, mul-le-mul, mul-le-mul_right}
 use native.Mathlib.Omega.{arith}
-use lib.IntN.{pos, nat_abs, ◌-ℤ◌}
+use lib.IntN.{pos, ◌-ℤ◌}
 use lib.Ieee.{Float, binary64, of_int}
 use Rattle.heads.specs.declared.Head.{Head}
 use Rattle.heads.specs.Pair.{squared_distance}

@@ -20,7 +20,6 @@ use Rattle.heads.specs.Relation.{gap, identical, relation, meets, meeting, touch
 use Rattle.heads.specs.Cases.{Case, gap_comm, gap_le, gap_square_le, gap_zero, relation_is, case_of, meets_relation, meets_once_relation, meets_facts}
 use Rattle.heads.specs.Pair.{squared_distance, radius_of, relation_of, meets_of, meets_once_of}
 use Rattle.heads.specs.Distance.{InLimits, limits_of, distance_fits, meets_of_comm}
-use Rattle.binary64.specs.Units.{one}
 use Rattle.binary64.specs.Magnitude.{Most, Least}
 use Rattle.binary64.proofs.Naturals.{lt_or_ge}
 use Rattle.binary64.proofs.Whole.{of_int_sign, of_int_most, of_int_least}

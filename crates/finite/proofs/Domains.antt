@@ -29,7 +29,6 @@ use Rattle.geometry.specs.declared.bounds.Bounds.{Bounds}
 use Rattle.geometry.specs.declared.circle.Circle.{Circle}
 use Rattle.lists.specs.Lists.{keep}
 use Rattle.lists.specs.Every.{Every, every_append, every_map, every_both, every_at, every_mapped, every_take}
-use Rattle.intersections.specs.declared.points.IntersectionPoint.{IntersectionPoint}
 use Rattle.intersections.specs.Members.{Member, heads_of, members_of}
 use Rattle.boundary.specs.declared.arcs.BoundaryArc.{BoundaryArc}
 use Rattle.boundary.specs.Outline.{full_circle, between, angles_of, outline}

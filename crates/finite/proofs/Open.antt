@@ -23,7 +23,7 @@ use Rattle.geometry.specs.declared.circle.Circle.{Circle}
 use Rattle.boundary.specs.declared.arcs.BoundaryArc.{BoundaryArc}
 use Rattle.intersections.specs.declared.points.IntersectionPoint.{IntersectionPoint}
 use Rattle.lists.specs.Every.{Every, every_map, every_at, every_set, every_mapped, every_replicate, every_take}
-use Rattle.intersections.specs.Members.{Member, circles_of, no_circle, heads_of, members_of}
+use Rattle.intersections.specs.Members.{circles_of, no_circle, heads_of, members_of}
 use Rattle.boundary.specs.Outline.{full_circle, between, outline}
 use Rattle.outline.specs.Area.{arc_terms, add_arc, add_arcs, area_of, open_area, add_at, sub_at, arc_slopes, add_slopes, add_gradient, open_gradient}
 use Rattle.boundary.specs.Set.{numbered, arcs_held, region_arcs}

@@ -6,7 +6,6 @@ use mathlib.Core.List.{List}
 use Prim.Native.Nat.{ℕ, zero, suc, ◌*◌, ◌≤◌, ◌<◌}
 use lib.Ieee.{Float}
 use lib.ListN.{length, replicate}
-use native.Mathlib.Omega.{arith}
 use Rattle.binary64.specs.Magnitude.{Most}
 use Rattle.binary64.specs.Constants.{zero64}
 use Rattle.binary64.proofs.Magnitude.{most_zero}

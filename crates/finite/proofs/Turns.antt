@@ -18,7 +18,7 @@ use Rattle.binary64.proofs.Constants.{pi_most, two_pi_most, two_pi_least}
 use Rattle.binary64.proofs.Magnitude.{add_most, sub_most}
 use Rattle.binary64.proofs.Operations.{add_result, sub_result, result_le}
 use Rattle.binary64.proofs.Remainder.{rem_euclid_within}
-use Rattle.binary64.proofs.Units.{pow2_pos, mag_digits, plus_minus, plus_is, one_sided, units_of_lt, units_of_not_lt, units_of_le, zero64_finite, zero64_plus, zero64_minus}
+use Rattle.binary64.proofs.Units.{pow2_pos, mag_digits, plus_minus, plus_is, units_of_lt, units_of_not_lt, units_of_le, zero64_finite, zero64_plus, zero64_minus}
 use Rattle.elementary.specs.ArctangentPromise.{UpToPi}
 use Rattle.binary64.specs.Floats.{◌+ᶠ◌, ◌-ᶠ◌, ◌*ᶠ◌, ◌<ᶠ◌, ◌≤ᶠ◌}
 use Rattle.geometry.specs.declared.point.Point.{Point}

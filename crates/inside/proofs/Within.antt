@@ -1,6 +1,6 @@
 -- What lies up to r from v, rounded, lies from v - r to v + r, rounded (specs/Within.antt).
 use Prim.{tt}
-use mathlib.Core.Path.{◌≡◌, refl, sym, ap, ap₂, ◌∙◌}
+use mathlib.Core.Path.{◌≡◌, refl, sym, ap₂}
 use mathlib.Core.Bool.{true, ◌&&◌}
 use Prim.Native.Nat.{ℕ, ◌+◌, ◌-◌, ◌*◌, ◌≤◌, ◌<◌}
 use native.Mathlib.Nat.{le_refl, le_trans, le_of_eq, mul-le-mul, mul-le-mul_right}
@@ -8,9 +8,9 @@ use native.Mathlib.Omega.{arith}
 use lib.Dec.{T}
 use lib.Ieee.{Float, binary64, fits, lt, le, add, sub, mul, neg, of_bits}
 use Rattle.binary64.specs.Constants.{zero64}
-use Rattle.binary64.specs.Units.{pow2, one, mag, plus, minus, Finite}
+use Rattle.binary64.specs.Units.{pow2, one, mag, plus, minus}
 use Rattle.binary64.specs.Magnitude.{Most}
-use Rattle.binary64.specs.Rounding.{Rounded, rnd}
+use Rattle.binary64.specs.Rounding.{Rounded}
 use Rattle.binary64.proofs.Units.{one_pos, plus_minus, mag_digits, above_zero, units_of_le, le_of_units}
 use Rattle.binary64.proofs.Rounding.{rnd_mono, plus_le, minus_le}
 use Rattle.binary64.proofs.Operations.{result_rounded, add_result, sub_result, mul_result}

@@ -8,7 +8,7 @@ use native.Mathlib.Nat.{eq-or-lt_of_le, le_of_suc-le-suc, le_refl}
 use native.Mathlib.Numerals.{add-one}
 use native.Mathlib.Omega.{arith}
 use lib.ListN.{length, get_or, set, take, drop, length-append, length-drop, get_or-append, drop_of_length-le}
-use lib.Seq.{get_or-append-add, get_or-drop, get_or_at, drop-cons, drop_at, drop-append-add, drop-drop, set_at, take-append-le, take_all, take-suc}
+use lib.Seq.{get_or-append-add, get_or-drop, get_or_at, drop-cons, drop-append-add, drop-drop, set_at, take-append-le, take_all, take-suc}
 use Rattle.lists.specs.Written.{tab, written}
 
 module _ {A : Type 0} (f : ℕ → A) where

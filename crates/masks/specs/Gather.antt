@@ -1,5 +1,5 @@
 -- The set gathered from a test on heads has those heads and no others, and is the only such mask of its width.
-use Rattle.std.specs.Prelude.{ℕ, zero, suc, ◌+◌, ◌-◌, ◌*◌, ◌^◌, ◌<◌, ◌≡◌, refl, Bool, true, false, not, cond, ◌&&◌, ◌||◌, eqb, ltb}
+use Rattle.std.specs.Prelude.{ℕ, zero, suc, ◌+◌, ◌*◌, ◌^◌, ◌<◌, ◌≡◌, refl, Bool, true, false, not, cond, ◌&&◌, ◌||◌, eqb, ltb}
 use Rattle.std.proofs.Common.{one-mul, add-zero, eq-or-lt_of_le, le_of_suc-le-suc, arith, sym, ap, ◌∙◌, ⊎_elim, ltb-true, ltb-false, eq-eqb, ne_eqb}
 use Rattle.std.proofs.Math.Bool.{or-false, or-true}
 use Rattle.std.specs.Int.Bits.{bit_and, bit_or, and_lt, or_shifted_r}

@@ -1,18 +1,18 @@
 -- All rows of a pass: three numbers a circle, the heads of the wanted rows, and what is held for these serves each such row.
-use mathlib.Core.Path.{◌≡◌, refl, sym, ap, ◌∙◌}
+use mathlib.Core.Path.{◌≡◌, sym, ap, ◌∙◌}
 use mathlib.Core.Bool.{Bool, true, false, true≢false}
-use mathlib.Core.List.{List, map, map-id}
+use mathlib.Core.List.{List, map-id}
 use mathlib.Core.Logic.{⊎_elim}
-use Prim.Native.Nat.{ℕ, suc, ◌+◌, ◌*◌, ◌/◌, ◌%◌, ◌^◌, ◌≤◌, ◌<◌}
+use Prim.Native.Nat.{ℕ, ◌+◌, ◌*◌, ◌/◌, ◌%◌, ◌^◌, ◌≤◌, ◌<◌}
 use native.Mathlib.Nat.{eq-or-lt_of_le, le_of_suc-le-suc}
 use native.Mathlib.Numerals.{add-one}
 use native.Mathlib.Omega.{arith}
 use lib.Bits.{bit_or}
 use lib.ListN.{length, get_or, take}
 use lib.Ieee.{Float, nan}
-use Rattle.lists.specs.Written.{tab, written}
+use Rattle.lists.specs.Written.{written}
 use Rattle.lists.proofs.Writing.{tab_map, tab_cong}
-use Rattle.masks.specs.Mask.{in_set, Subset}
+use Rattle.masks.specs.Mask.{Subset}
 use Rattle.masks.specs.Operations.{bit-or, bit_beyond, below_pow}
 use Rattle.masks.specs.Presence.{stands}
 use Rattle.masks.specs.Subset.{subset_head, subset_trans, or_subset_left, or_subset_right}

@@ -1,5 +1,4 @@
 -- `circle_of`: what the two makers give put in place, each whole number as it stands.
-use borrow.Author.Rules.{rules}
 use Rattle.heads.proofs.Signed.{read_back}
 use Rattle.exact.proofs.circle_of.Goals as goal
 

@@ -3,7 +3,6 @@ use mathlib.Core.Path.{ap, sym, ◌∙◌}
 use Rattle.heads.specs.Relation.{meeting}
 use Rattle.heads.specs.Pair.{radius_of, squared_distance}
 use Rattle.heads.specs.Cases.{meets_relation}
-use borrow.Author.Rules.{rules}
 use Rattle.heads.proofs.meets.Goals as goal
 
 pub returns : goal.returns

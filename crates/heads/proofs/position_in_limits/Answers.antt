@@ -1,7 +1,6 @@
 -- `heads::position_in_limits` meets its contract: what `lies_within` ensures.
 use mathlib.Core.Path.{◌∙◌}
 use mir.Facts.{to_z-of_z}
-use borrow.Author.Rules.{rules}
 use Rattle.heads.proofs.position_in_limits.Goals as goal
 
 pub returns : goal.returns

@@ -1,7 +1,6 @@
 -- `heads::radius_gap` meets its contract: the larger radius less the smaller.
 use native.Mathlib.Omega.{arith}
 use Rattle.heads.specs.Relation.{gap}
-use borrow.Author.Rules.{rules}
 use Rattle.heads.proofs.radius_gap.Goals as goal
 
 pub returns-then-r1-r2 : goal.returns-then-r1-r2

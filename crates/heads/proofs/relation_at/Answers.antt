@@ -6,7 +6,6 @@ use mathlib.Core.Bool.{false}
 use lib.Dec.{ltb}
 use borrow.Author.Tests.{ltb-false}
 use Rattle.heads.proofs.Decided.{holding, same, inside, crossing, outside, apart}
-use borrow.Author.Rules.{rules}
 use Rattle.heads.proofs.relation_at.Goals as goal
 
 -- the first test failed: d is not below t²

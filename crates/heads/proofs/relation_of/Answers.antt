@@ -3,7 +3,6 @@ use mathlib.Core.Path.{◌≡◌, ◌∙◌}
 use Rattle.heads.proofs.Signed.{read_back, above_zero_lt}
 use Rattle.heads.specs.Pair.{radius_of, squared_distance}
 use Rattle.heads.specs.Distance.{relation_capped}
-use borrow.Author.Rules.{rules}
 use Rattle.heads.proofs.relation_of.Goals as goal
 
 pub returns : goal.returns

@@ -6,7 +6,6 @@ use mathlib.Core.Path.{◌≡◌, ap, ◌∙◌}
 use lib.IntN.{nat_abs, ◌-ℤ◌}
 use mir.Facts.{to_z-of_z}
 use Rattle.heads.specs.Distance.{diff_below}
-use borrow.Author.Rules.{rules}
 use Rattle.heads.proofs.squared_difference.Goals as goal
 
 -- what the call gives, of the numbers themselves

@@ -3,7 +3,6 @@ use Prim.Native.Nat.{◌+◌, min, ℕ}
 use mathlib.Core.Path.{ap₂, ◌∙◌}
 use Rattle.heads.proofs.Signed.{read_back}
 use Rattle.heads.specs.Pair.{greatest}
-use borrow.Author.Rules.{rules}
 use Rattle.heads.proofs.squared_distance.Goals as goal
 
 pub returns : goal.returns

@@ -1,11 +1,8 @@
 -- `fill::fill_chords`: the ends, then the heads that reach each edge below `edge`.
-use borrow.Author.Rules.{rules}
-use mathlib.Core.Path.{◌≡◌, refl, ap, ◌∙◌}
-use Prim.Native.Nat.{ℕ, min, ◌-◌, ◌≤◌}
-use native.Mathlib.Omega.{arith}
-use lib.ListN.{length, take, length-set}
+use mathlib.Core.Path.{◌≡◌}
+use Prim.Native.Nat.{min, ◌-◌, ◌≤◌}
+use lib.ListN.{length, take}
 use Rattle.lists.specs.Written.{written}
-use Rattle.lists.proofs.Writing.{written_none, write_next}
 use Rattle.chords.specs.Chords.{reach_of}
 use Rattle.chords.proofs.fill.fill_chords.Given as goal
 

@@ -1,18 +1,9 @@
 -- `fill::fill_ends`: the places below p are written where their head is needed.
-use borrow.Author.Rules.{rules}
-use mathlib.Core.Path.{◌≡◌, refl, sym, ap, ◌∙◌}
-use mathlib.Core.Logic.{⊎_elim}
-use Prim.Native.Nat.{ℕ, min, ◌-◌, ◌/◌, ◌%◌, ◌≤◌, ◌<◌}
-use native.Mathlib.Omega.{arith}
-use borrow.Author.Tests.{eq-eqb, ne_eqb}
-use lib.Ieee.{Float, nan}
-use lib.ListN.{length, length-set}
+use mathlib.Core.Path.{◌≡◌}
+use Prim.Native.Nat.{◌-◌, ◌≤◌}
+use lib.ListN.{length}
 use Rattle.lists.specs.Written.{written}
-use Rattle.lists.proofs.Arrays.{length_of_values}
-use Rattle.lists.proofs.Writing.{written_none, write_next, written_keep}
-use Rattle.masks.specs.Operations.{in_by_shift}
 use Rattle.chords.specs.Chords.{low_of, high_of, chord_places, end_at}
-use Rattle.chords.proofs.Ends.{low_end, high_end, end_in, end_out}
 use Rattle.chords.proofs.fill.fill_ends.Given as goal
 
 abbrev pub invariant-loop-p : goal.invariant-loop-p

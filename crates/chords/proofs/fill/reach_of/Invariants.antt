@@ -1,18 +1,11 @@
 -- `fill::reach_of`: the heads below l that reach the edge.
-use borrow.Author.Rules.{rules}
-use mathlib.Core.Path.{◌≡◌, refl, sym, ap, ◌∙◌}
+use mathlib.Core.Path.{◌≡◌}
 use mathlib.Core.Bool.{not}
-use mathlib.Core.Logic.{⊎_elim}
 use Prim.Native.Nat.{min, ◌-◌, ◌≤◌}
-use native.Mathlib.Omega.{arith}
-use lib.ListN.{length, take, length-take}
-use lib.Seq.{get_or-take}
-use Rattle.lists.proofs.Arrays.{length_of_values}
+use lib.ListN.{length, take}
 use Rattle.masks.specs.Mask.{gather}
-use Rattle.intersections.specs.Members.{no_circle, circle_at}
-use Rattle.intersections.proofs.Adopting.{gather_with, gather_without}
+use Rattle.intersections.specs.Members.{circle_at}
 use Rattle.inside.specs.Span.{misses, seen}
-use Rattle.chords.specs.Chords.{reach_of}
 use Rattle.chords.proofs.fill.reach_of.Given as goal
 
 abbrev pub invariant-loop-l : goal.invariant-loop-l

@@ -1,15 +1,11 @@
 -- `spans::chord_span`: the ends after the heads below l.
-use borrow.Author.Rules.{rules}
 use mathlib.Core.Path.{◌≡◌, sym, ◌∙◌}
-use mathlib.Core.List.{List}
-use mathlib.Core.Logic.{⊎_elim}
-use Prim.Native.Nat.{ℕ, min, ◌+◌, ◌-◌, ◌*◌, ◌%◌, ◌≤◌}
+use Prim.Native.Nat.{min, ◌%◌}
 use native.Mathlib.Omega.{arith}
 use borrow.Author.Tests.{eq-eqb, ne_eqb}
 use lib.ListN.{get_or}
-use lib.Ieee.{Float, nan}
 use Rattle.masks.specs.Operations.{in_by_shift}
-use Rattle.chords.proofs.Spanning.{EndsTo, ends_start, ends_in, ends_out, span_open, span_missed}
+use Rattle.chords.proofs.Spanning.{ends_start, ends_in, ends_out, span_open, span_missed}
 use Rattle.chords.proofs.spans.chord_span.Invariants.{ends}
 use Rattle.chords.proofs.spans.chord_span.Goals as goal
 use Rattle.chords.proofs.spans.chord_span.Goals.{then-mask-l-eq1, else-mask-l-eq1}

@@ -1,15 +1,9 @@
 -- `spans::chord_span`: the ends after the heads below l.
-use borrow.Author.Rules.{rules}
-use mathlib.Core.Path.{◌≡◌, sym, ◌∙◌}
 use mathlib.Core.List.{List}
-use mathlib.Core.Logic.{⊎_elim}
-use Prim.Native.Nat.{ℕ, min, ◌+◌, ◌-◌, ◌*◌, ◌%◌, ◌≤◌}
-use native.Mathlib.Omega.{arith}
-use borrow.Author.Tests.{eq-eqb, ne_eqb}
+use Prim.Native.Nat.{ℕ, ◌+◌, ◌-◌, ◌*◌, ◌%◌, ◌≤◌}
 use lib.ListN.{get_or}
 use lib.Ieee.{Float, nan}
-use Rattle.masks.specs.Operations.{in_by_shift}
-use Rattle.chords.proofs.Spanning.{EndsTo, ends_start, ends_in, ends_out, span_open, span_missed}
+use Rattle.chords.proofs.Spanning.{EndsTo}
 use Rattle.chords.proofs.spans.chord_span.Given as goal
 
 -- the ends of the chords of one edge

@@ -1,5 +1,4 @@
 -- `area::add_edges`: what each call gives, the last first.
-use borrow.Author.Rules.{rules}
 use Rattle.clip.specs.Area.{add_edges}
 use Rattle.clip.proofs.area.add_edges.Goals as goal
 

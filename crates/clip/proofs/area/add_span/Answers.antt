@@ -1,5 +1,4 @@
 -- `area::add_span`: case by case of the span.
-use borrow.Author.Rules.{rules}
 use Rattle.clip.proofs.area.add_span.Goals as goal
 
 pub returns-in-None : goal.returns-in-None

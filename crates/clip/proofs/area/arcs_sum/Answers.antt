@@ -1,12 +1,8 @@
 -- `arcs_sum`: the arcs one after another (ArcsTo), whose step is `add_clipped_arc`.
 use mathlib.Core.Path.{refl}
-use Prim.Native.Nat.{◌-◌}
 use native.Mathlib.Omega.{arith}
-use lib.ListN.{take}
-use Rattle.binary64.specs.Constants.{zero64}
 use Rattle.lists.proofs.Arrays.{length_of_values}
-use Rattle.outline.proofs.Walking.{ArcsTo, arcs_next, arcs_by_count, arcs_by_room}
-use Rattle.clip.specs.Area.{add_clipped_arc}
+use Rattle.outline.proofs.Walking.{arcs_next, arcs_by_count, arcs_by_room}
 use Rattle.clip.proofs.area.arcs_sum.Goals as goal
 
 pub loop-i-init : goal.loop-i-init

@@ -1,5 +1,4 @@
 -- `area::area_from_clipped_arcs` meets its contract.
-use borrow.Author.Rules.{rules}
 use mathlib.Core.Path.{sym, ◌∙◌}
 use Rattle.clip.specs.Area.{clipped_area_of}
 use Rattle.clip.proofs.area.area_from_clipped_arcs.Goals as goal

@@ -1,5 +1,4 @@
 -- `area::clipped_region_area`: the sum over the outline of the set, and the edges.
-use borrow.Author.Rules.{rules}
 use mathlib.Core.Path.{sym, ◌∙◌}
 use lib.ListN.{take}
 use Rattle.intersections.specs.Members.{members_of}

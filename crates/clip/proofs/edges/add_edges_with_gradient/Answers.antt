@@ -1,5 +1,4 @@
 -- `edges::add_edges_with_gradient`: what each call gives, the last first.
-use borrow.Author.Rules.{rules}
 use mathlib.Core.Path.{◌∙◌}
 use native.Mathlib.Omega.{arith}
 use Rattle.clip.specs.Gradient.{add_edges_with_gradient}

@@ -1,5 +1,4 @@
 -- `edges::add_span_with_gradient` meets its contract.
-use borrow.Author.Rules.{rules}
 use Rattle.clip.specs.Gradient.{add_span_with_gradient}
 use Rattle.clip.proofs.edges.add_span_with_gradient.Goals as goal
 

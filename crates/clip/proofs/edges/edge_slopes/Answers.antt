@@ -1,9 +1,7 @@
 -- `edges::edge_slopes` meets its contract: what each call gives, the last first.
-use borrow.Author.Rules.{rules}
 use mathlib.Core.Path.{◌≡◌, ◌∙◌}
 use Prim.Native.Nat.{◌+◌}
 use mathlib.Core.Bool.{cond}
-use mathlib.Core.Logic.{⊎_elim}
 use Rattle.clip.specs.Gradient.{edge_slopes}
 use Rattle.clip.proofs.edges.edge_slopes.Goals as goal
 use Rattle.clip.proofs.edges.edge_slopes.Goals.{then-edge, else-edge}

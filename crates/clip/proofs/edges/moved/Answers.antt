@@ -1,5 +1,4 @@
 -- `edges::moved`: each way out by the test that led there.
-use borrow.Author.Rules.{rules}
 use Rattle.clip.proofs.edges.moved.Goals as goal
 
 pub returns-then-added : goal.returns-then-added

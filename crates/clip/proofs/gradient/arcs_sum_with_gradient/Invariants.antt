@@ -1,16 +1,14 @@
 -- `arcs_sum_with_gradient`: the arcs one after another (ArcsTo), whose step is `add_clipped_arc_with_gradient`, on a lent gradient.
-use mathlib.Core.Path.{◌≡◌, refl, ◌∙◌}
+use mathlib.Core.Path.{◌≡◌}
 use mathlib.Core.List.{List}
 use Prim.Native.Nat.{ℕ, ◌-◌}
-use native.Mathlib.Omega.{arith}
 use lib.Ieee.{Float}
 use lib.ListN.{length, take}
 use Rattle.binary64.specs.Constants.{zero64}
 use Rattle.geometry.specs.declared.bounds.Bounds.{Bounds}
 use Rattle.geometry.specs.declared.circle.Circle.{Circle}
 use Rattle.boundary.specs.declared.arcs.Outline.{Outline}
-use Rattle.lists.proofs.Arrays.{length_of_values}
-use Rattle.outline.proofs.Walking.{ArcsTo, arcs_next, arcs_by_count, arcs_by_room}
+use Rattle.outline.proofs.Walking.{ArcsTo}
 use Rattle.clip.specs.Gradient.{with_gradient, add_clipped_arc_with_gradient}
 use Rattle.clip.proofs.gradient.arcs_sum_with_gradient.Given as goal
 

@@ -1,5 +1,4 @@
 -- `slopes::add_part_with_gradient` meets its contract.
-use borrow.Author.Rules.{rules}
 use mathlib.Core.Path.{sym, ◌∙◌}
 use Rattle.clip.specs.Gradient.{add_part_with_gradient}
 use Rattle.clip.proofs.slopes.add_part_with_gradient.Goals as goal

@@ -1,21 +1,16 @@
 -- `slopes::arc_integral_with_gradient`: the parts from break i on, added to sum and gradient, give the whole (`Summed`).
-use borrow.Author.Rules.{rules}
-use mathlib.Core.Path.{◌≡◌, refl, sym, ◌∙◌}
+use mathlib.Core.Path.{◌≡◌}
 use mathlib.Core.List.{List}
-use Prim.Native.Nat.{ℕ, ◌+◌, ◌*◌, ◌-◌, ◌≤◌, ◌<◌}
-use native.Mathlib.Omega.{arith}
-use lib.ListN.{length, drop, length-take}
-use lib.Seq.{get_or-take}
-use lib.Ieee.{Float, nan}
+use Prim.Native.Nat.{ℕ, ◌-◌, ◌≤◌}
+use lib.ListN.{length, drop}
+use lib.Ieee.{Float}
 use Rattle.boundary.specs.declared.sort.Angles.{Angles}
 use Rattle.geometry.specs.declared.circle.Circle.{Circle}
 use Rattle.geometry.specs.declared.bounds.Bounds.{Bounds}
 use Rattle.binary64.specs.Constants.{zero64}
 use Rattle.boundary.specs.Counted.{angle_list}
-use Rattle.inside.specs.Breaks.{breaks}
 use Rattle.lists.specs.Lists.{over_pairs}
-use Rattle.clip.specs.Gradient.{with_gradient, add_part_with_gradient, clipped_arc_integral_with_gradient}
-use Rattle.lists.proofs.Folds.{pairs_on, pairs_end}
+use Rattle.clip.specs.Gradient.{with_gradient, add_part_with_gradient}
 use Rattle.clip.proofs.slopes.arc_integral_with_gradient.Given as goal
 
 -- The parts before break i are in the sum and in the gradient.

@@ -1,5 +1,4 @@
 -- `slopes::head_arc_integral_with_gradient`: each way out by the test that led there.
-use borrow.Author.Rules.{rules}
 use borrow.Author.Tests.{lt-ltb, le-ltb}
 use native.Mathlib.Omega.{arith}
 use Rattle.clip.specs.Arc.{head_arc_integral_with_gradient}

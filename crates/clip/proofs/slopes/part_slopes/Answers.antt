@@ -1,5 +1,4 @@
 -- `slopes::part_slopes` meets its contract: what each call gives, the last first.
-use borrow.Author.Rules.{rules}
 use Rattle.clip.specs.Gradient.{part_slopes}
 use Rattle.clip.proofs.slopes.part_slopes.Goals as goal
 

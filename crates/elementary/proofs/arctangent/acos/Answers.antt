@@ -1,5 +1,5 @@
 -- `acos` meets its contract: the domain and the arguments of atan2 are those of the definition.
-use Rattle.std.proofs.Common.{refl, rules}
+use Rattle.std.proofs.Common.{refl}
 use Rattle.elementary.specs.Arctangent as recipe
 use Rattle.elementary.proofs.arctangent.acos.Goals as goal
 

@@ -1,5 +1,5 @@
 -- `arc` meets its contract: the three calls are the definition's, and half of the last result is at most a quarter turn.
-use Rattle.std.proofs.Common.{ℕ, ◌/◌, ◌≤◌, refl, le_trans, arith, rules}
+use Rattle.std.proofs.Common.{ℕ, ◌/◌, ◌≤◌, refl, le_trans, arith}
 use Rattle.cells.specs.Arc as cells
 use Rattle.elementary.proofs.arctangent.arc.Goals as goal
 

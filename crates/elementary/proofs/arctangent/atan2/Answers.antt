@@ -1,5 +1,5 @@
 -- `atan2` meets its contract: the arms are those of the definition, and Domain says that the point lies in the first quarter.
-use Rattle.std.proofs.Common.{◌≡◌, Bool, true, false, T, sym, ◌∙◌, subst, ap₂, subst₂, rules}
+use Rattle.std.proofs.Common.{◌≡◌, Bool, true, false, T, sym, ◌∙◌, subst, ap₂, subst₂}
 use lib.Ieee.{Float, binary64, fits}
 use Rattle.binary64.specs.Functions.{absolute}
 use Rattle.elementary.specs.Arctangent.{in_domain}

@@ -1,6 +1,5 @@
 -- `cofunction` meets its contract: the steps are those of the definition.
 use Rattle.elementary.specs.Arctangent as recipe
-use Rattle.std.proofs.Common.{rules}
 use Rattle.elementary.proofs.arctangent.cofunction.Goals as goal
 
 pub returns : goal.returns

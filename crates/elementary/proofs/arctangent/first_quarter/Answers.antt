@@ -1,5 +1,5 @@
 -- `first_quarter` meets its contract: the arms are those of the definition, and Slope says that each hands the smaller coordinate first.
-use Rattle.std.proofs.Common.{refl, arith, rules}
+use Rattle.std.proofs.Common.{refl, arith}
 use Rattle.elementary.proofs.arctangent.Slope.{below_diagonal, above_diagonal}
 use Rattle.elementary.specs.Arctangent as recipe
 use Rattle.elementary.proofs.arctangent.first_quarter.Goals as goal

@@ -1,5 +1,5 @@
 -- `horner` meets its contract: each step is one of the definition's, and its result is no more than its coefficient.
-use Rattle.std.proofs.Common.{le_trans, lit≤, rules}
+use Rattle.std.proofs.Common.{le_trans, lit≤}
 use Rattle.cells.specs.Arc.{first_arc, arcs}
 use Rattle.elementary.proofs.fixed.Horner.{Value, next}
 use Rattle.elementary.proofs.arctangent.horner.Goals as goal

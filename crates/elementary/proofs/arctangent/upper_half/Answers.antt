@@ -1,5 +1,5 @@
 -- `upper_half` meets its contract: the arms are those of the definition.
-use Rattle.std.proofs.Common.{refl, arith, rules}
+use Rattle.std.proofs.Common.{refl, arith}
 use Rattle.elementary.specs.Arctangent as recipe
 use Rattle.elementary.proofs.arctangent.upper_half.Goals as goal
 

@@ -1,5 +1,5 @@
 -- `step` meets its contract: what is taken away is no more than h, by `mulhi`.
-use Rattle.std.proofs.Common.{ℕ, ◌-◌, ap, le_trans, sub-le, rules}
+use Rattle.std.proofs.Common.{ℕ, ◌-◌, ap, le_trans, sub-le}
 use Rattle.elementary.proofs.fixed.step.Goals as goal
 
 pub overflow_sub-result : goal.overflow_sub-result

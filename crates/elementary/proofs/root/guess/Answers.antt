@@ -1,5 +1,5 @@
 -- `root::guess` meets its contract: the patterns that it makes are no NaN's.
-use Rattle.std.proofs.Common.{arith, rules}
+use Rattle.std.proofs.Common.{arith}
 use Rattle.elementary.proofs.root.Cases.{number_bits}
 use Rattle.elementary.proofs.root.guess.Goals as goal
 

@@ -1,5 +1,4 @@
 -- `root::hypot` meets its contract.
-use Rattle.std.proofs.Common.{rules}
 use Rattle.elementary.specs.Root.{hypot}
 use Rattle.elementary.proofs.root.hypot.Goals as goal
 

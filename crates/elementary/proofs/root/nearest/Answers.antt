@@ -1,5 +1,4 @@
 -- `root::nearest` meets its contract: what `settle` gives is nearest, and only one number is.
-use Rattle.std.proofs.Common.{rules}
 use Rattle.elementary.proofs.root.Cases.{above_number}
 use Rattle.elementary.proofs.root.Digits.{nearest_is}
 use Rattle.elementary.proofs.root.nearest.Goals as goal

@@ -1,6 +1,6 @@
 -- `root::nearest_by_digits` meets its contract: each turn takes one pair of digits.
-use Rattle.std.proofs.Common.{◌^◌, ◌<◌, ⊎_elim, arith}
-use Rattle.elementary.proofs.root.Digits.{Taken, taken_none, taken_short, taken_one, taken_zero, taken_down, taken_up}
+use Rattle.std.proofs.Common.{◌^◌, ◌<◌, arith}
+use Rattle.elementary.proofs.root.Digits.{taken_none, taken_short, taken_one, taken_zero, taken_down, taken_up}
 use Rattle.elementary.proofs.root.nearest_by_digits.Goals as goal
 use Rattle.elementary.proofs.root.nearest_by_digits.Goals.{then-square-rest, else-square-rest}
 use Rattle.elementary.proofs.root.nearest_by_digits.Lts as lts
@@ -15,8 +15,8 @@ loop-left-preserved c =
     let l = c.loop-left in
     let more = c.loop-left-test.true in
     elim c.if-square-rest.branch [
-      then-square-rest w ↦ rw (w.root-is, w.rest-is) (taken_one _ l.digits l.root l.rest l.left l.invariant more w.if-square-rest.true)
-    | else-square-rest w ↦ rw (w.root-is, w.rest-is) (taken_zero _ l.digits l.root l.rest l.left l.invariant more w.if-square-rest.false)
+      | then-square-rest w ↦ rw (w.root-is, w.rest-is) (taken_one _ l.digits l.root l.rest l.left l.invariant more w.if-square-rest.true)
+      | else-square-rest w ↦ rw (w.root-is, w.rest-is) (taken_zero _ l.digits l.root l.rest l.left l.invariant more w.if-square-rest.false)
     ]
 
 pub returns-then-rest-root : goal.returns-then-rest-root

@@ -1,5 +1,5 @@
 -- `root::positive` meets its contract: proofs/root/Leading.antt.
-use Rattle.std.proofs.Common.{arith, rules}
+use Rattle.std.proofs.Common.{arith}
 use Rattle.elementary.proofs.root.Leading.{radicand_digits, root_bits_fit, root_bits_number, root_bits}
 use Rattle.elementary.proofs.root.positive.Goals as goal
 

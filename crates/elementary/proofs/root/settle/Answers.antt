@@ -1,5 +1,5 @@
 -- `root::settle` meets its contract: each number that it returns passes both tests of `Near`.
-use Rattle.std.proofs.Common.{◌≡◌, ◌+◌, ◌*◌, ◌^◌, arith, rules}
+use Rattle.std.proofs.Common.{◌≡◌, ◌+◌, ◌*◌, ◌^◌, arith}
 use Rattle.elementary.proofs.root.Certificate.{settled, settled_up, settled_down}
 use Rattle.elementary.proofs.root.settle.Goals as goal
 use Rattle.elementary.proofs.root.settle.Lts as lts

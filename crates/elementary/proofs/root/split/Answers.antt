@@ -1,5 +1,5 @@
 -- `root::split` meets its contract: subnormal numbers by their leading zeros, normal ones by their fields.
-use Rattle.std.proofs.Common.{◌^◌, ◌<◌, arith, rules}
+use Rattle.std.proofs.Common.{◌^◌, ◌<◌, arith}
 use Rattle.elementary.proofs.root.Leading.{zeros_range, leading_subnormal, leading_normal}
 use Rattle.elementary.proofs.root.split.Goals as goal
 use Rattle.elementary.proofs.root.split.Lts as lts

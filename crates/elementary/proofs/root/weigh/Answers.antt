@@ -1,5 +1,5 @@
 -- `root::weigh` meets its contract: proofs/root/Certificate.antt.
-use Rattle.std.proofs.Common.{arith, rules}
+use Rattle.std.proofs.Common.{arith}
 use Rattle.elementary.proofs.root.Certificate.{cross_fits, upper_fits, lower_fits, balanced}
 use Rattle.elementary.proofs.root.weigh.Goals as goal
 

@@ -1,5 +1,5 @@
 -- `angle` meets its contract: Entry says that the product can be cut, and how large the angle is.
-use Rattle.std.proofs.Common.{T, sym, subst, rules}
+use Rattle.std.proofs.Common.{T, sym, subst}
 use Rattle.elementary.proofs.sine.Entry.{cut_asks, cut_gives}
 use Rattle.elementary.proofs.sine.angle.Goals as goal
 

@@ -1,5 +1,5 @@
 -- `cos` meets its contract: the two arms are those of the definition.
-use Rattle.std.proofs.Common.{ℕ, ◌+◌, false, sym, ap, ◌∙◌, rules}
+use Rattle.std.proofs.Common.{ℕ, ◌+◌, false, sym, ap, ◌∙◌}
 use Rattle.series.specs.Kernel.{quarter}
 use Rattle.elementary.specs.Sine.{fixed_sine}
 use Rattle.elementary.proofs.sine.Arms.{cosine_inside, cosine_outside}

@@ -1,5 +1,5 @@
 -- `fixed_sine` meets its contract: the calls give the definition's parts, and the two arms are those of its sign.
-use Rattle.std.proofs.Common.{◌≡◌, Bool, true, false, cond, rules}
+use Rattle.std.proofs.Common.{◌≡◌, Bool, true, false, cond}
 use lib.Ieee.{neg, unlike}
 use Rattle.elementary.specs.Sine.{fixed_sine}
 use Rattle.elementary.proofs.sine.Arms.{sized, fixed_is}

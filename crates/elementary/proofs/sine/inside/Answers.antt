@@ -1,5 +1,5 @@
 -- `inside` meets its contract: it is the definition's test of |v|.
-use Rattle.std.proofs.Common.{ap, rules}
+use Rattle.std.proofs.Common.{ap}
 use lib.Ieee.{Float, le}
 use Rattle.elementary.specs.Sine.{sixteen}
 use Rattle.elementary.proofs.sine.inside.Goals as goal

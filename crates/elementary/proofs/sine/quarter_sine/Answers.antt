@@ -1,5 +1,5 @@
 -- `quarter_sine` meets its contract: the three calls give the sine before the cap, and each arm what the cap makes of it.
-use Rattle.std.proofs.Common.{◌≡◌, rules}
+use Rattle.std.proofs.Common.{◌≡◌}
 use Rattle.series.specs.Kernel.{raw_sine}
 use Rattle.elementary.proofs.sine.Arms.{under_cap, at_cap, raw_is}
 use Rattle.elementary.proofs.sine.quarter_sine.Goals as goal

@@ -1,5 +1,5 @@
 -- `reduced` meets its contract: the two arms are those of the definition.
-use Rattle.std.proofs.Common.{◌%◌, sub-le, rules}
+use Rattle.std.proofs.Common.{◌%◌, sub-le}
 use Rattle.series.specs.Kernel.{quarter}
 use Rattle.elementary.proofs.sine.Arms.{forward, backward, rest_small}
 use Rattle.elementary.proofs.sine.reduced.Goals as goal

@@ -1,5 +1,5 @@
 -- `sin` meets its contract: the two arms are those of the definition.
-use Rattle.std.proofs.Common.{sym, ap, ◌∙◌, rules}
+use Rattle.std.proofs.Common.{sym, ap, ◌∙◌}
 use lib.Ieee.{lt}
 use Rattle.binary64.specs.Constants.{zero64}
 use Rattle.elementary.specs.Sine.{fixed_sine}

@@ -1,5 +1,4 @@
 -- `numbers::gap_number`: each way out by the tests that led there.
-use borrow.Author.Rules.{rules}
 use mathlib.Core.Path.{◌≡◌, sym, ap, ◌∙◌}
 use Prim.Native.Nat.{min, ◌+◌, ◌*◌, ◌<◌}
 use native.Mathlib.Omega.{arith}

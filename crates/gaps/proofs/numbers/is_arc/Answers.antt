@@ -1,4 +1,3 @@
-use borrow.Author.Rules.{rules}
 use mathlib.Core.Path.{sym, ◌∙◌}
 use Rattle.gaps.specs.Gaps.{circles_in}
 use Rattle.gaps.proofs.Owning.{arc_none, arc_some}

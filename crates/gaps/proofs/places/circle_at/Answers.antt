@@ -1,4 +1,3 @@
-use borrow.Author.Rules.{rules}
 use mathlib.Core.Path.{ap}
 use Rattle.gaps.specs.Gaps.{circle_in}
 use Rattle.gaps.proofs.places.circle_at.Goals as goal

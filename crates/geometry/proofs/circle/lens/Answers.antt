@@ -1,5 +1,4 @@
 -- `circle::lens` meets its contract: what its calls give, put in place from the last to the first, is the definition.
-use borrow.Author.Rules.{rules}
 use Rattle.geometry.proofs.circle.lens.Goals as goal
 
 pub returns : goal.returns

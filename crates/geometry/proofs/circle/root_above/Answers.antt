@@ -1,5 +1,5 @@
 -- `circle::root_above`: past a number above t, the root is above t.
-use mathlib.Core.Path.{◌≡◌, sym, ◌∙◌}
+use mathlib.Core.Path.{sym, ◌∙◌}
 use mathlib.Core.Bool.{false≢true}
 use borrow.Author.Rules.{rules}
 use Rattle.geometry.proofs.Roots.{past}

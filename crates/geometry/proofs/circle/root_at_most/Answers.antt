@@ -1,5 +1,5 @@
 -- `circle::root_at_most`: each test decides as the root does.
-use mathlib.Core.Path.{◌≡◌, refl, sym, ap, ◌∙◌}
+use mathlib.Core.Path.{sym, ◌∙◌}
 use borrow.Author.Rules.{rules}
 use Rattle.geometry.proofs.Roots.{at_most}
 use Rattle.geometry.proofs.circle.root_at_most.Goals as goal

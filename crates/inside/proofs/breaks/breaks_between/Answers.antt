@@ -1,5 +1,4 @@
 -- `breaks::breaks_between`: the two ends, where no edge crosses the circle, or what `put_breaks` puts in.
-use borrow.Author.Rules.{rules}
 use mathlib.Core.Path.{sym, ◌∙◌}
 use native.Mathlib.Omega.{arith}
 use Rattle.inside.proofs.Breaking.{breaks_none}

@@ -1,5 +1,4 @@
 -- `breaks::clear_of_edges`: true is given only where none of the four lines crosses (`none_crossed`).
-use borrow.Author.Rules.{rules}
 use mathlib.Core.Path.{◌≡◌, sym, ◌∙◌}
 use mathlib.Core.Bool.{true, false}
 use native.Mathlib.Omega.{arith}

@@ -1,5 +1,4 @@
 -- `breaks::collect_crossings`: what the four calls put in, one after another (`put_then`).
-use borrow.Author.Rules.{rules}
 use Rattle.inside.specs.Breaks.{crossings}
 use Rattle.inside.proofs.Breaking.{put_then}
 use Rattle.inside.proofs.breaks.collect_crossings.Goals as goal

@@ -1,5 +1,4 @@
 -- `breaks::collect_periodic_in_range`: three angles put in, each if it is inside (`keep_three`).
-use borrow.Author.Rules.{rules}
 use Rattle.inside.specs.Breaks.{strictly_inside, periodic_in_range}
 use Rattle.inside.proofs.Breaking.{keep_three, put_then}
 use Rattle.inside.proofs.breaks.collect_periodic_in_range.Goals as goal

@@ -1,5 +1,4 @@
 -- `breaks::collect_vertical`: what two calls put in, one after the other (`put_then`), or none.
-use borrow.Author.Rules.{rules}
 use mathlib.Core.Path.{sym, ◌∙◌}
 use Rattle.inside.specs.Breaks.{vertical_crossings}
 use Rattle.inside.proofs.Breaking.{put_none, put_then}

@@ -1,5 +1,4 @@
 -- `breaks::crosses`: the test, of what `abs` gives.
-use borrow.Author.Rules.{rules}
 use Rattle.inside.proofs.breaks.crosses.Goals as goal
 
 pub returns : goal.returns

@@ -1,5 +1,4 @@
 -- `breaks::ends`: the lesser and the greater are the sorted ends (`sorted_two`).
-use borrow.Author.Rules.{rules}
 use mathlib.Core.Path.{refl, sym}
 use Rattle.inside.proofs.Breaking.{sorted_two}
 use Rattle.inside.proofs.breaks.ends.Goals as goal

@@ -1,5 +1,4 @@
 -- `breaks::put`: the angles of the marks into which one is put (`put_one`).
-use borrow.Author.Rules.{rules}
 use native.Mathlib.Omega.{arith}
 use Rattle.inside.proofs.Breaking.{put_one}
 use Rattle.inside.proofs.breaks.put.Goals as goal

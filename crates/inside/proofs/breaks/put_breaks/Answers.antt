@@ -1,5 +1,4 @@
 -- `breaks::put_breaks`: the first end, the crossings and the second end, put in one after another (`put_then`), are sorted.
-use borrow.Author.Rules.{rules}
 use native.Mathlib.Omega.{arith}
 use Rattle.boundary.specs.Sort.{sorted}
 use Rattle.inside.specs.Breaks.{breaks_between}

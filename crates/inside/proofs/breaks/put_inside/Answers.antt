@@ -1,5 +1,4 @@
 -- `breaks::put_inside`: one is put in, or none.
-use borrow.Author.Rules.{rules}
 use mathlib.Core.Path.{sym, ◌∙◌}
 use Rattle.inside.proofs.Breaking.{put_none}
 use Rattle.inside.proofs.breaks.put_inside.Goals as goal

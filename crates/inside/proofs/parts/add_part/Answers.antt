@@ -1,5 +1,4 @@
 -- `parts::add_part`: what each call gives, the last first.
-use borrow.Author.Rules.{rules}
 use Rattle.inside.specs.Parts.{add_part}
 use mathlib.Core.Path.{sym, ◌∙◌}
 use Rattle.inside.proofs.parts.add_part.Goals as goal

@@ -1,7 +1,6 @@
 -- `parts::circle_in_box`: sine and cosine are at most 1, so that each coordinate stays near its side.
-use mathlib.Core.Path.{◌≡◌, ap₂}
+use mathlib.Core.Path.{ap₂}
 use mathlib.Core.Bool.{◌&&◌, false≢true}
-use borrow.Author.Rules.{rules}
 use Rattle.elementary.specs.Sine.{sine, cosine}
 use Rattle.elementary.proofs.sine.Promise.{sine_promise, cosine_promise}
 use Rattle.boundary.specs.Outline.{point_at}

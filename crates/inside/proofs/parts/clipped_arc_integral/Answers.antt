@@ -1,23 +1,17 @@
 -- `parts::clipped_arc_integral`: the parts from break i on, added to the sum, give the whole (`Summed`); where no edge crosses the circle
 -- there is one part.
-use borrow.Author.Rules.{rules}
 use mathlib.Core.Path.{◌≡◌, refl, sym, ◌∙◌}
-use mathlib.Core.List.{List}
-use Prim.Native.Nat.{ℕ, ◌+◌, ◌-◌, ◌≤◌}
+use Prim.Native.Nat.{◌+◌}
 use native.Mathlib.Omega.{arith}
-use lib.ListN.{length, take, drop, length-take}
+use lib.ListN.{length, take, length-take}
 use lib.Seq.{get_or-take}
-use lib.Ieee.{Float, nan}
-use Rattle.geometry.specs.declared.circle.Circle.{Circle}
-use Rattle.geometry.specs.declared.bounds.Bounds.{Bounds}
-use Rattle.binary64.specs.Constants.{zero64}
+use lib.Ieee.{nan}
 use Rattle.binary64.specs.Floats.{◌+ᶠ◌}
 use Rattle.lists.specs.Lists.{over_pairs}
 use Rattle.lists.proofs.Folds.{pairs_on, pairs_end}
 use Rattle.inside.specs.Breaks.{breaks}
 use Rattle.inside.specs.Parts.{add_part, clipped_arc_integral}
 use Rattle.inside.proofs.Breaking.{breaks_none, sorted_two}
-use Rattle.inside.proofs.parts.clipped_arc_integral.Invariants.{Summed}
 use Rattle.inside.proofs.parts.clipped_arc_integral.Goals as goal
 
 -- no edge crosses the circle

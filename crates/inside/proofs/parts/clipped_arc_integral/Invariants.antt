@@ -1,21 +1,14 @@
 -- `parts::clipped_arc_integral`: the parts from break i on, added to the sum, give the whole (`Summed`); where no edge crosses the circle
-use borrow.Author.Rules.{rules}
-use mathlib.Core.Path.{◌≡◌, refl, sym, ◌∙◌}
+use mathlib.Core.Path.{◌≡◌}
 use mathlib.Core.List.{List}
-use Prim.Native.Nat.{ℕ, ◌+◌, ◌-◌, ◌≤◌}
-use native.Mathlib.Omega.{arith}
-use lib.ListN.{length, take, drop, length-take}
-use lib.Seq.{get_or-take}
-use lib.Ieee.{Float, nan}
+use Prim.Native.Nat.{ℕ, ◌-◌, ◌≤◌}
+use lib.ListN.{length, take, drop}
+use lib.Ieee.{Float}
 use Rattle.geometry.specs.declared.circle.Circle.{Circle}
 use Rattle.geometry.specs.declared.bounds.Bounds.{Bounds}
 use Rattle.binary64.specs.Constants.{zero64}
-use Rattle.binary64.specs.Floats.{◌+ᶠ◌}
 use Rattle.lists.specs.Lists.{over_pairs}
-use Rattle.lists.proofs.Folds.{pairs_on, pairs_end}
-use Rattle.inside.specs.Breaks.{breaks}
-use Rattle.inside.specs.Parts.{add_part, clipped_arc_integral}
-use Rattle.inside.proofs.Breaking.{breaks_none, sorted_two}
+use Rattle.inside.specs.Parts.{add_part}
 use Rattle.inside.proofs.parts.clipped_arc_integral.Given as goal
 
 -- The parts before break i are in the sum.

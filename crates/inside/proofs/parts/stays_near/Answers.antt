@@ -1,5 +1,5 @@
 -- `parts::stays_near`: all six tests passed.
-use mathlib.Core.Path.{◌≡◌, sym, ◌∙◌}
+use mathlib.Core.Path.{sym, ◌∙◌}
 use mathlib.Core.Bool.{false≢true}
 use borrow.Author.Rules.{rules}
 use lib.Dec.{T}

@@ -1,18 +1,13 @@
 -- `span::edge_inside_interval`: the circles from i on, with the ends so far, give the span (`Narrowed`).
-use borrow.Author.Rules.{rules}
-use mathlib.Core.Path.{◌≡◌, refl, sym, ◌∙◌, ap}
-use Prim.Native.Nat.{ℕ, ◌-◌, ◌≤◌, ◌<◌}
+use mathlib.Core.Path.{refl, sym, ◌∙◌, ap}
+use Prim.Native.Nat.{◌<◌}
 use native.Mathlib.Omega.{arith}
-use mathlib.Core.Bool.{Bool}
 use mathlib.Core.List.{map}
-use lib.Ieee.{Float}
-use lib.ListN.{length, drop, length-take, length-map}
-use Rattle.intersections.specs.declared.members.Members.{Members}
+use lib.ListN.{length, length-take, length-map}
 use Rattle.intersections.specs.Counted.{circle_list}
 use Rattle.lists.proofs.Arrays.{length_of_values}
-use Rattle.inside.specs.Span.{misses, horizontal_span, seen}
+use Rattle.inside.specs.Span.{misses, seen}
 use Rattle.inside.proofs.Spanning.{span_step, span_none, span_end, seen_at}
-use Rattle.inside.proofs.span.edge_inside_interval.Invariants.{Narrowed}
 use Rattle.inside.proofs.span.edge_inside_interval.Goals as goal
 
 pub loop-i-init : goal.loop-i-init

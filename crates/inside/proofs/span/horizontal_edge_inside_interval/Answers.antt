@@ -1,5 +1,4 @@
 -- `span::horizontal_edge_inside_interval`: a level edge sees the circles as they are (`seen_level`).
-use borrow.Author.Rules.{rules}
 use mathlib.Core.Path.{◌∙◌, ap}
 use Rattle.intersections.specs.Counted.{circle_list}
 use Rattle.inside.specs.Span.{horizontal_span}

@@ -1,5 +1,4 @@
 -- `span::seen`: for a vertical edge what the two makers give is the swapped circle.
-use borrow.Author.Rules.{rules}
 use Rattle.inside.specs.Span.{seen, swapped}
 use Rattle.inside.proofs.span.seen.Goals as goal
 

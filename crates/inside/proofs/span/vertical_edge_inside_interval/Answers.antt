@@ -1,5 +1,4 @@
 -- `span::vertical_edge_inside_interval`: an upright edge is a level one of the swapped circles (`seen_upright`).
-use borrow.Author.Rules.{rules}
 use mathlib.Core.Path.{◌∙◌}
 use Rattle.intersections.specs.Counted.{circle_list}
 use Rattle.inside.proofs.Spanning.{seen_upright}

@@ -1,12 +1,9 @@
 -- `arcs_sum`: the arcs one after another (ArcsTo), whose step is `add_arc`.
-use mathlib.Core.Path.{refl}
 use Prim.Native.Nat.{◌-◌}
-use native.Mathlib.Omega.{arith}
 use lib.ListN.{take}
 use Rattle.binary64.specs.Constants.{zero64}
-use Rattle.lists.proofs.Arrays.{length_of_values}
 use Rattle.outline.specs.Area.{add_arc}
-use Rattle.outline.proofs.Walking.{ArcsTo, arcs_next, arcs_by_count, arcs_by_room}
+use Rattle.outline.proofs.Walking.{ArcsTo}
 use Rattle.outline.proofs.area.arcs_sum.Given as goal
 
 abbrev pub invariant-loop-i : goal.invariant-loop-i

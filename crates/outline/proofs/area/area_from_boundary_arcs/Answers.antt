@@ -1,5 +1,4 @@
 -- `area_from_boundary_arcs`: the sum over the list with more room.
-use borrow.Author.Rules.{rules}
 use Rattle.outline.specs.Area.{area_of}
 use Rattle.outline.proofs.area.area_from_boundary_arcs.Goals as goal
 

@@ -1,5 +1,4 @@
 -- `region_area`: the sum over the outline of the set.
-use borrow.Author.Rules.{rules}
 use mathlib.Core.Path.{sym, ◌∙◌}
 use lib.ListN.{take}
 use Rattle.intersections.specs.Counted.{point_list, head_list, circle_list}

@@ -1,16 +1,8 @@
 -- `accumulate_region_overlap_gradient`: the arcs one after another (ArcsTo), whose step is `add_slopes`, on a lent gradient.
-use mathlib.Core.Path.{◌≡◌, refl, ◌∙◌}
-use Prim.Native.Nat.{ℕ, ◌-◌}
-use mathlib.Core.List.{List}
+use mathlib.Core.Path.{refl, ◌∙◌}
 use native.Mathlib.Omega.{arith}
-use lib.Ieee.{Float}
-use lib.ListN.{length, take}
 use Rattle.lists.proofs.Arrays.{length_of_values}
-use Rattle.geometry.specs.declared.circle.Circle.{Circle}
-use Rattle.boundary.specs.declared.arcs.Arcs.{Arcs}
-use Rattle.outline.specs.Area.{add_slopes}
-use Rattle.outline.proofs.Walking.{ArcsTo, arcs_next, arcs_by_count, arcs_by_room}
-use Rattle.outline.proofs.gradient.accumulate_region_overlap_gradient.Invariants.{Added}
+use Rattle.outline.proofs.Walking.{arcs_next, arcs_by_count, arcs_by_room}
 use Rattle.outline.proofs.gradient.accumulate_region_overlap_gradient.Goals as goal
 
 pub loop-i-init : goal.loop-i-init

@@ -1,7 +1,6 @@
 -- `gradient::add_at` meets its contract: outside the slice nothing is written.
 use mathlib.Core.Path.{sym}
 use lib.Seq.{set_out}
-use borrow.Author.Rules.{rules}
 use Rattle.outline.proofs.gradient.add_at.Goals as goal
 
 pub returns-else-i-grad : goal.returns-else-i-grad

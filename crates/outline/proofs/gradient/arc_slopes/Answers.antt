@@ -1,6 +1,5 @@
 -- `gradient::arc_slopes`: what each call gives, the last first.
 use Rattle.outline.specs.Area.{arc_slopes}
-use borrow.Author.Rules.{rules}
 use Rattle.outline.proofs.gradient.arc_slopes.Goals as goal
 
 pub returns : goal.returns

@@ -1,5 +1,4 @@
 -- `outline::region_boundary_arcs`: the arcs of the set's outline, numbered.
-use borrow.Author.Rules.{rules}
 use mathlib.Core.Path.{◌≡◌, ap, ◌∙◌}
 use lib.ListN.{length, take}
 use Rattle.intersections.specs.Counted.{point_list, head_list, circle_list}

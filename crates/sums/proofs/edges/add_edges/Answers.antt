@@ -1,6 +1,5 @@
 -- `edges::add_edges`: the four spans one after another.
-use borrow.Author.Rules.{rules}
-use mathlib.Core.Path.{◌≡◌, ◌∙◌}
+use mathlib.Core.Path.{◌∙◌}
 use Rattle.sums.specs.Edges.{edges_from}
 use Rattle.sums.proofs.edges.add_edges.Goals as goal
 

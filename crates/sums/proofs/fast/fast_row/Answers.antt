@@ -1,16 +1,4 @@
 -- `fast::fast_row`: what each of the two ways gives.
-use borrow.Author.Rules.{rules}
-use mathlib.Core.Path.{◌≡◌, refl, sym, ap, ◌∙◌}
-use mathlib.Core.Bool.{true, false, true≢false}
-use mathlib.Core.Logic.{⊎_elim}
-use Prim.Native.Nat.{ℕ, ◌+◌, ◌-◌, ◌*◌, ◌^◌, ◌/◌, ◌%◌, ◌≤◌, ◌<◌}
-use native.Mathlib.Omega.{arith}
-use borrow.Author.Tests.{eq-eqb, ne_eqb, lt-ltb, le-ltb, not-true, not-false}
-use lib.Dec.{eqb, ltb}
-use lib.ListN.{length, take, get_or, set, length-take, length-set}
-use lib.Seq.{get_or-take, take_all}
-use lib.Ieee.{Float, nan}
-use Rattle.lists.proofs.Arrays.{length_of_values}
 use Rattle.sums.proofs.fast.fast_row.Goals as goal
 
 pub clipped_row-requires : goal.clipped_row-requires

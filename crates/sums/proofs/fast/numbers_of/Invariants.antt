@@ -1,20 +1,11 @@
 -- `fast::numbers_of`: the places below p hold the numbers of their circles.
-use borrow.Author.Rules.{rules}
-use mathlib.Core.Path.{◌≡◌, refl, sym, ap, ◌∙◌}
-use mathlib.Core.Bool.{true, false, true≢false}
-use mathlib.Core.Logic.{⊎_elim}
-use Prim.Native.Nat.{ℕ, ◌+◌, ◌-◌, ◌*◌, ◌^◌, ◌/◌, ◌%◌, ◌≤◌, ◌<◌}
-use native.Mathlib.Omega.{arith}
-use borrow.Author.Tests.{eq-eqb, ne_eqb, lt-ltb, le-ltb, not-true, not-false}
-use lib.Dec.{eqb, ltb}
-use lib.ListN.{length, take, get_or, set, length-take, length-set}
-use lib.Seq.{get_or-take, take_all}
-use lib.Ieee.{Float, nan}
-use Rattle.lists.proofs.Arrays.{length_of_values}
+use mathlib.Core.Path.{◌≡◌}
+use Prim.Native.Nat.{◌-◌, ◌/◌, ◌%◌, ◌≤◌}
+use lib.ListN.{length, get_or}
+use lib.Ieee.{nan}
 use Rattle.intersections.specs.Members.{no_circle}
 use Rattle.sums.specs.Fast.{number_of}
-use Rattle.sums.proofs.Filling.{HeldTo, held_none, held_put}
-use Rattle.sums.proofs.Passing.{numbers_are}
+use Rattle.sums.proofs.Filling.{HeldTo}
 use Rattle.sums.proofs.fast.numbers_of.Given as goal
 
 abbrev pub invariant-loop-p : goal.invariant-loop-p

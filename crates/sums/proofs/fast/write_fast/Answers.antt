@@ -1,16 +1,7 @@
 -- `fast::write_fast`: the numbers of the circles, the heads of the wanted rows, their arrays, and the rows.
 use borrow.Author.Rules.{rules}
-use mathlib.Core.Path.{◌≡◌, refl, sym, ap, ◌∙◌}
-use mathlib.Core.Bool.{true, false, true≢false}
-use mathlib.Core.Logic.{⊎_elim}
-use Prim.Native.Nat.{ℕ, ◌+◌, ◌-◌, ◌*◌, ◌^◌, ◌/◌, ◌%◌, ◌≤◌, ◌<◌}
-use native.Mathlib.Omega.{arith}
-use borrow.Author.Tests.{eq-eqb, ne_eqb, lt-ltb, le-ltb, not-true, not-false}
-use lib.Dec.{eqb, ltb}
-use lib.ListN.{length, take, get_or, set, length-take, length-set}
-use lib.Seq.{get_or-take, take_all}
-use lib.Ieee.{Float, nan}
-use Rattle.lists.proofs.Arrays.{length_of_values}
+use mathlib.Core.Path.{sym}
+use lib.ListN.{length}
 use mathlib.Core.Path.{subst}
 use Rattle.masks.specs.Presence.{stands}
 use Rattle.intersections.specs.Counted.{point_list}

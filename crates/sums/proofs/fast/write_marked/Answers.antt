@@ -1,16 +1,5 @@
 -- `fast::write_marked`: what is filled for all heads serves each row.
 use borrow.Author.Rules.{rules}
-use mathlib.Core.Path.{◌≡◌, refl, sym, ap, ◌∙◌}
-use mathlib.Core.Bool.{true, false, true≢false}
-use mathlib.Core.Logic.{⊎_elim}
-use Prim.Native.Nat.{ℕ, ◌+◌, ◌-◌, ◌*◌, ◌^◌, ◌/◌, ◌%◌, ◌≤◌, ◌<◌}
-use native.Mathlib.Omega.{arith}
-use borrow.Author.Tests.{eq-eqb, ne_eqb, lt-ltb, le-ltb, not-true, not-false}
-use lib.Dec.{eqb, ltb}
-use lib.ListN.{length, take, get_or, set, length-take, length-set}
-use lib.Seq.{get_or-take, take_all}
-use lib.Ieee.{Float, nan}
-use Rattle.lists.proofs.Arrays.{length_of_values}
 use Rattle.masks.specs.Subset.{subset_head}
 use Rattle.gaps.specs.Gaps.{circles_in}
 use Rattle.sums.proofs.Valuing.{ready_roomy}

@@ -1,25 +1,15 @@
 -- `fill::few`: the points of the heads below j are few enough (Heads); of head j the points below i are counted (Counted).
-use borrow.Author.Rules.{rules}
-use mathlib.Core.Path.{◌≡◌, sym, ap, ◌∙◌}
+use mathlib.Core.Path.{◌≡◌}
 use mathlib.Core.Bool.{true, not}
-use mathlib.Core.Logic.{⊎_elim}
-use Prim.Native.Nat.{ℕ, min, ◌-◌, ◌≤◌, ◌<◌}
-use native.Mathlib.Omega.{arith}
+use Prim.Native.Nat.{ℕ, min, ◌-◌, ◌≤◌}
 use lib.Dec.{ltb}
-use lib.ListN.{length, take, length-take}
-use lib.Seq.{get_or-take}
+use lib.ListN.{length, take}
 use Rattle.masks.specs.Mask.{every}
 use Rattle.lists.specs.Lists.{keep}
-use Rattle.lists.proofs.Arrays.{length_of_values}
 use Rattle.intersections.specs.declared.points.Intersections.{Intersections}
 use Rattle.intersections.specs.Counted.{point_list}
-use Rattle.intersections.specs.Members.{no_point, points_held}
+use Rattle.intersections.specs.Members.{points_held}
 use Rattle.sums.specs.Marks.{has_parent}
-use Rattle.sums.proofs.Collected.{few_start, few_fails, few_next, few_all, count_none, count_with, count_without, count_all}
-use Rattle.sums.proofs.fill.few.Reads as reads
-use Rattle.sums.proofs.fill.few.Lts as lts
-use Rattle.sums.proofs.fill.at_most_ninety.Reads as at-most-ninety-reads
-use Rattle.sums.proofs.fill.has_parent.Reads as has-parent-reads
 use Rattle.sums.proofs.fill.few.Given as goal
 
 pub record Heads (points : Intersections) (n-sets n j : ℕ) : Type 0 where

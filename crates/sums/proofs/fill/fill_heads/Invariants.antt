@@ -1,39 +1,17 @@
 -- `fill::fill_heads`: the arrays of the heads below j are as they are to be (Heads); of head j the points below i are put in (Laid).
-use borrow.Author.Rules.{rules}
-use borrow.Author.Tests.{eq-eqb, ne_eqb}
-use mathlib.Core.Path.{◌≡◌, refl, sym, ap, ◌∙◌}
+use mathlib.Core.Path.{◌≡◌}
 use mathlib.Core.List.{List}
-use mathlib.Core.Logic.{⊎_elim}
-use Prim.Native.Nat.{ℕ, min, ◌+◌, ◌-◌, ◌*◌, ◌≤◌, ◌<◌}
-use native.Mathlib.Omega.{arith}
+use Prim.Native.Nat.{ℕ, min, ◌-◌, ◌*◌, ◌≤◌, ◌<◌}
 use lib.Ieee.{Float, nan}
-use lib.ListN.{length, length-take}
-use lib.Seq.{get_or-take}
-use Rattle.masks.specs.Operations.{in_by_shift}
-use Rattle.lists.proofs.Arrays.{length_of_values}
+use lib.ListN.{length}
 use Rattle.geometry.specs.declared.circle.Circle.{Circle}
 use Rattle.intersections.specs.declared.points.Intersections.{Intersections}
 use Rattle.intersections.specs.Counted.{point_list}
-use Rattle.intersections.specs.Members.{no_point}
-use Rattle.boundary.specs.Outline.{probe}
 use Rattle.boundary.specs.Marks.{marks_from, Kept}
 use Rattle.gaps.specs.Gaps.{circles_in}
-use Rattle.gaps.proofs.Circles.{circles_many, circle_held}
-use Rattle.sums.specs.Marks.{has_parent, marks_at}
-use Rattle.boundary.proofs.Sorting.{kept_self, kept_then}
-use Rattle.sums.specs.Walk.{letters, Marked}
+use Rattle.sums.specs.Walk.{Marked}
 use Rattle.sums.specs.Filled.{Long}
-use Rattle.sums.proofs.Carrying.{Sorted, laid_start, mark_is, sorted_room, sorted_with, sorted_without, sorted_end}
-use Rattle.sums.proofs.Laying.{long_in, long_out, marked_none, marked_in, marked_out}
-use Rattle.sums.proofs.fill.fill_heads.Reads as reads
-use Rattle.sums.proofs.fill.fill_heads.Lts as lts
-use Rattle.boundary.proofs.angles.angle_about.Reads as angle-about-reads
-use Rattle.boundary.proofs.angles.probe.Reads as probe-reads
-use Rattle.boundary.proofs.sort.insert_marked.Reads as insert-marked-reads
-use Rattle.sums.proofs.fill.at_most_ninety.Reads as at-most-ninety-reads
-use Rattle.sums.proofs.fill.fill_lets.Reads as fill-lets-reads
-use Rattle.sums.proofs.fill.has_parent.Reads as has-parent-reads
-use Rattle.sums.proofs.fill.letters.Reads as letters-reads
+use Rattle.sums.proofs.Carrying.{Sorted}
 use Rattle.sums.proofs.fill.fill_heads.Given as goal
 
 pub record Heads (c : List Float) (n-sets : ℕ) (points : Intersections) (n needed : ℕ) (counts owners : List ℕ) (phi : List Float)

@@ -1,17 +1,10 @@
-use mathlib.Core.Path.{◌≡◌, refl, ap, ◌∙◌}
+use mathlib.Core.Path.{◌≡◌}
 use Prim.Native.Nat.{◌+◌, ◌-◌, ◌*◌, ◌%◌, ◌≤◌, ◌<◌}
-use native.Mathlib.Omega.{arith}
-use lib.ListN.{length, get_or, length-set}
+use lib.ListN.{length, get_or}
 use lib.Ieee.{nan}
-use Rattle.gaps.proofs.Circles.{next_is, next_less}
 use Rattle.gaps.specs.Gaps.{circles_in}
 use Rattle.sums.specs.Walk.{gap_letters}
 use Rattle.sums.specs.Filled.{Filled}
-use Rattle.sums.proofs.Laying.{filled_none, filled_next}
-use borrow.Author.Rules.{rules}
-use Rattle.sums.proofs.fill.fill_lets.Reads as reads
-use Rattle.sums.proofs.fill.fill_lets.Lts as lts
-use Rattle.sums.proofs.fill.gap_letters.Reads as gap-letters-reads
 use Rattle.sums.proofs.fill.fill_lets.Given as goal
 
 abbrev pub invariant-loop-i : goal.invariant-loop-i

@@ -2,13 +2,6 @@ use mathlib.Core.Path.{sym, ◌∙◌}
 use Rattle.gaps.specs.Gaps.{circles_in}
 use Rattle.gaps.proofs.Circles.{circle_held}
 use Rattle.sums.proofs.Owning.{nobody_lets, these_let}
-use borrow.Author.Rules.{rules}
-use Rattle.sums.proofs.fill.gap_letters.Reads as reads
-use Rattle.sums.proofs.fill.gap_letters.Lts as lts
-use Rattle.boundary.proofs.angles.collapsed.Reads as collapsed-reads
-use Rattle.boundary.proofs.angles.gap.Reads as gap-reads
-use Rattle.boundary.proofs.angles.point_at.Reads as point-at-reads
-use Rattle.sums.proofs.fill.letters.Reads as letters-reads
 use Rattle.sums.proofs.fill.gap_letters.Goals as goal
 
 -- src/fill.rt:51:9

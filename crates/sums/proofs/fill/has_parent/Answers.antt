@@ -1,7 +1,5 @@
 use borrow.Author.Tests.{eq-eqb, ne_eqb}
 use Rattle.sums.specs.Marks.{has_parent}
-use Rattle.sums.proofs.fill.has_parent.Reads as reads
-use Rattle.sums.proofs.fill.has_parent.Lts as lts
 use Rattle.sums.proofs.fill.has_parent.Goals as goal
 
 -- src/fill.rt:107:9

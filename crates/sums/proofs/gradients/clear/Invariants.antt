@@ -1,15 +1,9 @@
 -- `gradients::clear` meets its contract. The invariant: the first i numbers are +0, the others are as they were.
-use mathlib.Core.Path.{◌≡◌, refl, ap, ◌∙◌}
-use mathlib.Core.List.{List}
-use Prim.Native.Nat.{◌+◌, ◌-◌, ◌≤◌}
-use native.Mathlib.Omega.{arith}
-use lib.Ieee.{Float, nan}
-use lib.ListN.{length, set, length-set}
+use mathlib.Core.Path.{◌≡◌}
+use Prim.Native.Nat.{◌-◌, ◌≤◌}
+use lib.ListN.{length}
 use Rattle.lists.specs.Written.{written}
-use Rattle.lists.proofs.Writing.{written_none, write_next, written_whole}
 use Rattle.binary64.specs.Constants.{zero64}
-use Rattle.sums.proofs.Laid.{tab_alike}
-use borrow.Author.Rules.{rules}
 use Rattle.sums.proofs.gradients.clear.Given as goal
 
 abbrev pub invariant-loop-i : goal.invariant-loop-i

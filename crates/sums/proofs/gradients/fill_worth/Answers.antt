@@ -1,7 +1,6 @@
 -- `gradients::fill_worth`: what each of the two ways fills.
-use borrow.Author.Rules.{rules}
 use mathlib.Core.Path.{sym, ◌∙◌}
-use mathlib.Core.Bool.{true, false, true≢false}
+use mathlib.Core.Bool.{true≢false}
 use Rattle.chords.proofs.Ends.{filled_chorded}
 use Rattle.sums.proofs.gradients.fill_worth.Goals as goal
 

@@ -1,5 +1,4 @@
 -- `gradients::rows_held`: each way out by the test that led there.
-use borrow.Author.Rules.{rules}
 use borrow.Author.Tests.{eq-eqb, ne_eqb}
 use Rattle.sums.proofs.gradients.rows_held.Goals as goal
 

@@ -1,5 +1,4 @@
 -- `gradients::set_onto`: each way out by the test that led there.
-use borrow.Author.Rules.{rules}
 use mathlib.Core.Path.{ap, ap₂, ◌∙◌}
 use mathlib.Core.List.{List, map}
 use lib.ListN.{length, take}

@@ -1,5 +1,4 @@
 -- `gradients::write_gradients`: both ways leave the same, of ten circles at most.
-use borrow.Author.Rules.{rules}
 use mathlib.Core.Path.{◌≡◌, sym, ap, ap₂, ◌∙◌}
 use mathlib.Core.Bool.{true}
 use mathlib.Core.List.{List}

@@ -1,8 +1,6 @@
 -- `gradients::write_plain`: the rows below mask are written, in both slices.
-use borrow.Author.Rules.{rules}
 use mathlib.Core.Path.{◌≡◌, refl, ap, ◌∙◌}
-use mathlib.Core.Logic.{⊎_elim}
-use Prim.Native.Nat.{ℕ, suc, ◌*◌, ◌-◌, ◌≤◌, ◌<◌}
+use Prim.Native.Nat.{ℕ, suc, ◌*◌, ◌≤◌, ◌<◌}
 use native.Mathlib.Nat.{mul-le-mul_right}
 use native.Mathlib.Omega.{arith}
 use borrow.Author.Tests.{eq-eqb, ne_eqb}
@@ -10,7 +8,7 @@ use lib.ListN.{length, take, length-set}
 use Rattle.masks.specs.Presence.{stands}
 use Rattle.intersections.specs.Counted.{point_list}
 use Rattle.clip.specs.Gradient.{WithGradient}
-use Rattle.sums.specs.Gradients.{row_with, areas_to, rows_to}
+use Rattle.sums.specs.Gradients.{row_with}
 use Rattle.sums.proofs.Laid.{none_laid, area_kept, row_kept, area_put, row_laid, part_many}
 use Rattle.sums.proofs.gradients.write_plain.Goals as goal
 use Rattle.sums.proofs.gradients.write_plain.Goals.{then-wanted-mask-eq1, else-wanted-mask-eq1}

@@ -2,8 +2,7 @@
 use borrow.Author.Rules.{rules}
 use mathlib.Core.Path.{◌≡◌, refl, ap, ◌∙◌}
 use mathlib.Core.List.{List}
-use mathlib.Core.Logic.{⊎_elim}
-use Prim.Native.Nat.{ℕ, suc, ◌*◌, ◌-◌, ◌^◌, ◌≤◌, ◌<◌}
+use Prim.Native.Nat.{ℕ, suc, ◌*◌, ◌^◌, ◌≤◌, ◌<◌}
 use native.Mathlib.Nat.{mul-le-mul_right}
 use native.Mathlib.Omega.{arith}
 use borrow.Author.Tests.{eq-eqb, ne_eqb}
@@ -13,16 +12,10 @@ use Rattle.masks.specs.Presence.{stands}
 use Rattle.intersections.specs.declared.points.IntersectionPoint.{IntersectionPoint}
 use Rattle.clip.specs.Gradient.{WithGradient}
 use Rattle.gaps.specs.Gaps.{circles_in}
-use Rattle.sums.specs.Walk.{Few}
-use Rattle.sums.specs.Values.{MarksOf}
-use Rattle.sums.specs.Fast.{OfWanted}
-use Rattle.sums.specs.Gradients.{row_with, areas_to, rows_to}
+use Rattle.sums.specs.Gradients.{row_with}
 use Rattle.sums.proofs.Laid.{none_laid, area_kept, row_kept, area_put, row_laid, part_many}
 use Rattle.sums.proofs.gradients.write_rows.Goals as goal
 use Rattle.sums.proofs.gradients.write_rows.Goals.{then-wanted-mask-eq1, else-wanted-mask-eq1}
-use Rattle.sums.proofs.gradients.write_rows.Lts as lts
-use Rattle.sums.proofs.gradients.write_rows.Reads as reads
-use Rattle.sums.proofs.gradients.write_rows.Tie as tie
 
 -- the row has its place
 room : (m count width n : ℕ) → m < count → count * width ≤ n → suc m * width ≤ n

@@ -1,9 +1,7 @@
 -- `presence::clear_absent` meets its contract. The invariant: the rows below mask are cleared or kept.
-use borrow.Author.Rules.{rules}
 use mathlib.Core.Path.{◌≡◌, sym, ap, ◌∙◌}
 use mathlib.Core.Bool.{cond}
-use mathlib.Core.Logic.{⊎_elim}
-use Prim.Native.Nat.{ℕ, min, ◌-◌, ◌≤◌, ◌<◌}
+use Prim.Native.Nat.{ℕ, min, ◌<◌}
 use native.Mathlib.Omega.{arith}
 use lib.Ieee.{Float, nan}
 use lib.ListN.{get_or, length}

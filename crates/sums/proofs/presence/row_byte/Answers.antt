@@ -1,4 +1,3 @@
-use borrow.Author.Rules.{rules}
 use Rattle.sums.proofs.Bytes.{byte_set, byte_gone}
 use Rattle.sums.proofs.presence.row_byte.Goals as goal
 

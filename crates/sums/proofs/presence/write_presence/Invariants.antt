@@ -1,16 +1,11 @@
 -- `presence::write_presence` meets its contract. The invariant: the bytes below mask are written.
-use borrow.Author.Rules.{rules}
-use mathlib.Core.Path.{◌≡◌, ap, ◌∙◌}
-use Prim.Native.Nat.{ℕ, min, ◌-◌, ◌≤◌, ◌<◌}
-use native.Mathlib.Omega.{arith}
+use mathlib.Core.Path.{◌≡◌}
+use Prim.Native.Nat.{min, ◌-◌, ◌≤◌}
 use lib.ListN.{length}
 use Rattle.lists.specs.Written.{written}
-use Rattle.lists.proofs.Writing.{written_none, length_written, write_next}
 use Rattle.masks.specs.Presence.{byte, stands}
 use Rattle.sums.specs.Rows.{rows_of}
 use Rattle.sums.specs.Presence.{among}
-use Rattle.sums.proofs.Bytes.{byte_own}
-use Rattle.sums.proofs.Counts.{row_below}
 use Rattle.sums.proofs.presence.write_presence.Given as goal
 
 abbrev pub invariant-loop-mask : goal.invariant-loop-mask

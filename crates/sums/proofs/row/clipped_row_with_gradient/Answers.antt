@@ -1,5 +1,4 @@
 -- `gradient::clipped_row_with_gradient`: the first arcs that the walk lists, then the edges.
-use borrow.Author.Rules.{rules}
 use mathlib.Core.Path.{sym, ◌∙◌}
 use mathlib.Core.List.{map}
 use native.Mathlib.Omega.{arith}

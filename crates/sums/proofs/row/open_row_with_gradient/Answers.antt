@@ -1,8 +1,5 @@
 -- `gradient::open_row_with_gradient`: the first arcs that the walk lists.
-use borrow.Author.Rules.{rules}
-use Prim.Native.Nat.{◌≤◌}
 use native.Mathlib.Omega.{arith}
-use Rattle.sums.specs.Values.{Roomy}
 use Rattle.sums.proofs.Valuing.{three_known, ready_roomy}
 use Rattle.sums.proofs.Sloping.{every_first, row_open_with}
 use Rattle.sums.proofs.row.open_row_with_gradient.Goals as goal

@@ -1,5 +1,3 @@
-use borrow.Author.Rules.{rules}
-use mathlib.Core.Path.{◌≡◌}
 use Rattle.sums.proofs.rows.row_area.Goals as goal
 
 pub returns-then-clipped : goal.returns-then-clipped

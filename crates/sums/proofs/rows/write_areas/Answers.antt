@@ -1,15 +1,10 @@
 -- `rows::write_areas`: both ways leave the same, of ten circles at most.
-use borrow.Author.Rules.{rules}
-use mathlib.Core.Path.{◌≡◌, refl, sym, ap, ◌∙◌}
-use mathlib.Core.Bool.{true, false, true≢false}
-use mathlib.Core.Logic.{⊎_elim}
-use Prim.Native.Nat.{ℕ, ◌+◌, ◌-◌, ◌*◌, ◌^◌, ◌/◌, ◌%◌, ◌≤◌, ◌<◌}
+use mathlib.Core.Path.{◌≡◌, sym, ap, ◌∙◌}
+use mathlib.Core.Bool.{true}
+use Prim.Native.Nat.{ℕ, ◌^◌}
 use native.Mathlib.Omega.{arith}
-use borrow.Author.Tests.{eq-eqb, ne_eqb, lt-ltb, le-ltb, not-true, not-false}
-use lib.Dec.{eqb, ltb}
-use lib.ListN.{length, take, get_or, set, length-take, length-set}
-use lib.Seq.{get_or-take, take_all}
-use lib.Ieee.{Float, nan}
+use lib.ListN.{length, take, length-take}
+use lib.Ieee.{Float}
 use Rattle.lists.proofs.Arrays.{length_of_values}
 use mathlib.Core.List.{List}
 use Prim.Native.Nat.{min}

@@ -1,7 +1,5 @@
 -- `shares::add_parts_at`: the arc's parts as they are held, or of the arc that is read.
-use borrow.Author.Rules.{rules}
 use mathlib.Core.Path.{◌∙◌}
-use Prim.Native.Nat.{◌≤◌, ◌<◌}
 use native.Mathlib.Omega.{arith}
 use Rattle.gaps.proofs.Circles.{circle_first}
 use Rattle.sums.proofs.Sloping.{full_is, held_is}

@@ -1,10 +1,7 @@
 -- `shares::add_shares`: the first m are added.
-use borrow.Author.Rules.{rules}
 use mathlib.Core.Path.{◌≡◌, refl, sym, ◌∙◌}
-use Prim.Native.Nat.{◌+◌, ◌-◌, ◌≤◌, ◌<◌}
+use Prim.Native.Nat.{◌+◌, ◌<◌}
 use native.Mathlib.Omega.{arith}
-use lib.ListN.{length}
-use Rattle.sums.specs.Slopes.{shares_from}
 use Rattle.sums.proofs.Sloping.{shares_none, shares_next}
 use Rattle.sums.proofs.shares.add_shares.Goals as goal
 use Rattle.sums.proofs.shares.add_shares.Lts as lts

@@ -1,11 +1,8 @@
 -- `shares::add_shares`: the first m are added.
-use borrow.Author.Rules.{rules}
-use mathlib.Core.Path.{◌≡◌, refl, sym, ◌∙◌}
-use Prim.Native.Nat.{◌+◌, ◌-◌, ◌≤◌, ◌<◌}
-use native.Mathlib.Omega.{arith}
+use mathlib.Core.Path.{◌≡◌}
+use Prim.Native.Nat.{◌-◌, ◌≤◌}
 use lib.ListN.{length}
 use Rattle.sums.specs.Slopes.{shares_from}
-use Rattle.sums.proofs.Sloping.{shares_none, shares_next}
 use Rattle.sums.proofs.shares.add_shares.Given as goal
 
 abbrev pub invariant-loop-m : goal.invariant-loop-m

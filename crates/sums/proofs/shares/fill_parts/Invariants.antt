@@ -1,15 +1,9 @@
 -- `shares::fill_parts`: of the arcs with a number below p the parts are held, before `used` (`PartsTo`).
-use borrow.Author.Rules.{rules}
-use mathlib.Core.Path.{◌≡◌, sym, ◌∙◌}
-use mathlib.Core.Bool.{true, false, true≢false}
-use Prim.Native.Nat.{ℕ, ◌-◌, ◌≤◌, ◌<◌}
-use native.Mathlib.Omega.{arith}
-use lib.ListN.{length, length-set}
+use mathlib.Core.Path.{◌≡◌}
+use Prim.Native.Nat.{◌-◌, ◌≤◌}
+use lib.ListN.{length}
 use Rattle.gaps.specs.Gaps.{circles_in}
-use Rattle.gaps.proofs.Circles.{circle_first}
-use Rattle.sums.specs.Values.{standing}
-use Rattle.sums.proofs.Valuing.{standing_below, standing_readable}
-use Rattle.sums.proofs.Sloping.{PartsTo, parts_none, parts_jump, parts_put, parts_all, put_is}
+use Rattle.sums.proofs.Sloping.{PartsTo}
 use Rattle.sums.proofs.shares.fill_parts.Given as goal
 
 abbrev pub invariant-loop-p : goal.invariant-loop-p

@@ -1,5 +1,4 @@
 -- `shares::put_part`: three writes, then the call.
-use borrow.Author.Rules.{rules}
 use mathlib.Core.Path.{refl}
 use Rattle.sums.proofs.shares.put_part.Goals as goal
 

@@ -1,16 +1,6 @@
 -- `terms::add_arc`: the three terms as they are held, or of the arc that is read.
-use borrow.Author.Rules.{rules}
-use mathlib.Core.Path.{◌≡◌, refl, sym, ap, ◌∙◌}
-use mathlib.Core.Bool.{true, false, true≢false}
-use mathlib.Core.Logic.{⊎_elim}
-use Prim.Native.Nat.{ℕ, ◌+◌, ◌-◌, ◌*◌, ◌^◌, ◌/◌, ◌%◌, ◌≤◌, ◌<◌}
+use mathlib.Core.Path.{◌∙◌}
 use native.Mathlib.Omega.{arith}
-use borrow.Author.Tests.{eq-eqb, ne_eqb, lt-ltb, le-ltb, not-true, not-false}
-use lib.Dec.{eqb, ltb}
-use lib.ListN.{length, take, get_or, set, length-take, length-set}
-use lib.Seq.{get_or-take, take_all}
-use lib.Ieee.{Float, nan}
-use Rattle.lists.proofs.Arrays.{length_of_values}
 use Rattle.gaps.proofs.Circles.{circle_first}
 use Rattle.outline.specs.Terms.{term_x, term_y, term_r}
 use Rattle.sums.proofs.Valuing.{term_is}

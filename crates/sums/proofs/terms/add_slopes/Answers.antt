@@ -1,10 +1,6 @@
 -- `slopes::add_slopes`: the first i arcs of the list.
-use borrow.Author.Rules.{rules}
 use mathlib.Core.Path.{◌≡◌, refl, ◌∙◌}
-use mathlib.Core.List.{foldl}
-use Prim.Native.Nat.{◌-◌, ◌≤◌}
 use native.Mathlib.Omega.{arith}
-use lib.ListN.{length, take}
 use Rattle.lists.proofs.Folds.{fold_suc}
 use Rattle.gaps.specs.Gaps.{circles_in}
 use Rattle.sums.specs.Slopes.{add_slopes_at}

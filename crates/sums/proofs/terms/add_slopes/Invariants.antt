@@ -1,14 +1,10 @@
 -- `slopes::add_slopes`: the first i arcs of the list.
-use borrow.Author.Rules.{rules}
-use mathlib.Core.Path.{◌≡◌, refl, ◌∙◌}
+use mathlib.Core.Path.{◌≡◌}
 use mathlib.Core.List.{foldl}
 use Prim.Native.Nat.{◌-◌, ◌≤◌}
-use native.Mathlib.Omega.{arith}
 use lib.ListN.{length, take}
-use Rattle.lists.proofs.Folds.{fold_suc}
 use Rattle.gaps.specs.Gaps.{circles_in}
 use Rattle.sums.specs.Slopes.{add_slopes_at}
-use Rattle.sums.proofs.Valuing.{every_listed}
 use Rattle.sums.proofs.terms.add_slopes.Given as goal
 
 abbrev pub invariant-loop-i : goal.invariant-loop-i

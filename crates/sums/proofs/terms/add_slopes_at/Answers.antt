@@ -1,5 +1,4 @@
 -- `slopes::add_slopes_at`: the three slopes as they are held, or of the arc that is read.
-use borrow.Author.Rules.{rules}
 use mathlib.Core.Path.{◌∙◌}
 use Prim.Native.Nat.{◌≤◌}
 use native.Mathlib.Omega.{arith}

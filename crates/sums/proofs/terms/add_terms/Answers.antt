@@ -1,10 +1,6 @@
 -- `terms::add_terms`: the first i arcs of the list.
-use borrow.Author.Rules.{rules}
 use mathlib.Core.Path.{◌≡◌, refl, ◌∙◌}
-use Prim.Native.Nat.{◌-◌, ◌≤◌}
 use native.Mathlib.Omega.{arith}
-use lib.ListN.{length, take}
-use mathlib.Core.List.{foldl}
 use Rattle.lists.proofs.Folds.{fold_suc}
 use Rattle.binary64.specs.Constants.{zero64}
 use Rattle.gaps.specs.Gaps.{circles_in}

@@ -1,5 +1,4 @@
 -- `slopes::add_three_at`: what each call gives, the last first.
-use borrow.Author.Rules.{rules}
 use Rattle.sums.specs.Slopes.{add_three_at}
 use Rattle.sums.proofs.terms.add_three_at.Goals as goal
 

@@ -1,12 +1,8 @@
 -- `slopes::fill_slopes`: the places below p that are asked for hold the slopes of their arcs.
-use borrow.Author.Rules.{rules}
 use mathlib.Core.Path.{sym, ◌∙◌}
-use Prim.Native.Nat.{◌-◌}
 use native.Mathlib.Omega.{arith}
-use Rattle.gaps.specs.Gaps.{circles_in}
 use Rattle.gaps.proofs.Circles.{circle_first}
-use Rattle.sums.specs.Slopes.{slope_x, slope_y, slope_r}
-use Rattle.sums.proofs.Valuing.{standing_below, standing_readable, ThreeTo, three_starts, three_past, three_put, three_all}
+use Rattle.sums.proofs.Valuing.{standing_below, standing_readable, three_starts, three_past, three_put, three_all}
 use Rattle.sums.proofs.terms.fill_slopes.Goals as goal
 
 pub loop-p-init : goal.loop-p-init

@@ -1,12 +1,8 @@
 -- `terms::fill_terms`: the places below p that are asked for hold the terms of their arcs.
-use borrow.Author.Rules.{rules}
-use mathlib.Core.Path.{sym, ◌∙◌}
 use Prim.Native.Nat.{◌-◌}
-use native.Mathlib.Omega.{arith}
 use Rattle.gaps.specs.Gaps.{circles_in}
-use Rattle.gaps.proofs.Circles.{circle_first}
 use Rattle.outline.specs.Terms.{term_x, term_y, term_r}
-use Rattle.sums.proofs.Valuing.{standing_below, standing_readable, ThreeTo, three_starts, three_past, three_put, three_all}
+use Rattle.sums.proofs.Valuing.{ThreeTo}
 use Rattle.sums.proofs.terms.fill_terms.Given as goal
 
 abbrev pub invariant-loop-p : goal.invariant-loop-p

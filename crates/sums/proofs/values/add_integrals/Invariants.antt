@@ -1,16 +1,12 @@
 -- `values::add_integrals`: the first i arcs of the list.
-use borrow.Author.Rules.{rules}
-use mathlib.Core.Path.{◌≡◌, refl}
+use mathlib.Core.Path.{◌≡◌}
 use Prim.Native.Nat.{◌-◌, ◌≤◌}
-use native.Mathlib.Omega.{arith}
 use lib.ListN.{length, take}
 use mathlib.Core.List.{foldl}
-use Rattle.lists.proofs.Folds.{fold_suc}
 use Rattle.binary64.specs.Constants.{zero64}
 use Rattle.inside.specs.Parts.{clipped_arc_integral}
 use Rattle.gaps.specs.Gaps.{circles_in}
 use Rattle.sums.specs.Values.{term_of, add_one}
-use Rattle.sums.proofs.Valuing.{every_listed}
 use Rattle.sums.proofs.values.add_integrals.Given as goal
 
 abbrev pub invariant-loop-i : goal.invariant-loop-i

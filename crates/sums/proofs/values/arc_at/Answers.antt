@@ -1,21 +1,8 @@
 -- `values::arc_at`: each way out by the tests that led there.
-use borrow.Author.Rules.{rules}
-use mathlib.Core.Path.{◌≡◌, refl, sym, ap, ◌∙◌}
-use mathlib.Core.Bool.{true, false, cond, not, ◌&&◌, ◌||◌}
-use mathlib.Core.List.{List, [], ◌∷◌, ◌++◌, map}
-use mathlib.Core.Logic.{⊎_elim}
-use Prim.Native.Nat.{ℕ, zero, suc, ◌+◌, ◌-◌, ◌*◌, ◌^◌, ◌/◌, ◌%◌, ◌≤◌, ◌<◌}
+use mathlib.Core.Path.{ap, ◌∙◌}
+use Prim.Native.Nat.{ℕ, ◌+◌, ◌*◌, ◌/◌, ◌%◌}
 use native.Mathlib.Omega.{arith}
-use native.Mathlib.Numerals.{add-one}
-use borrow.Author.Tests.{eq-eqb, ne_eqb, lt-ltb, le-ltb, not-true, not-false}
-use lib.Dec.{eqb, ltb}
-use lib.ListN.{length, drop, take, get_or, set, length-take, length-set, length-drop}
-use lib.Seq.{get_or-take, take_all}
-use lib.Ieee.{Float, nan}
-use Rattle.lists.proofs.Arrays.{length_of_values}
-use Rattle.masks.specs.Mask.{in_set}
-use Rattle.masks.specs.Operations.{in_by_shift}
-use borrow.Author.Rules.{rules}
+use lib.ListN.{get_or}
 use Rattle.gaps.proofs.Circles.{next_is, next_less}
 use Rattle.sums.proofs.Valuing.{arc_near, arc_whole, arc_far}
 use Rattle.sums.proofs.values.arc_at.Goals as goal

@@ -1,5 +1,4 @@
 -- `values::head_of`: each way out by the tests that led there.
-use borrow.Author.Rules.{rules}
 use mathlib.Core.Path.{sym}
 use native.Mathlib.Omega.{arith}
 use Rattle.sums.proofs.Valuing.{head_near, head_whole, head_far}

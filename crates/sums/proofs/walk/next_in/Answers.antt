@@ -1,15 +1,10 @@
-use borrow.Author.Rules.{rules}
 use mathlib.Core.Path.{◌≡◌, refl, sym, ◌∙◌}
-use mathlib.Core.Bool.{false}
-use Prim.Native.Nat.{ℕ, ◌+◌, ◌-◌, ◌≤◌, ◌<◌}
+use Prim.Native.Nat.{◌+◌}
 use native.Mathlib.Omega.{arith}
 use borrow.Author.Tests.{eq-eqb, ne_eqb}
 use lib.ListN.{get_or}
-use Rattle.masks.specs.Mask.{subset}
 use Rattle.masks.specs.Subset.{and_test}
 use Rattle.sums.proofs.Walking.{next_start, next_on}
-use Rattle.sums.proofs.walk.next_in.Reads as reads
-use Rattle.sums.proofs.walk.next_in.Lts as lts
 use Rattle.sums.proofs.walk.next_in.Goals as goal
 
 -- src/walk.rt:135:5

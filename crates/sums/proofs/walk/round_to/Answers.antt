@@ -1,5 +1,5 @@
 -- `walk::round_to`: the test decides which of the two is asked for.
-use mathlib.Core.Path.{◌≡◌, refl}
+use mathlib.Core.Path.{refl}
 use native.Mathlib.Omega.{arith}
 use Rattle.sums.proofs.walk.round_to.Goals as goal
 

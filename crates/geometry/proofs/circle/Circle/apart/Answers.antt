@@ -1,5 +1,4 @@
 -- `Circle::apart` meets its contract: one test of the two decides, as `||` does.
-use borrow.Author.Rules.{rules}
 use Rattle.geometry.proofs.circle.Circle.apart.Goals as goal
 
 pub returns-then-d-self : goal.returns-then-d-self

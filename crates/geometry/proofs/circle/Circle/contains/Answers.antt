@@ -1,5 +1,5 @@
 -- `Circle::contains` meets its contract: where the root alone is above the radius the sum is, and else the sum is the definition's.
-use mathlib.Core.Path.{◌≡◌, sym, ap, ◌∙◌}
+use mathlib.Core.Path.{sym, ap, ◌∙◌}
 use borrow.Author.Rules.{rules}
 use lib.Ieee.{Float}
 use Rattle.binary64.specs.Floats.{◌+ᶠ◌, ◌≤ᶠ◌}

@@ -1,5 +1,4 @@
 -- `Circle::contains_point` meets its contract: the root that is compared is the distance.
-use borrow.Author.Rules.{rules}
 use Rattle.geometry.proofs.circle.Circle.contains_point.Goals as goal
 
 pub returns : goal.returns

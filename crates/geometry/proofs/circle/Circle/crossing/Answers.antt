@@ -1,5 +1,4 @@
 -- `Circle::crossing` meets its contract: what its calls give, put in place from the last to the first, is the definition.
-use borrow.Author.Rules.{rules}
 use Rattle.geometry.proofs.circle.Circle.crossing.Goals as goal
 
 pub returns : goal.returns

@@ -1,5 +1,4 @@
 -- `Circle::intersection_area` meets its contract: each test is the definition's, and picks the same case.
-use borrow.Author.Rules.{rules}
 use Rattle.geometry.proofs.circle.Circle.intersection_area.Goals as goal
 
 pub returns-then-d-r1 : goal.returns-then-d-r1

@@ -1,7 +1,5 @@
 -- `Circle::intersection_points` meets its contract: each test is the definition's, and picks the same case; the first of the two on the distance
 -- is one of them, where it passes.
-use mathlib.Core.Path.{◌≡◌, sym, ap, ◌∙◌}
-use borrow.Author.Rules.{rules}
 use Rattle.geometry.proofs.circle.Circle.intersection_points.Goals as goal
 
 pub returns-then-identical : goal.returns-then-identical

@@ -1,5 +1,4 @@
 -- `Circle::intersects` meets its contract: the first test that fails decides, as `&&` does.
-use borrow.Author.Rules.{rules}
 use Rattle.geometry.proofs.circle.Circle.intersects.Goals as goal
 
 pub returns-then-center_distance-self : goal.returns-then-center_distance-self
