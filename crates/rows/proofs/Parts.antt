@@ -1,8 +1,8 @@
 -- The parts of an input, one after another.
-use Rattle.std.proofs.Common.{◌≡◌, ℕ, List, [], ◌++◌, length, take, IfSome, subst, sym, ap, ap₂, ◌∙◌, drop, ◌≤◌, take_at, arith}
+use Rattle.std.proofs.Common.{◌≡◌, ℕ, List, [], None, Some, Result, Ok, Err, OnOk, ◌++◌, length, take, IfSome, subst, sym, ap, ap₂, ◌∙◌, drop, ◌≤◌, take_at, arith}
 use Rattle.std.proofs.KnownBytes.{Consumes-nil, Consumes-trans, Consumes-whole}
 use Rattle.std.specs.declared.option.Option.{Option}
-use Rattle.std.specs.Io.KnownBytes.{Consumes}
+use Rattle.std.specs.Io.KnownBytes.{Appends, Consumes}
 use Rattle.regions.specs.Slices.{LentTables}
 use Rattle.table.specs.Method.{clipped_table}
 use Rattle.printing.specs.Text.{Printed}
@@ -10,12 +10,13 @@ use Rattle.printing.proofs.Putting.{put_fits}
 use Rattle.file.specs.declared.reader.Reader.{Reader}
 use Rattle.file.specs.Reader.{start}
 use Rattle.plan.specs.declared.Plan.{Plan}
-use Rattle.reading.specs.Whole.{over, no_plan}
+use Rattle.file.specs.File.{read_file}
+use Rattle.reading.specs.Whole.{over, no_plan, file_printed}
 use Rattle.reading.specs.Reading.{State, state_of, AfterBytes}
 use Rattle.reading.proofs.Bytes.{begun_reads}
 use Rattle.rows.specs.declared.Input.{Input}
 use Rattle.rows.specs.declared.Input.TheVariants.{Open, Ended, Failed}
-use Rattle.rows.specs.Program.{PartRead}
+use Rattle.rows.specs.Program.{PartRead, zero_tables, printed}
 
 -- the bytes so far, and the state after them
 abbrev pub SoFar : Option (List ℕ) → Option (List ℕ) → LentTables → State → Type 0
@@ -48,3 +49,12 @@ pub text_at_front : (text out left : List ℕ) (n : ℕ) → n ≤ length out �
 text_at_front text out left n h p =
     let fits : length text ≤ length out = omega (arith, h, p.counted) in
     ap (take n) (p.bytes ∙ put_fits out text fits) ∙ take_at text (drop (length text) out) n (sym p.counted)
+
+-- An input that was read to its end is printed as a whole file.
+pub all_printed : {E : Type 0} (r : Result (Unit {0}) E) (known old new : Option (List ℕ)) (done : Type 0) (state : State)
+    → OnOk r done → (done → IfSome known (λ xs. AfterBytes clipped_table zero_tables xs state))
+    → OnOk r ((t : LentTables) (s : List ℕ) → AfterBytes clipped_table t s state → Appends old new (file_printed clipped_table t (read_file s)))
+    → OnOk r (IfSome known (λ xs. Appends old new (printed xs)))
+all_printed (Ok u) None old new done state o i p = tt
+all_printed (Ok u) (Some xs) old new done state o i p = p zero_tables xs (i o)
+all_printed (Err e) known old new done state o i p = tt
