@@ -109,18 +109,18 @@ see('the shared library has these and no other', others(header, exported))
 see('window.py sets the types of all', different(header, calls.of_python(ROOT / 'examples' / 'window.py', SHARED)))
 rust = calls.of_rust((ROOT / 'examples' / 'window.rs').read_text())
 see('window.rs: %d of them, with these types' % len(rust), different({name: header.get(name) for name in rust}, rust) or ('' if rust else 'none'))
-told = set(re.findall(r'`(watered_\w+)`', (ROOT / 'README.md').read_text()))
+told = set(re.findall(r'`(watered_\w+)`', (ROOT / 'README.md').read_text())) - {crate.name for crate in (ROOT / 'crates').iterdir()}
 see("README's table has them", others(header, told))
 
 dynamic = must('readelf', '-d', SHARED)
 see('the soname is the name of the file', '' if '[%s]' % SHARED.name in re.search(r'.*SONAME.*', dynamic).group() else dynamic)
 needs = set(re.findall(r'NEEDED.*\[([a-z]+)', dynamic))
-see('it needs the C library and no other', others(needs, ['libc', 'libm']))
+see('it needs the C library and no other', others(needs, ['libc']))
 sections = re.findall(r'^(\.\S+) +(\d+) ', must('size', '-A', PREFIX / 'lib' / 'libwatered.a'), re.M)
 state = [name for name, size in sections if re.match(r'\.(data|bss|tdata|tbss)\b(?!\.rel\.ro)', name) and int(size)]
 see('the archive has no place for state, of %d sections' % len(sections), ', '.join(state) or ('' if len(sections) > 10 else 'no sections'))
 foreign = set(re.findall(r' U (\w+)', must('nm', '-u', PREFIX / 'lib' / 'libwatered.a')))
-see('and calls nothing that keeps any', ', '.join(foreign - {'memcpy', 'memmove', 'memset', 'memcmp', 'fmod'}) or ('' if foreign else 'nm says nothing'))
+see('and calls nothing that keeps any', ', '.join(foreign - {'memcpy', 'memmove', 'memset', 'memcmp'}) or ('' if foreign else 'nm says nothing'))
 
 
 # ---- the examples against what was installed
