@@ -2,9 +2,10 @@
 -- sizes and signs of what the functions give, and larger and smaller of whole numbers.
 use Rattle.std.proofs.Common.{◌≡◌, ℕ, ◌+◌, ◌^◌, ◌≤◌, Bool, true, false, cond, not, ◌||◌, T, leb, ℤ, nat_abs, sym, refl, ap, ◌∙◌, subst, ap₂, true≢false, le_trans, le_of_eq, add-zero}
 use mathlib.Core.Bool.{false≢true}
+use Rattle.std.specs.Float.{is_sign_negative, float_with_sign}
 use lib.Signed.{lt_z}
-use lib.Ieee.{Float, nan, inf, fin, binary64, is_nan, fits, of_bits, neg, lt, le, eq, of_int, ne, to_bits}
-use lib.Ieee.Bits.{of_bits-to_bits, is_false}
+use lib.Ieee.{Float, nan, inf, fin, binary64, is_nan, fits, of_bits, neg, lt, le, eq, of_int, ne}
+use lib.Ieee.Bits.{is_false}
 use lib.Ieee.Compare.{differs_from_itself}
 use Rattle.binary64.specs.Units.{Finite, mag, negative, plus, minus}
 use Rattle.binary64.specs.Constants.{zero64}
@@ -13,7 +14,6 @@ use Rattle.binary64.specs.Functions.{absolute, unit, signum_of, clamp_to_zero, l
 use Rattle.binary64.proofs.Units.{neg_finite, plus_is, zero64_finite, zero64_sign, zero64_plus, zero64_minus, above_zero, not_above_zero, not_nan, le_units}
 use Rattle.binary64.proofs.Magnitude.{most_either, most_zero}
 use Rattle.binary64.proofs.Whole.{of_int_finite, lt_of_int}
-use Rattle.binary64.proofs.Patterns.{pattern_sign}
 
 -- ---- x == x fails just for a NaN
 
@@ -29,17 +29,31 @@ pub only_nan : (x : Float) → eq x x ≡ false → x ≡ nan
 unfolding ne
 only_nan x e = differs_from_itself x (subst (λ (b : Bool). T (not b)) (sym e) tt)
 
-pub is-nan : (x : Float) → eq x x ≡ false → is_nan x ≡ true
+-- a NaN is one value, and has no sign bit
+pub nan_is : (x : Float) → is_nan x ≡ true → x ≡ nan
 unfolding is_nan
-is-nan x e = ap is_nan (only_nan x e)
+nan_is nan e = refl
+nan_is (inf s) e = absurd (false≢true e)
+nan_is (fin s m d) e = absurd (false≢true e)
+
+pub nan_sign : (x : Float) → is_nan x ≡ true → negative x ≡ false
+nan_sign x e = ap negative (nan_is x e)
+
+-- ---- what the methods of f64 give
+
+pub sign_is : (x : Float) → is_sign_negative x ≡ negative x
+unfolding is_sign_negative
+sign_is nan = refl
+sign_is (inf s) = refl
+sign_is (fin s m d) = refl
+
+pub absolute_is : (x : Float) → float_with_sign false x ≡ absolute x
+unfolding float_with_sign
+absolute_is nan = refl
+absolute_is (inf s) = refl
+absolute_is (fin s m d) = refl
 
 -- ---- the sign bit
-
--- A number's bits reach 2 ^ 63 just where its sign bit is set.
-pub sign_of_bits : (x : Float) → T (fits binary64 x) → is_nan x ≡ false → leb (2 ^ 63) (to_bits binary64 x) ≡ negative x
-sign_of_bits x f n =
-    let e = of_bits-to_bits binary64 x f in
-    sym (pattern_sign (to_bits binary64 x) (subst (λ (y : Float). T (not (is_nan y))) (sym e) (subst (λ (b : Bool). T (not b)) (sym n) tt))) ∙ ap negative e
 
 -- With the sign bit set |x| is -x, and otherwise x.
 pub absolute_of_negative : (x : Float) → negative x ≡ true → neg x ≡ absolute x

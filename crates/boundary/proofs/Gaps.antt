@@ -1,6 +1,6 @@
 -- The arc of one gap, with the angles in an array; and the arcs of a member, gap by gap.
 use mathlib.Core.Path.{◌≡◌, refl, sym, ap, ◌∙◌}
-use mathlib.Core.Bool.{not, ◌&&◌, cond}
+use mathlib.Core.Bool.{Bool, not, ◌&&◌, cond}
 use mathlib.Core.List.{List, [], ◌∷◌}
 use Prim.Native.Nat.{ℕ, ◌+◌, ◌%◌, ◌≤◌, ◌<◌, max}
 use native.Mathlib.Nat.{mod-lt}
@@ -9,6 +9,8 @@ use borrow.Author.Tests.{lt-ltb}
 use lib.ListN.{length, get_or, take, length-take}
 use lib.Seq.{get_or-take}
 use lib.Ieee.{Float, nan}
+use Rattle.std.specs.Prelude.{Option, None, Some, IfSome}
+use Rattle.std.specs.Option.{is_some, option_to_list}
 use Rattle.lists.specs.Lists.{up_to}
 use Rattle.lists.proofs.Lists.{up_to_cong}
 use Rattle.geometry.specs.declared.circle.Circle.{Circle}
@@ -16,6 +18,11 @@ use Rattle.binary64.specs.Constants.{half64}
 use Rattle.binary64.specs.Floats.{◌+ᶠ◌, ◌*ᶠ◌}
 use Rattle.boundary.specs.Gaps.{gap_arc}
 use Rattle.boundary.specs.Outline.{owned, gap, collapsed, point_at, between, arc_from, arcs_at}
+
+-- what `then` gives, as a list
+pub one_if : {X : Type 0} (o : Option X) (b : Bool) (x : X) → is_some o ≡ b → IfSome o (λ r. r ≡ x) → option_to_list o ≡ cond b (x ∷ []) []
+one_if None b x e h = rw (← e)
+one_if (Some r) b x e h = rw (← e, h)
 
 -- the next index round a list of n is below n
 pub next_below : (i n : ℕ) → i < n → (i + 1) % n < n

@@ -2,7 +2,7 @@
 use mathlib.Core.Path.{◌≡◌, refl, sym, ap, ◌∙◌}
 use mathlib.Core.Bool.{Bool, true, false, cond}
 use mathlib.Core.List.{List, [], ◌∷◌, ◌++◌, map, append_assoc, append-nil}
-use Prim.Native.Nat.{ℕ, zero, suc, ◌+◌, ◌*◌, ◌≤◌, ◌<◌, max}
+use Prim.Native.Nat.{ℕ, zero, suc, ◌+◌, ◌≤◌, ◌<◌, max}
 use native.Mathlib.Numerals.{add-one}
 use native.Mathlib.Omega.{arith}
 use borrow.Author.Tests.{eqb-true, eqb-false}
@@ -10,6 +10,8 @@ use lib.Dec.{eqb}
 use lib.ListN.{length, get_or, take, drop, set as put, length-take, length-set, drop_of_length-le}
 use lib.Seq.{drop-cons, get_or-take, take-suc-set}
 use lib.Ieee.{Float}
+use Rattle.std.specs.Prelude.{Option, None, Some}
+use Rattle.std.specs.Option.{option_to_list}
 use Rattle.lists.specs.Lists.{up_to, keep}
 use Rattle.geometry.specs.declared.circle.Circle.{Circle}
 use Rattle.intersections.specs.declared.members.Members.{Members}
@@ -102,136 +104,58 @@ outline_looked points S n js cs e one only = by (eqb n 1) refl
 
 -- ---- the two loops
 
--- The arcs of the members before k are held.
-pub record Members-to (points : List IntersectionPoint) (S : ℕ) (set : Members) (n : ℕ) (all : List BoundaryArc) (held k : ℕ) : Type 0 where
-  pub ten_heads : length set.heads ≡ 10
-  pub ten_circles : length set.circles ≡ 10
-  pub count : n ≡ set.n
-  pub most : k ≤ 10
-  pub within : k ≤ n
+-- These arcs are held, no more than so many.
+pub record Held (arcs : List BoundaryArc) (most : ℕ) (all : List BoundaryArc) (held : ℕ) : Type 0 where
   pub places : length all ≡ 320
-  pub room : held ≤ 32 * k
-  pub arcs : take held all ≡ up_to (arcs_of points S (head_list set) (circle_list set)) k
+  pub room : held ≤ most
+  pub same : take held all ≡ arcs
 
--- And those of the gaps before i of the member at k, whose circle and angles are given.
-pub record Gaps-to (points : List IntersectionPoint) (S : ℕ) (set : Members) (n k : ℕ) (c : Circle) (phis : List Float) (many : ℕ)
-    (all : List BoundaryArc) (held i : ℕ) : Type 0 where
-  pub ten_heads : length set.heads ≡ 10
-  pub ten_circles : length set.circles ≡ 10
-  pub count : n ≡ set.n
-  pub most : k < 10
-  pub below : k < n
-  pub gaps : many ≡ max 1 (length phis)
-  pub few : many ≤ 32
-  pub own : arcs_at (circle_list set) k c phis ≡ arcs_of points S (head_list set) (circle_list set) k
-  pub within : i ≤ many
-  pub places : length all ≡ 320
-  pub room : held ≤ 32 * k + i
-  pub arcs : take held all ≡ up_to (arcs_of points S (head_list set) (circle_list set)) k ++ up_to (gap_arc (circle_list set) k c phis) i
-
-module _ {points : List IntersectionPoint} {S : ℕ} {set : Members} {n : ℕ} {all : List BoundaryArc} {held k : ℕ}
-    (w : Members-to points S set n all held k) where
-  -- the member at k: its circle, its angles and how many gaps they leave
-  pub gaps_start : (c : Circle) (phis : List Float) (many : ℕ) → k < 10 → k < n → c ≡ get_or set.circles k no_circle
-      → phis ≡ sorted (map (angle_about c) (points_for points S (get_or set.heads k 0))) → many ≡ max 1 (length phis) → many ≤ 32
-      → Gaps-to points S set n k c phis many all held 0
-  unfolding up_to
-  gaps_start c phis many most below ec ep em few =
+module _ {arcs : List BoundaryArc} {most : ℕ} {all : List BoundaryArc} {held : ℕ} (h : Held arcs most all held) where
+  -- a gap more: its arc is put in the next place, if it has one
+  pub held_with : (more : ℕ) → most < more → (o : Option BoundaryArc) (arc : BoundaryArc) → o ≡ Some arc → held < 320
+      → Held (arcs ++ option_to_list o) more (put all held arc) (held + 1)
+  held_with more g o arc e free =
       record {
-        ten_heads = w.ten_heads;
-        ten_circles = w.ten_circles;
-        count = w.count;
-        most = most;
-        below = below;
-        gaps = em;
-        few = few;
-        own =
-            rw (ep, ec, get_or-take set.n set.circles k no_circle (omega (arith, w.count)), get_or-take set.n set.heads k 0 (omega (arith, w.count)));
-        within = omega arith;
-        places = w.places;
-        room = omega (arith, w.room);
-        arcs = w.arcs ∙ sym (append-nil (up_to (arcs_of points S (head_list set) (circle_list set)) k));
+        places = length-set all held arc ∙ h.places;
+        room = omega (arith, h.room);
+        same = rw (add-one held, take-suc-set all held arc (omega (arith, free, h.places)), e) (ap (λ l. l ++ (arc ∷ [])) h.same);
       }
 
-  -- all members, by their count or by the room for them
-  all_held : k ≡ length (head_list set) → take held all ≡ outline_from (circle_list set) 0 (members_with points S (head_list set) (circle_list set))
-  all_held last =
-      w.arcs
-      ∙ ap (up_to (arcs_of points S (head_list set) (circle_list set))) last
-      ∙ all_members points S (head_list set) (circle_list set)
-      (omega (arith, length-take set.n set.heads, length-take set.n set.circles, w.ten_heads, w.ten_circles))
-
-  pub all_by_count : n ≤ k → take held all ≡ outline_from (circle_list set) 0 (members_with points S (head_list set) (circle_list set))
-  all_by_count h = all_held (omega (arith, length-take set.n set.heads, w.ten_heads, w.count, w.most, w.within))
-
-  pub all_by_room : 10 ≤ k → take held all ≡ outline_from (circle_list set) 0 (members_with points S (head_list set) (circle_list set))
-  all_by_room h = all_held (omega (arith, length-take set.n set.heads, w.ten_heads, w.count, w.most, w.within))
+  pub held_without : (more : ℕ) → most < more → (o : Option BoundaryArc) → o ≡ None → Held (arcs ++ option_to_list o) more all held
+  held_without more g o e = record { places = h.places; room = omega (arith, h.room); same = rw e (h.same ∙ sym (append-nil arcs)) }
 
   -- they are as many as are counted
-  pub all_counted : held ≡ length (take held all)
-  all_counted = omega (arith, length-take held all, w.places, w.room, w.most)
+  pub held_many : most ≤ 320 → held ≡ length (take held all)
+  held_many few = omega (arith, few, length-take held all, h.places, h.room)
 
-module _ {points : List IntersectionPoint} {S : ℕ} {set : Members} {n k : ℕ} {c : Circle} {phis : List Float} {many : ℕ} {all : List BoundaryArc} {held i : ℕ}
-    (g : Gaps-to points S set n k c phis many all held i) where
-  -- there is a place free
-  pub gap_free : i < many → held < 320
-  gap_free h = omega (arith, h, g.room, g.most, g.few)
+-- the arcs of the members before k
+abbrev pub before_member : List IntersectionPoint → ℕ → Members → ℕ → List BoundaryArc
+before_member points S set k = up_to (arcs_of points S (head_list set) (circle_list set)) k
 
-  -- a gap more: its arcs are added to those that are held
-  gaps_more : (all' : List BoundaryArc) (held' : ℕ) → i < many → length all' ≡ 320 → held' ≤ held + 1
-      → take held' all' ≡ take held all ++ gap_arc (circle_list set) k c phis i → Gaps-to points S set n k c phis many all' held' (i + 1)
+-- and those of the gaps before i of the member at k, whose circle and angles are given
+abbrev pub before_gap : List IntersectionPoint → ℕ → Members → ℕ → Circle → List Float → ℕ → List BoundaryArc
+before_gap points S set k c phis i = before_member points S set k ++ up_to (gap_arc (circle_list set) k c phis) i
+
+module _ (points : List IntersectionPoint) (S : ℕ) (set : Members) (k : ℕ) (c : Circle) (phis : List Float) where
+  pub first_gap : before_gap points S set k c phis 0 ≡ before_member points S set k
   unfolding up_to
-  gaps_more all' held' h places room e =
-      record {
-        ten_heads = g.ten_heads;
-        ten_circles = g.ten_circles;
-        count = g.count;
-        most = g.most;
-        below = g.below;
-        gaps = g.gaps;
-        few = g.few;
-        own = g.own;
-        within = omega arith;
-        places = places;
-        room = omega (arith, room, g.room);
-        arcs =
-            e
-            ∙ ap (λ l. l ++ gap_arc (circle_list set) k c phis i) g.arcs
-            ∙ append_assoc (up_to (arcs_of points S (head_list set) (circle_list set)) k) (up_to (gap_arc (circle_list set) k c phis) i)
-            (gap_arc (circle_list set) k c phis i)
-            ∙ ap (λ m. up_to (arcs_of points S (head_list set) (circle_list set)) k ++ up_to (gap_arc (circle_list set) k c phis) m) (sym (add-one i));
-      }
+  first_gap = append-nil (before_member points S set k)
 
-  -- with an arc, which is put in the next place, or with none
-  pub gaps_with : (kept : Bool) (arc : BoundaryArc) → i < many → cond kept (arc ∷ []) [] ≡ gap_arc (circle_list set) k c phis i → kept ≡ true
-      → Gaps-to points S set n k c phis many (put all held arc) (held + 1) (i + 1)
-  gaps_with kept arc h e t =
-      gaps_more (put all held arc) (held + 1) h (length-set all held arc ∙ g.places) (omega arith)
-      (rw (add-one held, take-suc-set all held arc (omega (arith, gap_free h, g.places)), ← e, t))
-
-  pub gaps_without : (kept : Bool) (arc : BoundaryArc) → i < many → cond kept (arc ∷ []) [] ≡ gap_arc (circle_list set) k c phis i → kept ≡ false
-      → Gaps-to points S set n k c phis many all held (i + 1)
-  gaps_without kept arc h e t = gaps_more all held h g.places (omega arith) (rw (← e, t) (sym (append-nil (take held all))))
-
-  -- all gaps: the member at k is done
-  pub gaps_all : many ≤ i → Members-to points S set n all held (k + 1)
+  pub next_gap : (i : ℕ) (arcs : List BoundaryArc) → arcs ≡ gap_arc (circle_list set) k c phis i
+      → before_gap points S set k c phis i ++ arcs ≡ before_gap points S set k c phis (i + 1)
   unfolding up_to
-  gaps_all h =
-      record {
-        ten_heads = g.ten_heads;
-        ten_circles = g.ten_circles;
-        count = g.count;
-        most = omega (arith, g.most);
-        within = omega (arith, g.below);
-        places = g.places;
-        room = omega (arith, g.room, g.within, g.few);
-        arcs =
-            g.arcs
-            ∙ ap (λ l. up_to (arcs_of points S (head_list set) (circle_list set)) k ++ l) last
-            ∙ ap (up_to (arcs_of points S (head_list set) (circle_list set))) (sym (add-one k));
-      }
+  next_gap i arcs e =
+      append_assoc (before_member points S set k) (up_to (gap_arc (circle_list set) k c phis) i) arcs
+      ∙ ap (λ t. before_member points S set k ++ (up_to (gap_arc (circle_list set) k c phis) i ++ t)) e
+      ∙ ap (λ m. before_member points S set k ++ up_to (gap_arc (circle_list set) k c phis) m) (sym (add-one i))
+
+  -- past the last gap the member at k is done
+  pub last_gap : k < set.n → c ≡ get_or set.circles k no_circle → phis ≡ sorted (map (angle_about c) (points_for points S (get_or set.heads k 0)))
+      → before_gap points S set k c phis (max 1 (length phis)) ≡ before_member points S set (k + 1)
+  unfolding up_to
+  last_gap below ec ep =
+      ap (λ l. before_member points S set k ++ l) (sym (arcs_by_gaps (circle_list set) k c phis) ∙ own)
+      ∙ ap (up_to (arcs_of points S (head_list set) (circle_list set))) (sym (add-one k))
     where
-      last : up_to (gap_arc (circle_list set) k c phis) i ≡ arcs_of points S (head_list set) (circle_list set) k
-      last =
-          let e : i ≡ max 1 (length phis) = omega (arith, h, g.within, g.gaps) in
-          ap (up_to (gap_arc (circle_list set) k c phis)) e ∙ sym (arcs_by_gaps (circle_list set) k c phis) ∙ g.own
+      own : arcs_at (circle_list set) k c phis ≡ arcs_of points S (head_list set) (circle_list set) k
+      own = rw (ep, ec, get_or-take set.n set.circles k no_circle below, get_or-take set.n set.heads k 0 below)

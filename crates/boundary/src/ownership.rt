@@ -16,9 +16,7 @@ use intersections::members::Members;
 fn circle_implicit_value(p: Point, c: Circle) -> f64
     ensures { result ≡ implicit_value p c }
 {
-    let dx = p.x - c.center.x;
-    let dy = p.y - c.center.y;
-    (dx * dx + dy * dy) / (c.radius * c.radius)
+    squared_offset(p, c) / (c.radius * c.radius)
 }
 
 // The squared distance of a point from the centre: what the implicit form divides.
@@ -44,26 +42,16 @@ fn tolerance(c: Circle) -> f64
 fn measured(r: f64, squared: f64) -> bool
     ensures { result ≡ true → Measured r squared }
 {
-    if 1.0 <= r {
-        if r < 1048576.0 {
-            if 0.0 <= squared {
-                return squared < 18446744073709551616.0;
-            }
-        }
-    }
-    false
+    1.0 <= r && r < 1048576.0 && 0.0 <= squared && squared < 18446744073709551616.0
 }
 
-// Whether the point at this squared distance is seen to be beyond the circle: then neither the implicit form nor the tolerance, a division
-// each, is worked out.
+// Whether the point at this squared distance is seen to be beyond the circle: then neither the implicit form nor the
+// tolerance, a division each, is worked out.
 fn far_out(squared: f64, c: Circle) -> bool
     ensures { result ≡ true → (one64 +ᶠ tolerance c <ᶠ squared /ᶠ (c.radius *ᶠ c.radius)) ≡ true }
 {
     let r = c.radius;
-    if measured(r, squared) {
-        return r * r * 1.0009765625 < squared;
-    }
-    false
+    measured(r, squared) && r * r * 1.0009765625 < squared
 }
 
 // Whether it is seen to be well within the circle.
@@ -71,10 +59,7 @@ fn far_in(squared: f64, c: Circle) -> bool
     ensures { result ≡ true → FarIn squared c }
 {
     let r = c.radius;
-    if measured(r, squared) {
-        return squared < r * r * 0.9990234375;
-    }
-    false
+    measured(r, squared) && squared < r * r * 0.9990234375
 }
 
 // The member at l, whose circle is c, lets the one at k have the point p.
@@ -97,7 +82,7 @@ pub fn lets(k: usize, p: Point, l: usize, c: Circle) -> bool
         return false;
     }
     if abs(v - 1.0) <= eps {
-        return !(l < k);
+        return k <= l;
     }
     true
 }
@@ -106,16 +91,8 @@ pub fn lets(k: usize, p: Point, l: usize, c: Circle) -> bool
 pub(crate) fn owned(k: usize, p: Point, set: Members) -> bool
     ensures { result ≡ owned k p (circle_list set) }
 {
-    let n = set.n;
-    let mut l: usize = 0;
-    while l < 10 {
-        if n <= l {
-            return true;
-        }
-        if !lets(k, p, l, set.circles[l]) {
-            return false;
-        }
-        l += 1;
-    }
-    true
+    set.circles[..set.n.min(10)]
+        .iter()
+        .enumerate()
+        .all(|(l, c)| lets(k, p, l, *c))
 }

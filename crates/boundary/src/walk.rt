@@ -1,5 +1,5 @@
-// The walk round a set: the arcs of its outline, member by member, each once. Everything that adds up a set's arcs adds up this list.
-// Rests on `outline` of specs/Outline.antt.
+// The walk round a set: the arcs of its outline, member by member, each once. Everything that adds up a set's arcs
+// adds up this list. Rests on `outline` of specs/Outline.antt.
 ghost use Rattle.std.specs.Prelude.{◌≡◌, cond, [], eqb, length};
 ghost use Rattle.boundary.specs.Outline.{outline, outline_from};
 ghost use Rattle.intersections.specs.Members.{members_with};
@@ -17,48 +17,39 @@ fn looked_at(set: Members, points: Intersections) -> Intersections
     ensures { point_list result ≡ cond (eqb set.n 1) [] (point_list points) }
 {
     if set.n == 1 {
-        let all = points.all;
-        return Intersections { n: 0, all: all };
+        return Intersections { n: 0, ..points };
     }
     points
 }
 
 // The arcs of the members one after another, each with the position of its member.
 fn walk(mask: usize, set: Members, points: Intersections) -> Outline
-    ensures result_value { outline_list result ≡ outline_from (circle_list set) 0 (members_with (point_list points) mask (head_list set) (circle_list set)) }
+    ensures result_value { outline_list result
+        ≡ outline_from (circle_list set) 0 (members_with (point_list points) mask (head_list set) (circle_list set)) }
     ensures n_value { result.n ≡ length (outline_list result) }
 {
-    let n = set.n;
-    let filler = full_circle(0, set.circles[0]);
-    let mut all = [filler; 320];
-    let mut held: usize = 0;
-    let mut k: usize = 0;
-    while k < 10 {
-        if n <= k {
-            return Outline { n: held, all: all };
-        }
+    let mut all = [full_circle(0, set.circles[0]); 320];
+    let mut held = 0;
+    for k in 0..set.n.min(10) {
         let circle = set.circles[k];
         let angles = angles_for(mask, set.heads[k], circle, points);
-        let many = gaps(angles);
-        let mut i: usize = 0;
-        while i < many {
-            let found = arc_from(k, circle, angles, i, set);
-            let arc = found.arc;
-            if found.kept {
+        for i in 0..gaps(angles) {
+            if let Some(arc) = arc_from(k, circle, angles, i, set) {
                 all[held] = arc;
                 held += 1;
             }
-            i += 1;
         }
-        k += 1;
     }
-    Outline { n: held, all: all }
+    Outline { n: held, all }
 }
 
-// The arcs of a set's outline in order, each with the position of its member. There is room for all, whatever the points are.
+// The arcs of a set's outline in order, each with the position of its member. There is room for all, whatever the
+// points are.
 pub fn outline_of(mask: usize, set: Members, points: Intersections) -> Outline
-    ensures result_value { outline_list result ≡ outline (members_with (point_list points) mask (head_list set) (circle_list set)) }
-    ensures n_value { result.n ≡ length (outline (members_with (point_list points) mask (head_list set) (circle_list set))) }
+    ensures result_value { outline_list result
+        ≡ outline (members_with (point_list points) mask (head_list set) (circle_list set)) }
+    ensures n_value { result.n
+        ≡ length (outline (members_with (point_list points) mask (head_list set) (circle_list set))) }
 {
     walk(mask, set, looked_at(set, points))
 }
@@ -67,15 +58,8 @@ pub fn outline_of(mask: usize, set: Members, points: Intersections) -> Outline
 pub fn outline_from(arcs: Arcs) -> Outline
     ensures { outline_list result ≡ arc_list arcs }
 {
-    let n = arcs.n;
+    let n = arcs.n.min(180);
     let mut all = [arcs.all[0]; 320];
-    let mut i: usize = 0;
-    while i < 180 {
-        if n <= i {
-            return Outline { n: i, all: all };
-        }
-        all[i] = arcs.all[i];
-        i += 1;
-    }
-    Outline { n: i, all: all }
+    all[..n].copy_from_slice(&arcs.all[..n]);
+    Outline { n, all }
 }

@@ -1,7 +1,9 @@
-// Runs the plan library over a list of trials from standard input, up to 65,536 bytes, and prints every answer. Each trial is
-// a plan file (0, its length in two bytes, its bytes) or a call in memory (1, n, an edit's head number, 37 numbers of four
-// bytes: the box, ten heads, the edit's x, y and radius; a byte for the gradients that the call writes, 0 for none, 1 for rows in the
-// box, 2 for rows without it; and two numbers of two bytes: rows and gradients lent). Numbers are little-endian. The stored input and what it must print are worked out by tests/plan/trials.py from document 01.
+// Runs the plan library over a list of trials from standard input, up to 65,536 bytes, and prints every answer. Each
+// trial is a plan file (0, its length in two bytes, its bytes) or a call in memory (1, n, an edit's head number, 37
+// numbers of four bytes: the box, ten heads, the edit's x, y and radius; a byte for the gradients that the call writes,
+// 0 for none, 1 for rows in the box, 2 for rows without it; and two numbers of two bytes: rows and gradients lent).
+// Numbers are little-endian. The stored input and what it must print are worked out by tests/plan/trials.py from
+// document 01.
 #![tactic(auto)]
 
 ghost use Rattle.std.specs.Prelude.{◌≡◌, ◌∷◌, ◌<◌, ◌≤◌, length, false, IfOk, OnOk};
@@ -9,22 +11,26 @@ ghost use Rattle.std.specs.Int.{w32, cast_unsigned};
 ghost use Rattle.std.specs.Fmt.{digits};
 ghost use Rattle.std.specs.Io.KnownBytes.{Appends};
 
-use file::reader::{Handed, Reader};
+use file::reader::{Completed, Reader};
 use file::{fields, reader};
 use heads::Head;
 use plan::{Answer, Edit, Gradients, Ground, Lent, Plan, book, check};
 use std::io;
 use std::io::{BufWriter, Read, Write};
 
+// The bytes of a call in memory, after the one that says what it is.
+const CALL: usize = 155;
+
+// Byte i, and 0 past the end.
 fn byte_at(s: &[u8], i: usize) -> u8 {
-    if i < s.len() { s[i] } else { 0 }
+    s.get(i).copied().unwrap_or(0)
 }
 
 fn short_at(s: &[u8], i: usize) -> usize
     requires { i < 1000000 }
     ensures { result < 65536 }
 {
-    (byte_at(s, i) as usize) + (byte_at(s, i + 1) as usize) * 256
+    u16::from_le_bytes([byte_at(s, i), byte_at(s, i + 1)]) as usize
 }
 
 fn int_at(s: &[u8], i: usize) -> i32
@@ -38,101 +44,73 @@ fn int_at(s: &[u8], i: usize) -> i32
     )
 }
 
-// The bits of a signed number.
-fn bits(z: i32) -> u32
-    ensures { result ≡ cast_unsigned w32 z }
-{
-    if 0 <= z {
-        z as u32
-    } else {
-        4294967295 - ((-1 - z) as u32)
-    }
-}
-
 // A space and the bits, in hexadecimal with no zero in front.
 fn print_int<W: Write>(out: &mut W, z: i32) -> io::Result<()>
     ensures { OnOk result (Appends (W.contents out.old) (W.contents out.new) (32 ∷ digits 16 false (cast_unsigned w32 z))) }
 {
-    write!(out, " {:x}", bits(z))
+    write!(out, " {z:x}")
 }
 
-fn print_head<W: Write>(out: &mut W, h: Head) -> io::Result<()> {
-    print_int(out, h.x)?;
-    print_int(out, h.y)?;
-    print_int(out, h.radius)
-}
-
-fn print_plan<W: Write>(out: &mut W, plan: Plan) -> io::Result<()> {
-    write!(out, "plan {}", plan.n)?;
-    let g = plan.ground;
-    print_int(out, g.x)?;
-    print_int(out, g.y)?;
-    print_int(out, g.width)?;
-    print_int(out, g.height)?;
-    let heads = plan.heads;
-    print_heads(out, heads)?;
-    out.write_all(b"\n")
-}
-
-fn print_heads<W: Write>(out: &mut W, heads: [Head; 10]) -> io::Result<()> {
-    for h in heads {
-        print_head(out, h)?;
+fn print_ints<W: Write>(out: &mut W, numbers: &[i32]) -> io::Result<()> {
+    for z in numbers {
+        print_int(out, *z)?;
     }
     Ok(())
 }
 
+// Plans and edits are printed here and not by a Display of theirs: the form is this program's own.
+fn print_plan<W: Write>(out: &mut W, plan: Plan) -> io::Result<()> {
+    write!(out, "plan {}", plan.n)?;
+    let Ground {
+        x,
+        y,
+        width,
+        height,
+    } = plan.ground;
+    print_ints(out, &[x, y, width, height])?;
+    for h in plan.heads {
+        print_ints(out, &[h.x, h.y, h.radius])?;
+    }
+    out.write_all(b"\n")
+}
+
 fn print_edit<W: Write>(out: &mut W, edit: Edit) -> io::Result<()> {
     write!(out, "edit {}", edit.head)?;
-    print_int(out, edit.x)?;
-    print_int(out, edit.y)?;
-    print_int(out, edit.radius)?;
+    print_ints(out, &[edit.x, edit.y, edit.radius])?;
     out.write_all(b"\n")
 }
 
 fn print_answer<W: Write>(out: &mut W, answer: Answer) -> io::Result<()> {
-    match answer {
-        Answer::Taken => writeln!(out, "taken"),
-        Answer::Refused(_, _) => {
-            let number = plan::answer_number(answer);
-            let offset = plan::answer_offset(answer);
-            writeln!(out, "refused {number} at {offset}")
-        }
+    if answer.is_ok() {
+        return writeln!(out, "taken");
     }
+    let number = plan::answer_number(answer);
+    let offset = plan::answer_offset(answer);
+    writeln!(out, "refused {number} at {offset}")
 }
 
 // What the last byte completed.
 fn print_handed<W: Write>(out: &mut W, r: Reader) -> io::Result<()> {
-    let handed = r.handed;
-    let plan = r.plan;
-    match handed {
-        Handed::Nothing => Ok(()),
-        Handed::ThePlan => print_plan(out, plan),
-        Handed::AnEdit(edit) => print_edit(out, edit),
+    match r.handed {
+        None => Ok(()),
+        Some(Completed::ThePlan) => print_plan(out, r.plan),
+        Some(Completed::AnEdit(edit)) => print_edit(out, edit),
     }
 }
 
-// A plan file: what is handed out, the answer, the plan left where it is taken; and the answer again, fed in two pieces.
+// A plan file: what is handed out, the answer, the plan left where it is taken; and the answer again, fed in two
+// pieces.
 fn run_file<W: Write>(out: &mut W, s: &[u8]) -> io::Result<()> {
     let mut r = reader::start();
     for b in s {
         r = reader::step(r, *b);
         print_handed(out, r)?;
     }
-    print_end(out, r)?;
-    print_fed(out, s)
-}
-
-fn print_end<W: Write>(out: &mut W, r: Reader) -> io::Result<()> {
     let answer = reader::finish(r);
-    let plan = r.plan;
     print_answer(out, answer)?;
-    match answer {
-        Answer::Taken => print_plan(out, plan),
-        Answer::Refused(_, _) => Ok(()),
+    if answer.is_ok() {
+        print_plan(out, r.plan)?;
     }
-}
-
-fn print_fed<W: Write>(out: &mut W, s: &[u8]) -> io::Result<()> {
     let half = s.len() / 2;
     let first = reader::feed(reader::start(), &s[..half]);
     let whole = reader::feed(first, &s[half..]);
@@ -140,32 +118,27 @@ fn print_fed<W: Write>(out: &mut W, s: &[u8]) -> io::Result<()> {
 }
 
 fn heads_at(s: &[u8]) -> [Head; 10] {
-    let none = Head {
+    let mut heads = [Head {
         x: 0,
         y: 0,
         radius: 0,
-    };
-    let mut heads = [none; 10];
-    for i in 0..10 {
+    }; 10];
+    for (i, h) in heads.iter_mut().enumerate() {
         let at = 18 + 12 * i;
-        let h = Head {
+        *h = Head {
             x: int_at(s, at),
             y: int_at(s, at + 4),
             radius: int_at(s, at + 8),
         };
-        heads[i] = h;
     }
     heads
 }
 
 fn gradients_of(kind: u8) -> Gradients {
-    if kind == 0 {
-        return Gradients::None;
-    }
-    if kind == 1 {
-        Gradients::Clipped
-    } else {
-        Gradients::Open
+    match kind {
+        0 => Gradients::None,
+        1 => Gradients::Clipped,
+        _ => Gradients::Open,
     }
 }
 
@@ -177,11 +150,10 @@ fn run_call<W: Write>(out: &mut W, s: &[u8]) -> io::Result<()> {
         width: int_at(s, 10),
         height: int_at(s, 14),
     };
-    let heads = heads_at(s);
     let plan = Plan {
-        ground: ground,
+        ground,
         n: byte_at(s, 0) as usize,
-        heads: heads,
+        heads: heads_at(s),
     };
     let edit = Edit {
         head: byte_at(s, 1) as usize,
@@ -196,16 +168,10 @@ fn run_call<W: Write>(out: &mut W, s: &[u8]) -> io::Result<()> {
     };
     print_answer(out, check::check(plan))?;
     print_answer(out, check::check_call(plan, gradients, lent))?;
-    print_entered(out, plan, edit, lent)
-}
-
-fn print_entered<W: Write>(out: &mut W, plan: Plan, edit: Edit, lent: Lent) -> io::Result<()> {
     print_answer(out, check::decide(plan, edit, lent))?;
     let booked = book::enter(plan, edit, lent);
-    let answer = booked.answer;
-    let after = booked.plan;
-    print_answer(out, answer)?;
-    print_plan(out, after)
+    print_answer(out, booked.answer)?;
+    print_plan(out, booked.plan)
 }
 
 // One trial from the front of s; how many bytes it has.
@@ -213,21 +179,21 @@ fn trial<W: Write>(out: &mut W, s: &[u8]) -> io::Result<usize>
     requires { 0 < length s.now }
     ensures { IfOk result (λ n. (0 < n) × (n ≤ length s.now)) }
 {
-    if s[0] == 0 {
-        let end = 3 + short_at(s, 1);
-        if s.len() < end {
-            return Ok(s.len());
-        }
-        run_file(out, &s[3..end])?;
-        return Ok(end);
-    }
-    if s.len() < 156 {
+    let file = s[0] == 0;
+    let from = if file { 3 } else { 1 };
+    let end = from + if file { short_at(s, 1) } else { CALL };
+    if s.len() < end {
         return Ok(s.len());
     }
-    run_call(out, &s[1..156])?;
-    Ok(156)
+    if file {
+        run_file(out, &s[from..end])?;
+    } else {
+        run_call(out, &s[from..end])?;
+    }
+    Ok(end)
 }
 
+// A trial says how long it is, so the index goes on by that.
 fn run<W: Write>(out: &mut W, s: &[u8]) -> io::Result<()> {
     let mut at: usize = 0;
     while at < s.len() {

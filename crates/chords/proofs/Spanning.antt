@@ -10,7 +10,7 @@ use borrow.Author.Tests.{eq-eqb, ne_eqb}
 use lib.Bits.{bit_and}
 use lib.ListN.{length, get_or}
 use lib.Pow.{pow_mono}
-use lib.Ieee.{Float, nan}
+use lib.Ieee.{Float}
 use Rattle.masks.specs.Mask.{in_set, every, subset, Subset}
 use Rattle.masks.specs.Gather.{in_gather}
 use Rattle.masks.specs.Subset.{and_test, subset_head}
@@ -22,7 +22,8 @@ use Rattle.intersections.specs.Members.{heads_of, circle_at}
 use Rattle.intersections.proofs.Masks.{every_cong}
 use Rattle.inside.specs.Span.{Interval, misses, missed, half_chord, raised, lowered, low_end, high_end, open-between, horizontal_span, vertical_span, seen}
 use Rattle.inside.proofs.Spanning.{seen_level, seen_upright}
-use Rattle.chords.specs.Chords.{upright_edge, line_of, reach_of, low_of, high_of, low_to, high_to, span_from, edge_from, Chorded}
+use Rattle.chords.specs.declared.fill.Chords.{Chords}
+use Rattle.chords.specs.Chords.{upright_edge, line_of, reach_of, low_of, high_of, low_to, high_to, span_from, lows_of, highs_of, edge_from, Chorded}
 use Rattle.chords.proofs.Heads.{heads_with, heads_without}
 
 module _ (y : Float) where
@@ -133,8 +134,8 @@ module _ (y : Float) where
 
 -- ---- the span of an edge, from what the arrays hold
 
-module _ (box : Bounds) (circles : List Circle) (n S : ℕ) (reach : List ℕ) (low high : List Float)
-    (many : length circles ≡ n) (few : n ≤ 10) (below : S < 2 ^ n) (held : Chorded box circles S reach low high) where
+module _ (box : Bounds) (circles : List Circle) (n S : ℕ) (chords : Chords)
+    (many : length circles ≡ n) (few : n ≤ 10) (below : S < 2 ^ n) (held : Chorded box circles S chords) where
   abbrev own : List Circle
   own = map (circle_at circles) (heads_of (length circles) S)
 
@@ -149,12 +150,12 @@ module _ (box : Bounds) (circles : List Circle) (n S : ℕ) (reach : List ℕ) (
     circ l = seen (upright_edge e) (circle_at circles l)
 
     abbrev lows : ℕ → Float
-    lows l = get_or low (e * 10 + l) nan
+    lows = lows_of chords e
 
     abbrev highs : ℕ → Float
-    highs l = get_or high (e * 10 + l) nan
+    highs = highs_of chords e
 
-    reach_is : every (length circles) (λ l. not (in_set S l) || not (misses y (circ l))) ≡ subset (length circles) S (get_or reach e 0)
+    reach_is : every (length circles) (λ l. not (in_set S l) || not (misses y (circ l))) ≡ subset (length circles) S (get_or chords.reach e 0)
     unfolding reach_of
     reach_is =
         rw (held.reaches e edge)
@@ -184,34 +185,34 @@ module _ (box : Bounds) (circles : List Circle) (n S : ℕ) (reach : List ℕ) (
     chosen false a b = refl
 
     -- as the edge sees the circles of the set
-    span_is : horizontal_span y from to (map (seen upright) own) ≡ span_from (length circles) (get_or reach e 0) lows highs S from to
+    span_is : horizontal_span y from to (map (seen upright) own) ≡ span_from (length circles) (get_or chords.reach e 0) lows highs S from to
     unfolding horizontal_span span_from
     span_is =
         rw (map-map (seen upright) (circle_at circles) (heads_of (length circles) S))
         (chosen (missed y (map circ (heads_of (length circles) S))) [] _
         ∙ rw (
           missed_heads y circ S (length circles),
-          reach_is ∙ wider (get_or reach e 0),
+          reach_is ∙ wider (get_or chords.reach e 0),
           low_heads y circ S lows from (length circles) low_is,
           high_heads y circ S highs to (length circles) high_is,
         ))
 
   -- the four edges
-  pub bottom : edge_from (length circles) reach low high S 0 box.x_min box.x_max ≡ horizontal_span box.y_min box.x_min box.x_max own
+  pub bottom : edge_from (length circles) chords S 0 box.x_min box.x_max ≡ horizontal_span box.y_min box.x_min box.x_max own
   unfolding upright_edge line_of
   bottom =
       sym (span_is 0 (omega arith) box.x_min box.x_max) ∙ ap (horizontal_span box.y_min box.x_min box.x_max) (seen_level own)
 
-  pub right : edge_from (length circles) reach low high S 1 box.y_min box.y_max ≡ vertical_span box.x_max box.y_min box.y_max own
+  pub right : edge_from (length circles) chords S 1 box.y_min box.y_max ≡ vertical_span box.x_max box.y_min box.y_max own
   unfolding upright_edge line_of
   right = sym (span_is 1 (omega arith) box.y_min box.y_max) ∙ seen_upright box.x_max box.y_min box.y_max own
 
-  pub top : edge_from (length circles) reach low high S 2 box.x_min box.x_max ≡ horizontal_span box.y_max box.x_min box.x_max own
+  pub top : edge_from (length circles) chords S 2 box.x_min box.x_max ≡ horizontal_span box.y_max box.x_min box.x_max own
   unfolding upright_edge line_of
   top =
       sym (span_is 2 (omega arith) box.x_min box.x_max) ∙ ap (horizontal_span box.y_max box.x_min box.x_max) (seen_level own)
 
-  pub left : edge_from (length circles) reach low high S 3 box.y_min box.y_max ≡ vertical_span box.x_min box.y_min box.y_max own
+  pub left : edge_from (length circles) chords S 3 box.y_min box.y_max ≡ vertical_span box.x_min box.y_min box.y_max own
   unfolding upright_edge line_of
   left = sym (span_is 3 (omega arith) box.y_min box.y_max) ∙ seen_upright box.x_min box.y_min box.y_max own
 
@@ -246,8 +247,8 @@ module _ (low high : ℕ → Float) (S : ℕ) (from to : Float) where
   span_missed n reach fits e = rw (sym (and_test 64 S reach fits) ∙ ne_eqb (bit_and S reach) S e)
 
 -- fewer heads are asked for
-pub chorded_less : {box : Bounds} {circles : List Circle} {needed : ℕ} {reach : List ℕ} {low high : List Float} (S : ℕ) → Subset S needed
-    → Chorded box circles needed reach low high → Chorded box circles S reach low high
+pub chorded_less : {box : Bounds} {circles : List Circle} {needed : ℕ} {chords : Chords} (S : ℕ) → Subset S needed
+    → Chorded box circles needed chords → Chorded box circles S chords
 chorded_less {needed = needed} S within held =
     record {
       reaches = held.reaches;

@@ -1,14 +1,24 @@
--- The spans of the box's edges for a set, from the chords that each head cuts from each edge. The edges by number, counterclockwise
--- from the bottom: bottom, right, top, left.
-use Rattle.std.specs.Prelude.{ℕ, zero, suc, min, ◌+◌, ◌*◌, ◌/◌, ◌%◌, ◌<◌, Bool, true, not, cond, ◌≡◌, List, [], eqb, length, get_or, Float}
+-- The spans of the box's edges for a set, from the chords that each head cuts from each edge.
+use Rattle.std.specs.Prelude.{ℕ, zero, suc, ◌+◌, ◌*◌, ◌/◌, ◌%◌, ◌<◌, Bool, true, not, cond, ◌≡◌, List, [], eqb, length, get_or, Float}
 use Rattle.std.specs.Float.{nan}
-use Rattle.lists.specs.Written.{written}
 use Rattle.masks.specs.Mask.{in_set, subset, gather}
+use Rattle.binary64.specs.Constants.{zero64}
 use Rattle.binary64.specs.Floats.{◌+ᶠ◌, ◌-ᶠ◌}
 use Rattle.geometry.specs.declared.bounds.Bounds.{Bounds}
 use Rattle.geometry.specs.declared.circle.Circle.{Circle}
 use Rattle.intersections.specs.Members.{circle_at}
+use Rattle.chords.specs.declared.edges.BoxEdge.{BoxEdge}
+use Rattle.chords.specs.declared.edges.BoxEdge.TheVariants.{Bottom, Right, Top, Left}
+use Rattle.chords.specs.declared.fill.Chord.{Chord}
+use Rattle.chords.specs.declared.fill.Chords.{Chords}
 use Rattle.inside.specs.Span.{Interval, misses, half_chord, raised, lowered, open-between, seen}
+
+-- the number of an edge, counterclockwise from the bottom
+abbrev pub edge_number : BoxEdge → ℕ
+edge_number Bottom = 0
+edge_number Right = 1
+edge_number Top = 2
+edge_number Left = 3
 
 -- the vertical edges
 unfoldable pub upright_edge : ℕ → Bool
@@ -31,22 +41,19 @@ unfoldable pub high_of : Bounds → List Circle → ℕ → ℕ → Float
 unfolding half_chord seen upright_edge line_of
 high_of box circles e l = let c = seen (upright_edge e) (circle_at circles l) in c.center.x +ᶠ half_chord (line_of box e) c
 
--- ---- the slices that hold them: a place an edge, and ten places an edge
+-- both, of a circle
+unfoldable pub chord_of : Bounds → Circle → ℕ → Chord
+unfolding half_chord seen upright_edge line_of
+chord_of box circle e =
+    let c = seen (upright_edge e) circle in
+    let half = half_chord (line_of box e) c in
+    record { low = c.center.x -ᶠ half; high = c.center.x +ᶠ half }
 
--- the heads that reach each edge, for as many edges as there are places
-abbrev pub reach_written : Bounds → List Circle → List ℕ → List ℕ
-reach_written box circles reach = written (reach_of box circles) (min 4 (length reach)) reach
-
--- the places of the chords that both slices have
-abbrev pub chord_places : List Float → List Float → ℕ
-chord_places low high = min 40 (min (length low) (length high))
-
--- what place p holds afterwards: the end of head p % 10's chord with edge p / 10 if the head is needed, else what it held
-abbrev pub end_at : (ℕ → ℕ → Float) → ℕ → List Float → ℕ → Float
-end_at end needed ends p = cond (in_set needed (p % 10)) (end (p / 10) (p % 10)) (get_or ends p nan)
-
-abbrev pub ends_written : (ℕ → ℕ → Float) → ℕ → ℕ → List Float → List Float
-ends_written end needed places ends = written (end_at end needed ends) places ends
+-- place p, of ten an edge: the chord of head p % 10 with edge p / 10 if the head is needed, else 0 for both ends
+unfoldable pub chord_at : Bounds → List Circle → ℕ → ℕ → Chord
+unfolding chord_of
+chord_at box circles needed p =
+    cond (in_set needed (p % 10)) (chord_of box (circle_at circles (p % 10)) (p / 10)) (record { low = zero64; high = zero64 })
 
 -- ---- the spans for a set
 
@@ -66,12 +73,23 @@ unfoldable pub span_from : ℕ → ℕ → (ℕ → Float) → (ℕ → Float) �
 unfolding low_to high_to open-between
 span_from n reach low high S from to = cond (subset 64 S reach) (open-between (low_to low S from n) (high_to high S to n)) []
 
--- of edge e, from the slices
-abbrev pub edge_from : ℕ → List ℕ → List Float → List Float → ℕ → ℕ → Float → Float → List Interval
-edge_from n reach low high S e = span_from n (get_or reach e 0) (λ l. get_or low (e * 10 + l) nan) (λ l. get_or high (e * 10 + l) nan) S
+-- what no place holds
+abbrev pub no_chord : Chord
+no_chord = record { low = nan; high = nan }
 
--- What the arrays hold for the heads of `needed`: 10 places an edge.
-pub record Chorded (box : Bounds) (circles : List Circle) (needed : ℕ) (reach : List ℕ) (low high : List Float) : Type 0 where
-  pub reaches : (e : ℕ) → e < 4 → get_or reach e 0 ≡ reach_of box circles e
-  pub lows : (p : ℕ) → p < 40 → in_set needed (p % 10) ≡ true → get_or low p nan ≡ low_of box circles (p / 10) (p % 10)
-  pub highs : (p : ℕ) → p < 40 → in_set needed (p % 10) ≡ true → get_or high p nan ≡ high_of box circles (p / 10) (p % 10)
+-- the ends of the chords with edge e, ten places an edge
+abbrev pub lows_of : Chords → ℕ → ℕ → Float
+lows_of chords e l = (get_or chords.ends (e * 10 + l) no_chord).low
+
+abbrev pub highs_of : Chords → ℕ → ℕ → Float
+highs_of chords e l = (get_or chords.ends (e * 10 + l) no_chord).high
+
+-- of edge e, from what is held of the chords
+abbrev pub edge_from : ℕ → Chords → ℕ → ℕ → Float → Float → List Interval
+edge_from n chords S e = span_from n (get_or chords.reach e 0) (lows_of chords e) (highs_of chords e) S
+
+-- What is held for the heads of `needed`.
+pub record Chorded (box : Bounds) (circles : List Circle) (needed : ℕ) (chords : Chords) : Type 0 where
+  pub reaches : (e : ℕ) → e < 4 → get_or chords.reach e 0 ≡ reach_of box circles e
+  pub lows : (p : ℕ) → p < 40 → in_set needed (p % 10) ≡ true → (get_or chords.ends p no_chord).low ≡ low_of box circles (p / 10) (p % 10)
+  pub highs : (p : ℕ) → p < 40 → in_set needed (p % 10) ≡ true → (get_or chords.ends p no_chord).high ≡ high_of box circles (p / 10) (p % 10)

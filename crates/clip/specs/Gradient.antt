@@ -13,6 +13,7 @@ use Rattle.boundary.specs.Outline.{outline}
 use Rattle.outline.specs.Area.{add_at, sub_at}
 use Rattle.boundary.specs.declared.arcs.BoundaryArc.{BoundaryArc}
 use Rattle.clip.specs.declared.edges.Edge.{Edge}
+use Rattle.clip.specs.declared.slopes.Sum.{Sum}
 use Rattle.inside.specs.Span.{Interval, horizontal_span, vertical_span}
 use Rattle.inside.specs.Breaks.{breaks}
 use Rattle.lists.specs.Lists.{over_pairs}
@@ -26,6 +27,10 @@ pub record WithGradient : Type 0 where
 
 abbrev pub with_gradient : Float → List Float → WithGradient
 with_gradient s g = record { sum = s; grad = g }
+
+-- the sum and the gradient that code holds
+abbrev pub so_far : Sum → WithGradient
+so_far s = with_gradient s.total s.grad.now
 
 -- ---- arcs
 

@@ -3,16 +3,17 @@ ghost use Rattle.std.specs.Prelude.{◌≡◌, map, take, length};
 ghost use Rattle.binary64.specs.Constants.{zero64};
 ghost use Rattle.intersections.specs.Members.{heads_of, circle_at, members_of};
 ghost use Rattle.intersections.specs.Counted.{point_list, circle_list};
-ghost use Rattle.boundary.specs.Counted.{arc_list, outline_list};
+ghost use Rattle.boundary.specs.Counted.{arc_list};
 ghost use Rattle.inside.specs.Span.{spans};
 ghost use Rattle.clip.specs.Area.{empty_box, add_clipped_arc, add_clipped_arcs, add_span, add_edges, clipped_area_of, clipped_area};
 
-use boundary::arcs::{Arcs, BoundaryArc, Outline};
-use boundary::walk::{outline_from, outline_of};
+use crate::edges::edge_spans;
+use boundary::arcs::{Arcs, BoundaryArc};
+use boundary::walk::outline_of;
 use geometry::bounds::Bounds;
 use geometry::circle::Circle;
 use inside::parts::clipped_arc_integral;
-use inside::span::{Span, horizontal_edge_inside_interval, vertical_edge_inside_interval};
+use inside::span::Span;
 use intersections::members::{Members, members_of};
 use intersections::points::Intersections;
 
@@ -24,23 +25,13 @@ pub fn empty_box(bounds: Bounds) -> bool
 }
 
 // An arc's integral in the box, added to a sum; one of no circle adds nothing.
-fn add_clipped_arc(
-    total: f64,
-    bounds: Bounds,
-    circles: [Circle; 10],
-    n: usize,
-    arc: BoundaryArc,
-) -> f64
-    ensures { result ≡ add_clipped_arc bounds (take n circles) total arc }
+fn add_clipped_arc(total: f64, bounds: Bounds, circles: &[Circle], arc: BoundaryArc) -> f64
+    ensures { result ≡ add_clipped_arc bounds circles.now total arc }
 {
-    let at = arc.circle;
-    if n <= at {
-        return total;
+    match circles.get(arc.circle) {
+        Some(circle) => total + clipped_arc_integral(arc, *circle, bounds),
+        None => total,
     }
-    if 10 <= at {
-        return total;
-    }
-    total + clipped_arc_integral(arc, circles[at], bounds)
 }
 
 // A factor times the length of a span, added.
@@ -57,35 +48,21 @@ pub fn add_span(factor: f64, total: f64, span: Span) -> f64
 fn add_edges(total: f64, bounds: Bounds, set: Members) -> f64
     ensures { result ≡ add_edges bounds (circle_list set) total }
 {
-    let x_min = bounds.x_min;
-    let x_max = bounds.x_max;
-    let y_min = bounds.y_min;
-    let y_max = bounds.y_max;
-    let bottom = horizontal_edge_inside_interval(y_min, x_min, x_max, set);
-    let with_bottom = add_span(-y_min, total, bottom);
-    let right = vertical_edge_inside_interval(x_max, y_min, y_max, set);
-    let with_right = add_span(x_max, with_bottom, right);
-    let top = horizontal_edge_inside_interval(y_max, x_min, x_max, set);
-    let with_top = add_span(y_max, with_right, top);
-    let left = vertical_edge_inside_interval(x_min, y_min, y_max, set);
-    add_span(-x_min, with_top, left)
+    let on = edge_spans(bounds, set);
+    let with_bottom = add_span(-bounds.y_min, total, on.bottom);
+    let with_right = add_span(bounds.x_max, with_bottom, on.right);
+    let with_top = add_span(bounds.y_max, with_right, on.top);
+    add_span(-bounds.x_min, with_top, on.left)
 }
 
-// The arcs of an outline, added up.
-fn arcs_sum(arcs: Outline, bounds: Bounds, circles: [Circle; 10], n_sets: usize) -> f64
-    ensures { result ≡ add_clipped_arcs bounds (take n_sets circles) zero64 (outline_list arcs) }
+// Arcs of circles, added up.
+fn arcs_sum(arcs: &[BoundaryArc], bounds: Bounds, circles: &[Circle]) -> f64
+    ensures { result ≡ add_clipped_arcs bounds circles.now zero64 arcs.now }
 {
-    let n = arcs.n;
-    let mut total = 0.0;
-    let mut i: usize = 0;
-    while i < 320 {
-        if n <= i {
-            return total;
-        }
-        total = add_clipped_arc(total, bounds, circles, n_sets, arcs.all[i]);
-        i += 1;
-    }
-    total
+    arcs.iter().fold(
+        0.0,
+        |total, arc| add_clipped_arc(total, bounds, circles, *arc),
+    )
 }
 
 // The area in the box of the set `mask`, whose arcs are given.
@@ -101,7 +78,11 @@ pub fn area_from_clipped_arcs(
     if empty_box(bounds) {
         return 0.0;
     }
-    let total = arcs_sum(outline_from(arcs), bounds, circles, n_sets);
+    let total = arcs_sum(
+        &arcs.all[..arcs.n.min(180)],
+        bounds,
+        &circles[..n_sets.min(10)],
+    );
     0.5 * add_edges(total, bounds, members_of(mask, circles, n_sets))
 }
 
@@ -119,7 +100,11 @@ pub fn clipped_region_area(
         return 0.0;
     }
     let set = members_of(mask, circles, n_sets);
-    let theirs = set.circles;
-    let total = arcs_sum(outline_of(mask, set, points), bounds, theirs, set.n);
+    let arcs = outline_of(mask, set, points);
+    let total = arcs_sum(
+        &arcs.all[..arcs.n.min(320)],
+        bounds,
+        &set.circles[..set.n.min(10)],
+    );
     0.5 * add_edges(total, bounds, set)
 }

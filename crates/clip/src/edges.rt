@@ -1,13 +1,44 @@
-// The spans of the four edges of the box, summed together with their shares of the gradient. Rests on specs/Gradient.antt.
+// The spans of the four edges of the box, and their sum together with their shares of the gradient. Rests on specs/Gradient.antt.
 ghost use Rattle.std.specs.Prelude.{◌≡◌, min, ◌*◌, ◌≤◌};
 ghost use Rattle.intersections.specs.Counted.{circle_list};
-ghost use Rattle.inside.specs.Span.{spans};
-ghost use Rattle.clip.specs.Gradient.{with_gradient, moved, edge_slopes, add_span_with_gradient, bottom_edge, right_edge, top_edge, left_edge, add_edges_with_gradient};
+ghost use Rattle.inside.specs.Span.{spans, horizontal_span, vertical_span};
+ghost use Rattle.clip.specs.Gradient.{with_gradient, so_far, moved, edge_slopes, add_span_with_gradient, bottom_edge, right_edge, top_edge, left_edge, add_edges_with_gradient};
 
+use crate::slopes::Sum;
 use geometry::bounds::Bounds;
 use inside::span::{Span, horizontal_edge_inside_interval, vertical_edge_inside_interval};
-use intersections::members::{Members, at_most_ten};
+use intersections::members::Members;
 use outline::gradient::{add_at, sub_at};
+
+// The span of each edge of the box.
+#[derive(Clone, Copy)]
+pub(crate) struct EdgeSpans {
+    pub(crate) bottom: Span,
+    pub(crate) right: Span,
+    pub(crate) top: Span,
+    pub(crate) left: Span,
+}
+
+// The spans of the four edges for a set.
+pub(crate) fn edge_spans(bounds: Bounds, set: Members) -> EdgeSpans
+    ensures bottom { spans result.bottom ≡ horizontal_span bounds.y_min bounds.x_min bounds.x_max (circle_list set) }
+    ensures right { spans result.right ≡ vertical_span bounds.x_max bounds.y_min bounds.y_max (circle_list set) }
+    ensures top { spans result.top ≡ horizontal_span bounds.y_max bounds.x_min bounds.x_max (circle_list set) }
+    ensures left { spans result.left ≡ vertical_span bounds.x_min bounds.y_min bounds.y_max (circle_list set) }
+{
+    let Bounds {
+        x_min,
+        x_max,
+        y_min,
+        y_max,
+    } = bounds;
+    EdgeSpans {
+        bottom: horizontal_edge_inside_interval(y_min, x_min, x_max, set),
+        right: vertical_edge_inside_interval(x_max, y_min, y_max, set),
+        top: horizontal_edge_inside_interval(y_max, x_min, x_max, set),
+        left: vertical_edge_inside_interval(x_min, y_min, y_max, set),
+    }
+}
 
 // x added to entry i, or taken from it.
 fn moved(grad: &mut [f64], added: bool, i: usize, x: f64)
@@ -42,26 +73,41 @@ fn edge_slopes(grad: &mut [f64], edge: Edge, at: usize, l: f64)
     moved(grad, edge.upright, at + 3, share);
 }
 
-// The span of an edge, added.
-fn add_span_with_gradient(total: f64, grad: &mut [f64], edge: Edge, at: usize, span: Span) -> f64
-    requires { at ≤ 30 }
-    ensures { with_gradient result grad.new ≡ add_span_with_gradient edge at (with_gradient total grad.old) (spans span) }
-{
-    match span {
-        Span::None => total,
-        Span::Ends(lo, hi) => {
+impl Sum<'_> {
+    // The span of an edge, added.
+    fn add_span(&mut self, edge: Edge, at: usize, span: Span)
+        requires { at ≤ 30 }
+        ensures same_reference { self.new.grad.ghost_name ≡ self.old.grad.ghost_name }
+        ensures added { so_far self.new ≡ add_span_with_gradient edge at (so_far self.old) (spans span) }
+    {
+        if let Span::Ends(lo, hi) = span {
             let l = hi - lo;
-            edge_slopes(grad, edge, at, l);
-            total + edge.factor * l
+            edge_slopes(self.grad, edge, at, l);
+            self.total += edge.factor * l;
         }
+    }
+
+    // The spans of the four edges, counterclockwise from the bottom, added.
+    pub(crate) fn add_edges(&mut self, bounds: Bounds, set: Members, at: usize)
+        requires { at ≤ 30 }
+        ensures same_reference { self.new.grad.ghost_name ≡ self.old.grad.ghost_name }
+        ensures added { so_far self.new ≡ add_edges_with_gradient bounds (circle_list set) at (so_far self.old) }
+    {
+        let on = edge_spans(bounds, set);
+        self.add_span(bottom_edge(bounds), at, on.bottom);
+        self.add_span(right_edge(bounds), at, on.right);
+        self.add_span(top_edge(bounds), at, on.top);
+        self.add_span(left_edge(bounds), at, on.left);
     }
 }
 
-// The same, the box's four entries after three a head of n, of which at most ten count.
+// The span of an edge, added: the box's four entries after three a head of n, of which at most ten count.
 pub fn add_edge_with_gradient(total: f64, grad: &mut [f64], edge: Edge, n: usize, span: Span) -> f64
     ensures { with_gradient result grad.new ≡ add_span_with_gradient edge (min n 10 * 3) (with_gradient total grad.old) (spans span) }
 {
-    add_span_with_gradient(total, grad, edge, at_most_ten(n) * 3, span)
+    let mut sum = Sum { total, grad };
+    sum.add_span(edge, n.min(10) * 3, span);
+    sum.total
 }
 
 pub fn bottom_edge(bounds: Bounds) -> Edge
@@ -106,29 +152,4 @@ pub fn left_edge(bounds: Bounds) -> Edge
         factor: -bounds.x_min,
         across: bounds.x_max - bounds.x_min,
     }
-}
-
-// The spans of the four edges, counterclockwise from the bottom, added.
-pub(crate) fn add_edges_with_gradient(
-    total: f64,
-    grad: &mut [f64],
-    bounds: Bounds,
-    set: Members,
-    at: usize,
-) -> f64
-    requires { at ≤ 30 }
-    ensures { with_gradient result grad.new ≡ add_edges_with_gradient bounds (circle_list set) at (with_gradient total grad.old) }
-{
-    let x_min = bounds.x_min;
-    let x_max = bounds.x_max;
-    let y_min = bounds.y_min;
-    let y_max = bounds.y_max;
-    let bottom = horizontal_edge_inside_interval(y_min, x_min, x_max, set);
-    let with_bottom = add_span_with_gradient(total, grad, bottom_edge(bounds), at, bottom);
-    let right = vertical_edge_inside_interval(x_max, y_min, y_max, set);
-    let with_right = add_span_with_gradient(with_bottom, grad, right_edge(bounds), at, right);
-    let top = horizontal_edge_inside_interval(y_max, x_min, x_max, set);
-    let with_top = add_span_with_gradient(with_right, grad, top_edge(bounds), at, top);
-    let left = vertical_edge_inside_interval(x_min, y_min, y_max, set);
-    add_span_with_gradient(with_top, grad, left_edge(bounds), at, left)
 }

@@ -7,11 +7,10 @@ use native.Mathlib.Omega.{arith}
 use lib.Ieee.{Float, nan}
 use lib.IntN.{ℤ}
 use lib.ListN.{length}
+use Rattle.std.specs.Prelude.{Ok, Err}
 use Rattle.lists.specs.Run.{Step}
 use Rattle.lists.proofs.Writing.{written_before}
 use Rattle.binary64.specs.Constants.{zero64}
-use Rattle.plan.specs.declared.Answer.{Answer}
-use Rattle.plan.specs.declared.Answer.TheVariants.{Taken, Refused}
 use Rattle.plan.specs.declared.Gradients.{Gradients}
 use Rattle.plan.specs.declared.Gradients.TheVariants.{Clipped, Open}
 use Rattle.plan.specs.declared.Plan.{Plan}
@@ -20,7 +19,7 @@ use Rattle.plan.specs.declared.Refusal.TheVariants.{Ended, TooManyHeads, BitWith
 use Rattle.plan.specs.declared.Refusal.TheVariants.{SideOutside, RadiusOutside, NoSuchHead, TablesTooShort}
 use Rattle.plan.specs.Book.{leaves}
 use Rattle.plan.specs.Checks.{call_answer}
-use Rattle.plan.specs.Table.{gradient_width, open_gradient_width, answer_number, number_of}
+use Rattle.plan.specs.Table.{Answered, taken, gradient_width, open_gradient_width, answer_number, number_of}
 use Rattle.diagram.specs.Rows.{Slopes, is_there, area_at, slopes_at, exclusive_with, exclusive_slope}
 use Rattle.regions.specs.Edit.{absent, present, afresh_row}
 use Rattle.regions.specs.Table.{Method, afresh}
@@ -89,14 +88,14 @@ written_finite k j n g t f = record {
 -- the step of a taken call writes them
 module _ (k j : ℕ) (which : Gradients) (slopes : Plan → Slopes) (p : Plan) (t : GradientSlices) where
   step_finite : (width : ℕ) (areas : ℕ → Float) (rows : ℕ → List Float) → width ≡ (slopes p).width → ((S : ℕ) → areas S ≡ area_at (slopes p).rows S)
-      → ((S : ℕ) → rows S ≡ slopes_at (slopes p) S) → call_answer p which (lent_gradients t) ≡ Taken
+      → ((S : ℕ) → rows S ≡ slopes_at (slopes p) S) → call_answer p which (lent_gradients t) ≡ taken
       → GradientsFinite k j p.n width (is_there (slopes p).rows) areas rows → SlopesFinite k j p.n width (gradients_step which slopes p t).left
   step_finite width areas rows w a r taken f =
       let g = slopes p in
       let f₁ = subst (λ (z : ℕ → Float). GradientsFinite k j p.n width (is_there g.rows) z rows) (fun_ext a) f in
       let f₂ = subst (λ (z : ℕ → List Float). GradientsFinite k j p.n width (is_there g.rows) (area_at g.rows) z) (fun_ext r) f₁ in
       let f₃ = subst (λ (z : ℕ). GradientsFinite k j p.n z (is_there g.rows) (area_at g.rows) (slopes_at g)) w f₂ in
-      subst (λ (z : Answer). SlopesFinite k j p.n width (leaves z t (gradients_written p.n g t))) (sym taken)
+      subst (λ (z : Answered). SlopesFinite k j p.n width (leaves z t (gradients_written p.n g t))) (sym taken)
       (subst (λ (z : ℕ). SlopesFinite k j p.n z (gradients_written p.n g t)) (sym w) (written_finite k j p.n g t f₃))
 
 clipped_call : (sets : Plan → ℕ → Bool) → GradientsCall 46 35 gradient_width (clipped_step sets)
@@ -153,9 +152,9 @@ overlap_finite = (demand_one_of_calls plan_sets).overlap
 -- ---- from C
 
 -- an answer of 0 is that of a taken call
-zero_taken : (a : Answer) → answer_number a ≡ 0 → a ≡ Taken
-zero_taken Taken e = refl
-zero_taken (Refused r at) e = absurd (refused r e)
+zero_taken : (a : Answered) → answer_number a ≡ 0 → a ≡ taken
+zero_taken (Ok done) e = refl
+zero_taken (Err r) e = absurd (refused r.refusal e)
   where
     refused : (r : Refusal) → number_of r ≡ 0 → ⊥
     refused Ended e = omega arith
@@ -176,7 +175,7 @@ unfolding plan_of
 afresh_export j k m finite n sides heads t e =
     finite (record { plan = plan_of n sides heads; tables = t }) (ten n sides heads) (zero_taken _ e)
 
-gradients_export : (k j : ℕ) (width : ℕ → ℕ) (step : Plan → GradientSlices → Step GradientSlices Answer) → GradientsCall k j width step
+gradients_export : (k j : ℕ) (width : ℕ → ℕ) (step : Plan → GradientSlices → Step GradientSlices Answered) → GradientsCall k j width step
     → GradientsExport k j width step
 unfolding plan_of
 gradients_export k j width step finite n sides heads t e = finite (plan_of n sides heads) t (ten n sides heads) (zero_taken _ e)

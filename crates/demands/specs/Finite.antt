@@ -8,11 +8,9 @@ use Rattle.std.specs.Float.Ieee.{lt}
 use Rattle.lists.specs.Run.{Step}
 use Rattle.binary64.specs.Constants.{zero64}
 use Rattle.binary64.specs.Magnitude.{Most}
-use Rattle.plan.specs.declared.Answer.{Answer}
-use Rattle.plan.specs.declared.Answer.TheVariants.{Taken}
 use Rattle.plan.specs.declared.Plan.{Plan}
 use Rattle.plan.specs.Checks.{plan_answer}
-use Rattle.plan.specs.Table.{gradient_width, open_gradient_width, answer_number}
+use Rattle.plan.specs.Table.{Answered, taken, gradient_width, open_gradient_width, answer_number}
 use Rattle.regions.specs.Slices.{LentTables, PlanSlices, afresh_slices}
 use Rattle.regions.specs.Table.{Method}
 use Rattle.areas.specs.Sets.{plan_sets}
@@ -40,17 +38,17 @@ pub record SlopesFinite (k j n width : ℕ) (t : GradientSlices) : Type 0 where
 
 abbrev pub AfreshCall : ℕ → ℕ → Method → Type 0
 AfreshCall j k m =
-    (d : PlanSlices) → length d.plan.heads ≡ 10 → (afresh_slices m d).answer ≡ Taken
+    (d : PlanSlices) → length d.plan.heads ≡ 10 → (afresh_slices m d).answer ≡ taken
     → TablesFinite j k d.plan.n (afresh_slices m d).left.tables
 
-abbrev pub GradientsCall : ℕ → ℕ → (ℕ → ℕ) → (Plan → GradientSlices → Step GradientSlices Answer) → Type 0
+abbrev pub GradientsCall : ℕ → ℕ → (ℕ → ℕ) → (Plan → GradientSlices → Step GradientSlices Answered) → Type 0
 GradientsCall k j width step =
-    (p : Plan) (t : GradientSlices) → length p.heads ≡ 10 → (step p t).answer ≡ Taken
+    (p : Plan) (t : GradientSlices) → length p.heads ≡ 10 → (step p t).answer ≡ taken
     → SlopesFinite k j p.n (width p.n) (step p t).left
 
 -- what stands in the one number lent
 abbrev pub OverlapCall : Type 0
-OverlapCall = (p : Plan) (v : Float) → length p.heads ≡ 10 → plan_answer p ≡ Taken → Most 1440000000000 1074 (overlap_left p v)
+OverlapCall = (p : Plan) (v : Float) → length p.heads ≡ 10 → plan_answer p ≡ taken → Most 1440000000000 1074 (overlap_left p v)
 
 -- The five calls, over a list of sets. (The overlap has none.)
 pub record CallsFinite (sets : Plan → ℕ → Bool) : Type 0 where
@@ -71,7 +69,7 @@ AfreshExport j k m =
     → let d : PlanSlices = record { plan = plan_of n sides heads; tables = t } in
     answer_number (afresh_slices m d).answer ≡ 0 → TablesFinite j k n (afresh_slices m d).left.tables
 
-abbrev pub GradientsExport : ℕ → ℕ → (ℕ → ℕ) → (Plan → GradientSlices → Step GradientSlices Answer) → Type 0
+abbrev pub GradientsExport : ℕ → ℕ → (ℕ → ℕ) → (Plan → GradientSlices → Step GradientSlices Answered) → Type 0
 GradientsExport k j width step =
     (n : ℕ) (sides heads : List ℤ) (t : GradientSlices) → answer_number (step (plan_of n sides heads) t).answer ≡ 0
     → SlopesFinite k j n (width n) (step (plan_of n sides heads) t).left

@@ -5,6 +5,8 @@ use mathlib.Core.List.{List}
 use Prim.Native.Nat.{ℕ, min, ◌+◌, ◌*◌, ◌/◌, ◌%◌, ◌^◌, ◌≤◌, ◌<◌}
 use native.Mathlib.Nat.{le_refl, mod-lt}
 use native.Mathlib.Omega.{arith}
+use Rattle.std.proofs.Common.{Ok, Err}
+use Rattle.std.specs.Prelude.{Result, is_ok}
 use lib.Arith.{digits_div, digits_mod, digits_lt}
 use borrow.Author.Tests.{eq-eqb, le-ltb}
 use lib.Dec.{eqb, ltb}
@@ -13,10 +15,12 @@ use lib.ListN.{length, get_or, drop}
 use Rattle.lists.specs.Written.{written}
 use Rattle.lists.proofs.Writing.{length_written, written_before, written_cong, drop_written}
 use Rattle.masks.specs.Presence.{byte, stands, byte_stands}
-use Rattle.exclusive.specs.Exclusive.{exclusive_row, exclusives_in_place}
+use Rattle.exclusive.specs.declared.areas.RowsError.{RowsError}
+use Rattle.exclusive.specs.declared.areas.RowsError.TheVariants.{TablesTooShort}
+use Rattle.exclusive.specs.Exclusive.{rows_number, exclusive_row, exclusives_in_place}
 use Rattle.exclusive.specs.Entries.{entry}
 use Rattle.exclusive_gradients.specs.Gradient.{exclusive_with_gradient, gradient_entry, width_answer, gradient_answer, exclusive_areas, exclusive_gradients}
-use Rattle.exclusive.proofs.Answers.{room}
+use Rattle.exclusive.proofs.Answers.{room, fits as enough_rows}
 use Rattle.exclusive.proofs.TableRows.{by_row, place}
 use Rattle.exclusive.proofs.Unclamped.{exclusive_alike}
 use Rattle.diagram.proofs.Alike.{unless_alike}
@@ -99,8 +103,9 @@ module _ (n : ℕ) (r : Rows) (bytes : List ℕ) (numbers : List Float) (few : n
 -- there is room for the gradients too
 pub fits : (n width rows count : ℕ) → n ≤ 10 → 2 ^ n ≤ rows → 2 ^ n * width ≤ count → width_answer n width rows count ≡ 0
 fits n width rows count few h k =
-    ap (λ (a : ℕ). cond (eqb a 0) (cond (ltb count (2 ^ n * width)) 7 0) a) (sym (room n rows few h))
-    ∙ ap (λ (b : Bool). cond b 7 0) (le-ltb count (2 ^ n * width) k)
+    ap (λ (check : Result Unit RowsError). rows_number (cond (is_ok check) (cond (ltb count (2 ^ n * width)) (Err TablesTooShort) (Ok tt)) check))
+    (sym (enough_rows n rows few h))
+    ∙ ap (λ (b : Bool). rows_number (cond b (Err TablesTooShort) (Ok tt))) (le-ltb count (2 ^ n * width) k)
 
 module _ (n : ℕ) (g : Slopes) (bytes : List ℕ) (numbers gradients : List Float)
     (few : n ≤ 10) (hb : 2 ^ n ≤ length bytes) (hn : 2 ^ n ≤ length numbers) (hg : 2 ^ n * g.width ≤ length gradients) where

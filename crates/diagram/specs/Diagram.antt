@@ -1,13 +1,14 @@
 -- What the calls under the Rust's names leave in lent slices: of circles alone, and of circles in a box. Taken, rows 0 to 2^n - 1 are written;
 -- refused, by 2 for n above 10 and by 7 for tables too short, nothing is.
-use Rattle.std.specs.Prelude.{ℕ, min, cond, List, eqb, Float, length}
+use Rattle.std.specs.Prelude.{ℕ, min, cond, List, eqb, Float, length, Result}
 use Rattle.masks.specs.Presence.{stands}
 use Rattle.geometry.specs.declared.circle.Circle.{Circle}
 use Rattle.geometry.specs.declared.rectangle.Rectangle.{Rectangle}
 use Rattle.intersections.specs.Points.{collected}
 use Rattle.sets.specs.Regions.{set_bytes}
-use Rattle.exclusive.specs.Exclusive.{rows_answer}
-use Rattle.exclusive_gradients.specs.Gradient.{width_answer}
+use Rattle.exclusive.specs.declared.areas.RowsError.{RowsError}
+use Rattle.exclusive.specs.Exclusive.{rows_check, rows_answer}
+use Rattle.exclusive_gradients.specs.Gradient.{width_check, width_answer}
 use Rattle.diagram.specs.Rows.{Rows, Slopes, presence_written, exclusives_written, areas_written, slopes_written}
 use Rattle.diagram.specs.Drawing.{open_rows, clipped_rows, open_slopes, clipped_slopes}
 
@@ -28,6 +29,10 @@ clipped_with_gradients box circles = clipped_slopes circles (collected circles) 
 -- ---- presence bytes and exclusives in two slices
 
 module _ (n : ℕ) (rows : Rows) (bytes : List ℕ) (numbers : List Float) where
+  -- whether they are taken, and the number that this has
+  abbrev pub check : Result Unit RowsError
+  check = rows_check n (min (length bytes) (length numbers))
+
   abbrev pub answer : ℕ
   answer = rows_answer n (min (length bytes) (length numbers))
 
@@ -40,6 +45,9 @@ module _ (n : ℕ) (rows : Rows) (bytes : List ℕ) (numbers : List Float) where
 -- ---- presence bytes, exclusives and their gradients in three slices
 
 module _ (n : ℕ) (slopes : Slopes) (bytes : List ℕ) (numbers gradients : List Float) where
+  abbrev pub check_with : Result Unit RowsError
+  check_with = width_check n slopes.width (min (length bytes) (length numbers)) (length gradients)
+
   abbrev pub answer_with : ℕ
   answer_with = width_answer n slopes.width (min (length bytes) (length numbers)) (length gradients)
 

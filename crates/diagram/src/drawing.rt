@@ -5,7 +5,6 @@ ghost use Rattle.diagram.specs.Drawing as spec;
 use geometry::circle::Circle;
 use geometry::point::Point;
 use geometry::rectangle::Rectangle;
-use intersections::members::at_most_ten;
 use intersections::points::Intersections;
 
 // `boxed`: the rows are those in the box `container`; without it `container` is not looked at. `points`: the meeting points of the first n circles.
@@ -27,7 +26,7 @@ pub(crate) fn no_box() -> Rectangle {
 pub fn width_of(drawing: Drawing) -> usize
     ensures { result ≡ spec.width_of drawing }
 {
-    let heads = at_most_ten(drawing.n);
+    let heads = drawing.n.min(10);
     if drawing.boxed {
         return heads * 3 + 4;
     }

@@ -10,8 +10,7 @@ ghost use Rattle.diagram.specs.Rows.{in_row, area_at, slopes_at, presence_writte
 ghost use Rattle.diagram.specs.Drawing.{rows_of, slopes_by, box_area_of, box_row_of};
 
 use crate::drawing::Drawing;
-use intersections::members::at_most_ten;
-use sums::gradients::{clear, write_gradients};
+use sums::gradients::write_gradients;
 use sums::presence::{clear_absent, write_presence};
 use sums::rows::write_areas;
 
@@ -63,10 +62,10 @@ fn put_at(numbers: &mut [f64], i: usize, x: f64)
 fn write_box_row(drawing: Drawing, grad: &mut [f64])
     ensures { grad.new ≡ box_row_of (length grad.old) drawing }
 {
-    clear(grad);
+    grad.fill(0.0);
     if drawing.boxed {
         let container = drawing.container;
-        put_at(grad, at_most_ten(drawing.n) * 3 + 2, container.area());
+        put_at(grad, drawing.n.min(10) * 3 + 2, container.area());
     }
 }
 
@@ -92,7 +91,7 @@ pub(crate) fn write_rows_with_gradients(
     let container = drawing.container;
     let bounds = container.bounds();
     let end = (1usize << n) * width;
-    clear(&mut gradients[..end]);
+    gradients[..end].fill(0.0);
     write_gradients(
         boxed, circles, points, n, bounds, sets, width, areas, gradients,
     );

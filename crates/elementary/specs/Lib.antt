@@ -4,6 +4,7 @@ pub mod RootPromise
 pub mod RootSteps
 pub mod Sine
 pub mod SinePromise
+pub mod FixedSteps
 pub mod Arctangent
 pub mod ArctangentSteps
 pub mod ArctangentPromise

@@ -6,11 +6,11 @@ pub record Near (n q : ℕ) : Type 0 where
   pub above : q * q < n + q
   pub below : n ≤ q * q + q
 
--- a and b are s and n, both less the same number, unless b is 0.
+-- a and b are s and n, both less the same number.
 pub record Balanced (n s a b : ℕ) : Type 0 where
   pub left : a < 2 ^ 57
   pub right : b < 2 ^ 57
-  pub level : 0 < b → s + b ≡ n + a
+  pub level : s + b ≡ n + a
 
 -- n is m * 2 ^ lead / 2 ^ 52, where m has 53 digits: `lead` is the place of n's leading digit.
 pub record Leading (n m lead : ℕ) : Type 0 where

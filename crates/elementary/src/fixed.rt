@@ -1,25 +1,25 @@
-// Fixed-point steps that the recipes of sine, cosine and atan2 share: the upper half of a product, and a
-// step of Horner's rule.
-ghost use Rattle.std.specs.Prelude.{◌≡◌, ◌-◌, ◌≤◌};
+// Fixed-point steps that the recipes of sine, cosine and atan2 share: the upper half of a product, and Horner's rule.
+ghost use Rattle.std.specs.Prelude.{◌≡◌, ◌≤◌, IsTrue};
 ghost use Rattle.series.specs.Kernel.{mulhi as upper_half};
+ghost use Rattle.elementary.specs.FixedSteps.{from_last, rising};
 
-// The upper 64 of the 128 bits of a product, by the four products of the halves.
+// The upper 64 of the 128 bits of a product.
 pub(crate) fn mulhi(a: u64, b: u64) -> u64
-    ensures { (result ≡ upper_half a b) × (result ≤ b) }
+    ensures value { result ≡ upper_half a b }
+    ensures bound { result ≤ b }
 {
-    let a_low = a % 4294967296;
-    let a_high = a / 4294967296;
-    let b_low = b % 4294967296;
-    let b_high = b / 4294967296;
-    let middle = a_high * b_low + a_low * b_low / 4294967296;
-    let second = a_low * b_high + middle % 4294967296;
-    a_high * b_high + middle / 4294967296 + second / 4294967296
+    ((u128::from(a) * u128::from(b)) >> 64) as u64
 }
 
-// One step of Horner's rule: c less the product, cut.
-pub(crate) fn step(c: u64, z: u64, h: u64) -> u64
-    requires { h ≤ c }
-    ensures { (result ≡ c - upper_half z h) × (result ≤ c) }
+// Horner's rule in z on coefficients from that of the highest power to the constant: each less what the ones before it
+// gave, times z, cut.
+pub(crate) fn horner<const N: usize>(coefficients: &[u64; N], z: u64) -> u64
+    requires { IsTrue (rising coefficients.now) }
+    ensures { result ≡ from_last coefficients.now z }
 {
-    c - mulhi(z, h)
+    let mut h = 0;
+    for &c in coefficients {
+        h = c - mulhi(z, h);
+    }
+    h
 }

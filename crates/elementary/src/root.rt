@@ -1,14 +1,14 @@
 // The square root of an f64, correctly rounded, and hypot (specs/Root.antt). The root's 53 digits are
 // the whole number nearest to the root of a whole number of 105 or 106 digits: a guess by floats,
 // which exact integers test, and the root digit by digit where that fails.
-ghost use Rattle.std.specs.Prelude.{◌≡◌, ◌*◌, ◌^◌, ◌<◌, ◌≤◌, from_bits};
+ghost use Rattle.std.specs.Prelude.{◌≡◌, ◌*◌, ◌^◌, ◌<◌, ◌≤◌, IfSome, from_bits};
 ghost use Rattle.std.specs.Float.{binary64};
 ghost use Rattle.binary64.specs.Units.{mag};
-ghost use Rattle.elementary.specs.Root.{nearest_root, root as root_of, hypot as hypotOf};
+ghost use Rattle.elementary.specs.Root.{nearest_root, root as root_of, hypot as hypot_of};
 ghost use Rattle.elementary.specs.RootSteps.{Near, Balanced, Leading};
 
 // The bits of the positive infinity: those of the positive finite numbers lie below.
-const INFINITY: u64 = 0x7FF0_0000_0000_0000;
+const INFINITY: u64 = f64::to_bits(f64::INFINITY);
 
 // 2^52: the first of a normal number's 53 digits, which its bits leave out.
 const FIRST_DIGIT: u64 = 0x10_0000_0000_0000;
@@ -18,21 +18,18 @@ pub fn root(x: f64) -> f64
     ensures { result ≡ root_of x }
 {
     if 0.0 < x {
-        let bits = f64::to_bits(x);
-        if bits < INFINITY {
-            return positive(bits);
-        }
-        return 0.0;
+        let bits = x.to_bits();
+        if bits < INFINITY { positive(bits) } else { 0.0 }
+    } else if x == 0.0 {
+        x
+    } else {
+        0.0
     }
-    if x == 0.0 {
-        return x;
-    }
-    0.0
 }
 
 // The root of the sum of two squares, each step rounded.
 pub fn hypot(a: f64, b: f64) -> f64
-    ensures { result ≡ hypotOf a b }
+    ensures { result ≡ hypot_of a b }
 {
     root(a * a + b * b)
 }
@@ -51,17 +48,16 @@ fn split(bits: u64) -> Parts
 {
     let field = bits >> 52;
     if field == 0 {
-        let zeros = u64::leading_zeros(bits);
-        let shift = zeros - 11;
-        let lead = 63 - zeros;
-        return Parts {
-            digits: bits << shift,
-            lead: lead as u64,
-        };
-    }
-    Parts {
-        digits: bits % FIRST_DIGIT + FIRST_DIGIT,
-        lead: field + 51,
+        let zeros = bits.leading_zeros();
+        Parts {
+            digits: bits << (zeros - 11),
+            lead: u64::from(63 - zeros),
+        }
+    } else {
+        Parts {
+            digits: bits % FIRST_DIGIT + FIRST_DIGIT,
+            lead: field + 51,
+        }
     }
 }
 
@@ -72,9 +68,8 @@ fn positive(bits: u64) -> f64
     requires { (0 < bits) × (bits < 2047 * 2 ^ 52) }
     ensures { result ≡ root_of (from_bits binary64 bits) }
 {
-    let parts = split(bits);
-    let lead = parts.lead;
-    let digits = nearest(parts.digits << (lead % 2), guess(bits));
+    let Parts { digits, lead } = split(bits);
+    let digits = nearest(digits << (lead % 2), guess(bits));
     f64::from_bits(((lead / 2 + 485) << 52) + digits)
 }
 
@@ -108,12 +103,10 @@ fn nearest(m: u64, guess: f64) -> u64
     requires { (2 ^ 52 ≤ m) × (m < 2 ^ 54) }
     ensures { result ≡ nearest_root 53 (m * 2 ^ 52) }
 {
-    if 0.0 < guess {
-        let digits = f64::to_bits(guess) % FIRST_DIGIT + FIRST_DIGIT;
-        let q = settle(m, digits);
-        if 0 < q {
-            return q;
-        }
+    if 0.0 < guess
+        && let Some(q) = settle(m, guess.to_bits() % FIRST_DIGIT + FIRST_DIGIT)
+    {
+        return q;
     }
     nearest_by_digits(m)
 }
@@ -128,47 +121,34 @@ fn nearest_by_digits(m: u64) -> u64
     let mut digits = m << 10;
     let mut root: u64 = 0;
     let mut rest: u64 = 0;
-    let mut left: usize = 53;
-    while 0 < left {
+    for _ in 0..53u32 {
         rest = rest * 4 + (digits >> 62);
-        digits = digits << 2;
+        digits <<= 2;
         let square = root * 4 + 1;
-        root = root * 2;
+        root *= 2;
         if square <= rest {
-            rest = rest - square;
-            root = root + 1;
+            rest -= square;
+            root += 1;
         }
-        left = left - 1;
     }
     if rest <= root { root } else { root + 1 }
 }
 
-// The whole number nearest to the root of m * 2^52, if it is q or stands beside q; else 0.
-fn settle(m: u64, q: u64) -> u64
+// The whole number nearest to the root of m * 2^52, if it is q or stands beside q.
+fn settle(m: u64, q: u64) -> Option<u64>
     requires { (m < 2 ^ 54) × ((2 ^ 52 ≤ q) × (q < 2 ^ 53)) }
-    ensures { 0 < result → Near (m * 2 ^ 52) result }
+    ensures { IfSome result (λ r. Near (m * 2 ^ 52) r) }
 {
-    let scales = weigh(m, q);
-    let square = scales.square;
-    let radicand = scales.radicand;
-    if radicand == 0 {
-        return 0;
-    }
+    let Scales { square, radicand } = weigh(m, q)?;
     if radicand + q <= square {
         // the root is below the middle of q - 1 and q
-        if square + 2 < radicand + q * 3 {
-            return q - 1;
-        }
-        return 0;
-    }
-    if square + q < radicand {
+        (square + 2 < radicand + q * 3).then_some(q - 1)
+    } else if square + q < radicand {
         // the root is above the middle of q and q + 1
-        if radicand <= square + q * 3 + 2 {
-            return q + 1;
-        }
-        return 0;
+        (radicand <= square + q * 3 + 2).then_some(q + 1)
+    } else {
+        Some(q)
     }
-    q
 }
 
 // q * q and m * 2^52, both less the same number.
@@ -179,32 +159,22 @@ struct Scales {
 }
 
 // The square of q against m * 2^52, by exact products in halves: q * q is (high - 1) * 2^54 + low,
-// and m * 2^52 is m_high * 2^54 + (m % 4) * 2^52. Both are 0 where they are too far apart.
-fn weigh(m: u64, q: u64) -> Scales
+// and m * 2^52 is m_high * 2^54 + (m % 4) * 2^52. None where they are too far apart.
+fn weigh(m: u64, q: u64) -> Option<Scales>
     requires { (m < 2 ^ 54) × (q < 2 ^ 53) }
-    ensures { Balanced (m * 2 ^ 52) (q * q) result.square result.radicand }
+    ensures { IfSome result (λ s. Balanced (m * 2 ^ 52) (q * q) s.square s.radicand) }
 {
     let upper = q >> 27;
     let lower = q % 0x800_0000;
     let cross = upper * lower;
     let high = upper * upper + (cross >> 26) + 1;
     let low = ((cross % 0x400_0000) << 28) + lower * lower;
-    let m_high = m >> 2;
-    if high < m_high {
-        return Scales {
-            square: 0,
-            radicand: 0,
-        };
-    }
-    let ahead = high - m_high;
+    let ahead = high.checked_sub(m >> 2)?;
     if 2 < ahead {
-        return Scales {
-            square: 0,
-            radicand: 0,
-        };
+        return None;
     }
-    Scales {
+    Some(Scales {
         square: (ahead << 54) + low,
         radicand: (m % 4 + 4) << 52,
-    }
+    })
 }

@@ -1,26 +1,32 @@
--- What an answer says of the tables: 0 exactly where there is room.
-use mathlib.Core.Path.{◌≡◌, refl}
+-- What an answer says of the tables: they are taken, by the number 0, exactly where there is room.
+use Rattle.std.proofs.Common.{Ok, Err}
+use mathlib.Core.Path.{◌≡◌, refl, ap}
 use mathlib.Core.Bool.{Bool, true, false, cond}
 use Prim.Native.Nat.{ℕ, ◌^◌, ◌≤◌, ◌<◌}
 use native.Mathlib.Omega.{arith}
 use borrow.Author.Tests.{lt-ltb, le-ltb, ltb-false}
 use lib.Dec.{ltb}
-use Rattle.exclusive.specs.Exclusive.{rows_answer}
+use Rattle.exclusive.specs.declared.areas.RowsError.TheVariants.{TooManyHeads, TablesTooShort}
+use Rattle.exclusive.specs.Exclusive.{rows_check, rows_number, rows_answer}
 
 module _ (n rows : ℕ) where
-  pub too_many : 10 < n → 2 ≡ rows_answer n rows
+  pub too_many : 10 < n → Err TooManyHeads ≡ rows_check n rows
   too_many h = rw (lt-ltb 10 n h) refl
 
-  pub too_few : n ≤ 10 → rows < 2 ^ n → 7 ≡ rows_answer n rows
+  pub too_few : n ≤ 10 → rows < 2 ^ n → Err TablesTooShort ≡ rows_check n rows
   too_few h k = rw (le-ltb 10 n h, lt-ltb rows (2 ^ n) k) refl
 
+  pub fits : n ≤ 10 → 2 ^ n ≤ rows → Ok tt ≡ rows_check n rows
+  fits h k = rw (le-ltb 10 n h, le-ltb rows (2 ^ n) k) refl
+
   pub room : n ≤ 10 → 2 ^ n ≤ rows → 0 ≡ rows_answer n rows
-  room h k = rw (le-ltb 10 n h, le-ltb rows (2 ^ n) k) refl
+  room h k = ap rows_number (fits h k)
 
   pub taken : rows_answer n rows ≡ 0 → (n ≤ 10) × (2 ^ n ≤ rows)
   taken = by (ltb 10 n) refl (ltb rows (2 ^ n)) refl
     where
-      by : (a : Bool) → ltb 10 n ≡ a → (b : Bool) → ltb rows (2 ^ n) ≡ b → ◌≡◌ {A = ℕ} (cond a 2 (cond b 7 0)) 0 → (n ≤ 10) × (2 ^ n ≤ rows)
+      by : (a : Bool) → ltb 10 n ≡ a → (b : Bool) → ltb rows (2 ^ n) ≡ b
+          → ◌≡◌ {A = ℕ} (rows_number (cond a (Err TooManyHeads) (cond b (Err TablesTooShort) (Ok tt)))) 0 → (n ≤ 10) × (2 ^ n ≤ rows)
       by true f b g e = absurd (omega arith)
       by false f true g e = absurd (omega arith)
       by false f false g e = (ltb-false 10 n f, ltb-false rows (2 ^ n) g)

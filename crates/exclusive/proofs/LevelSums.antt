@@ -11,8 +11,8 @@ use lib.Count.{ones}
 use lib.Dec.{T}
 use lib.Ieee.{Float, nan, binary64, fits}
 use lib.Ieee.Fits.{sub-fits}
-use lib.ListN.{length, get_or, take, drop, set, length-set, drop_of_length-le}
-use lib.Seq.{get_or-take, get_or-set_same, get_or-set_other, length-take-le}
+use lib.ListN.{length, get_or, drop, set, length-set, drop_of_length-le}
+use lib.Seq.{get_or-set_same, get_or-set_other}
 use Rattle.lists.specs.Lists.{keep}
 use Rattle.lists.specs.Every.{Every, every_map, every_at}
 use Rattle.masks.specs.Mask.{subset, strict_subset}
@@ -62,9 +62,6 @@ module _ (order : List ℕ) (lo t : ℕ) (number : Float) (before : List Float) 
     pub added : LevelAdded order lo i (λ T. number) (t ∷ []) before sums
     pub stay : (k : ℕ) → i ≤ k → get_or sums k nan ≡ get_or before k nan
 
-  pub adding_start : Adding lo before
-  adding_start = record { added = record { level = λ k h l. absurd (omega arith); lower = λ k h. refl; many = refl }; stay = λ k h. refl }
-
   pub adding_next : (i : ℕ) (sums : List Float) (part : Float) → lo ≤ i → i < length sums → part ≡ cond (subset 64 (get_or order i 0) t) number zero64
       → Adding i sums → Adding (i + 1) (set sums i (get_or sums i nan +ᶠ part))
   unfolding sum_all
@@ -88,9 +85,6 @@ module _ (order : List ℕ) (lo t : ℕ) (number : Float) (before : List Float) 
       here : get_or new i nan ≡ get_or before i nan +ᶠ cond (subset 64 (get_or order i 0) t) number zero64
       here = get_or-set_same sums i (get_or sums i nan +ᶠ part) nan room ∙ ap₂ ◌+ᶠ◌ (r.stay i (omega arith)) e
 
-  pub adding_end : (i hi : ℕ) (sums : List Float) → hi ≤ i → Adding i sums → LevelAdded order lo hi (λ T. number) (t ∷ []) before sums
-  adding_end i hi sums h r = record { level = λ k l m. r.added.level k l (omega arith); lower = r.added.lower; many = r.added.many }
-
 -- the sums of a level with the rows from place j on are those with all rows after the level
 module _ (order : List ℕ) (lo hi : ℕ) (f : ℕ → Float) (rows : List ℕ) (before : List Float) where
   pub record Summing (j : ℕ) (sums : List Float) : Type 0 where
@@ -98,9 +92,6 @@ module _ (order : List ℕ) (lo hi : ℕ) (f : ℕ → Float) (rows : List ℕ) 
         → sum_all f (subset 64 (get_or order i 0)) (get_or sums i nan) (drop j rows) ≡ sum_all f (subset 64 (get_or order i 0)) (get_or before i nan) (drop hi rows)
     pub lower : (i : ℕ) → i < lo → get_or sums i nan ≡ get_or before i nan
     pub many : length sums ≡ length before
-
-  pub summing_start : Summing hi before
-  summing_start = record { level = λ i h l. refl; lower = λ i h. refl; many = refl }
 
   pub summing_next : (j t : ℕ) (sums new : List Float) → j < length rows → get_or rows j 0 ≡ t → LevelAdded order lo hi (λ T. f t) (t ∷ []) sums new
       → Summing j sums → Summing (j + 1) new
@@ -148,38 +139,37 @@ module _ (n : ℕ) (present : ℕ → Bool) where
         ∙ sum-all g (subset 64 S) zero64 (drop hi L) zero_sound (λ T. sub-fits binary64 (entry 1 before 0 T) _)
         ∙ ap (sum_onto g zero64) after_level
 
-  -- the order as an array: the row at a place
-  pub row_at : (order : List ℕ) (count i : ℕ) → count ≤ length order → take count order ≡ L → i < count
-      → (i < length L) × (get_or L i 0 ≡ get_or order i 0) × (get_or order i 0 < 2 ^ n)
-  row_at order count i room e h =
-      let inside : i < length L = omega (arith, length-take-le count order room, ap length e) in
-      let here : get_or L i 0 ≡ get_or order i 0 = ap (λ (l : List ℕ). get_or l i 0) (sym e) ∙ get_or-take count order i 0 h in
+  -- the row at a place is a mask of the table
+  pub row_at : (rows : List ℕ) (i : ℕ) → rows ≡ L → i < length rows → (i < length L) × (get_or L i 0 ≡ get_or rows i 0) × (get_or rows i 0 < 2 ^ n)
+  row_at rows i e h =
+      let inside : i < length L = omega (arith, ap length e) in
+      let here : get_or L i 0 ≡ get_or rows i 0 = ap (λ (l : List ℕ). get_or l i 0) (sym e) in
       (inside, here, subst (λ (T : ℕ). T < 2 ^ n) here (every_at (λ T. T < 2 ^ n) L i 0 inside (every_row present (λ T. T < 2 ^ n) n (λ T k p. k))))
 
-  module _ (order : List ℕ) (count : ℕ) (room : count ≤ length order) (e : take count order ≡ L) (before mid : List Float) where
+  module _ (rows : List ℕ) (e : rows ≡ L) (before mid : List Float) where
     -- the sums of a level are what is to be subtracted from its rows
-    pub level_sums : (lo hi : ℕ) (sums new : List Float) → n ≤ 10 → hi ≤ count → Pass n present 1 hi before mid
-        → ((i : ℕ) → i < hi → get_or sums i nan ≡ zero64) → ((i : ℕ) → lo ≤ i → i < hi → ones (get_or order i 0) ≡ ones (get_or order (hi - 1) 0))
-        → LevelAdded order lo hi (λ T. get_or mid T nan) (drop hi (take count order)) sums new
-        → (i : ℕ) → lo ≤ i → i < hi → get_or new i nan ≡ due n present 1 (get_or order i 0) before 0
+    pub level_sums : (lo hi : ℕ) (sums new : List Float) → n ≤ 10 → hi ≤ length rows → Pass n present 1 hi before mid
+        → ((i : ℕ) → i < hi → get_or sums i nan ≡ zero64) → ((i : ℕ) → lo ≤ i → i < hi → ones (get_or rows i 0) ≡ ones (get_or rows (hi - 1) 0))
+        → LevelAdded rows lo hi (λ T. get_or mid T nan) (drop hi rows) sums new
+        → (i : ℕ) → lo ≤ i → i < hi → get_or new i nan ≡ due n present 1 (get_or rows i 0) before 0
     level_sums lo hi sums new few h p none alike a i k l =
-        let at = row_at order count i room e (omega arith) in
-        let last = row_at order count (hi - 1) room e (omega arith) in
-        let S = get_or order i 0 in
-        a.level i k l ∙ ap (λ (x : Float). sum_all (λ T. get_or mid T nan) (subset 64 S) x (drop hi (take count order))) (none i l)
+        let at = row_at rows i e (omega arith) in
+        let last = row_at rows (hi - 1) e (omega arith) in
+        let S = get_or rows i 0 in
+        a.level i k l ∙ ap (λ (x : Float). sum_all (λ T. get_or mid T nan) (subset 64 S) x (drop hi rows)) (none i l)
         ∙ ap (λ (r : List ℕ). sum_all (λ T. get_or mid T nan) (subset 64 S) zero64 (drop hi r)) e
         ∙ level_due i hi S at.2 (omega (arith, row_lt n S few at.2)) l (omega (arith, last.0)) at.1 (ap ones last.1 ∙ sym (alike i k l)) before mid p
 
     -- one row of it
-    pub level_next : (hi : ℕ) (sum : Float) → hi < count → 2 ^ n ≤ length mid → sum ≡ due n present 1 (get_or order hi 0) before 0
-        → Pass n present 1 (hi + 1) before mid → Pass n present 1 hi before (set mid (get_or order hi 0) (get_or mid (get_or order hi 0) nan -ᶠ sum))
+    pub level_next : (hi : ℕ) (sum : Float) → hi < length rows → 2 ^ n ≤ length mid → sum ≡ due n present 1 (get_or rows hi 0) before 0
+        → Pass n present 1 (hi + 1) before mid → Pass n present 1 hi before (set mid (get_or rows hi 0) (get_or mid (get_or rows hi 0) nan -ᶠ sum))
     level_next hi sum h wide d p =
-        let at = row_at order count hi room e h in
-        let S = get_or order hi 0 in
+        let at = row_at rows hi e h in
+        let S = get_or rows hi 0 in
         let one : S * 1 + 0 ≡ S = omega arith in
         pass_next n present 1 hi S at.2 at.0 at.1 before mid (set mid S (get_or mid S nan -ᶠ sum)) (λ k. sum) (λ k hk. d ∙ first k hk) p
         (subst (λ (x : ℕ). RowSubtracted 1 S (λ k. sum) 1 mid (set mid x (get_or mid x nan -ᶠ sum))) one
         (row_next 1 S (λ k. sum) mid mid 0 sum (omega arith) (omega (arith, at.2)) refl (row_start 1 S (λ k. sum) mid mid)))
       where
-        first : (k : ℕ) → k < 1 → due n present 1 (get_or order hi 0) before 0 ≡ due n present 1 (get_or order hi 0) before k
-        first k hk = let z : 0 ≡ k = omega arith in ap (due n present 1 (get_or order hi 0) before) z
+        first : (k : ℕ) → k < 1 → due n present 1 (get_or rows hi 0) before 0 ≡ due n present 1 (get_or rows hi 0) before k
+        first k hk = let z : 0 ≡ k = omega arith in ap (due n present 1 (get_or rows hi 0) before) z

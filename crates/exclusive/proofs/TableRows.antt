@@ -5,10 +5,10 @@ use Prim.Native.Nat.{ℕ, zero, suc, ◌+◌, ◌*◌, ◌/◌, ◌%◌, ◌-◌
 use native.Mathlib.Nat.{div-lt_iff_lt-mul}
 use native.Mathlib.Omega.{arith}
 use lib.Arith.{digits_div, digits_mod}
-use lib.ListN.{length, get_or, take, drop}
+use lib.ListN.{length, get_or, take, drop, replicate, length-replicate, get_or-replicate}
 use lib.Seq.{take_at, drop-drop, ext_get_or}
 use Rattle.lists.specs.Written.{tab, written}
-use Rattle.lists.proofs.Writing.{length_tab, get_d_tab, tab_cong, drop_written}
+use Rattle.lists.proofs.Writing.{length_tab, get_d_tab, take_tab, tab_cong, drop_written}
 
 -- the row of a place
 pub row_of_place : (width s x : ℕ) → s * width ≤ x → x < suc s * width → x / width ≡ s
@@ -38,6 +38,39 @@ module _ {A : Type 0} where
       ext_get_or d l (tab (λ i. get_or l i d) (length l)) (sym (length_tab (λ i. get_or l i d) (length l)))
       (λ i h. sym (get_d_tab (λ i. get_or l i d) (length l) i d h))
 
+  -- and its first m
+  pub take_by_place : (l : List A) (d : A) (m : ℕ) → m ≤ length l → take m l ≡ tab (λ i. get_or l i d) m
+  take_by_place l d m h = ap (take m) (tab_of l d) ∙ take_tab (λ i. get_or l i d) (length l) m h
+
+  -- one element, over and over
+  replicate_tab : (f : ℕ → A) (v : A) (m : ℕ) → ((i : ℕ) → i < m → f i ≡ v) → replicate m v ≡ tab f m
+  replicate_tab f v m e =
+      ext_get_or v (replicate m v) (tab f m) (length-replicate m v ∙ sym (length_tab f m))
+      (λ i h.
+      let inside : i < m = omega (arith, length-replicate m v) in
+      get_or-replicate m i v v inside ∙ sym (get_d_tab f m i v inside ∙ e i inside))
+
+  -- a part laid after what is written before it
+  pub part_written : (f : ℕ → A) (at width : ℕ) (part l now : List A) → part ≡ tab (λ i. f (at + i)) width → now ≡ written f at l
+      → take at now ++ (part ++ drop width (drop at now)) ≡ written f (at + width) l
+  part_written f at width part l now own e =
+      ap₂ (λ (a b : List A). a ++ b) before (ap₂ (λ (a b : List A). a ++ b) own beyond)
+      ∙ sym (append_assoc (tab f at) (tab (λ i. f (at + i)) width) (drop (at + width) l))
+      ∙ ap (λ (a : List A). a ++ drop (at + width) l) (sym (tab_add f at width))
+    where
+      before : take at now ≡ tab f at
+      before = ap (take at) e ∙ take_at (tab f at) (drop at l) at (length_tab f at)
+
+      beyond : drop width (drop at now) ≡ drop (at + width) l
+      beyond = drop-drop width at now ∙ ap (drop (at + width)) e ∙ drop_written f at (at + width) l (omega arith)
+
+  -- a part that holds one element throughout
+  pub fill_written : (f : ℕ → A) (at width : ℕ) (v : A) (l now : List A) → ((x : ℕ) → at ≤ x → x < at + width → f x ≡ v) → now ≡ written f at l
+      → take at now ++ (replicate width v ++ drop width (drop at now)) ≡ written f (at + width) l
+  fill_written f at width v l now same e =
+      part_written f at width (replicate width v) l now
+      (replicate_tab (λ i. f (at + i)) v width (λ i h. same (at + i) (omega arith) (omega arith))) e
+
   -- number x of the rows is number x % width of row x / width
   abbrev pub by_row : ℕ → A → (ℕ → List A) → ℕ → A
   by_row width d row x = get_or (row (x / width)) (x % width) d
@@ -48,21 +81,10 @@ module _ {A : Type 0} where
       → take (s * width) now ++ (row s ++ drop width (drop (s * width) now)) ≡ written (by_row width d row) ((s + 1) * width) l
   row_written width s d row l now room many e =
       let end : s * width + width ≡ (s + 1) * width = omega arith in
-      ap₂ (λ (a b : List A). a ++ b) before (ap₂ (λ (a b : List A). a ++ b) own beyond)
-      ∙ sym (append_assoc (tab F (s * width)) (tab (λ i. F (s * width + i)) width) (drop (s * width + width) l))
-      ∙ ap (λ (a : List A). a ++ drop (s * width + width) l) (sym (tab_add F (s * width) width))
-      ∙ ap (λ (m : ℕ). written F m l) end
+      part_written F (s * width) width (row s) l now own e ∙ ap (λ (m : ℕ). written F m l) end
     where
       F : ℕ → A
       F = by_row width d row
-
-      before : take (s * width) now ≡ tab F (s * width)
-      before = ap (take (s * width)) e ∙ take_at (tab F (s * width)) (drop (s * width) l) (s * width) (length_tab F (s * width))
-
-      beyond : drop width (drop (s * width) now) ≡ drop (s * width + width) l
-      beyond =
-          drop-drop width (s * width) now ∙ ap (drop (s * width + width)) e
-          ∙ drop_written F (s * width) (s * width + width) l (omega arith)
 
       own : row s ≡ tab (λ i. F (s * width + i)) width
       own =

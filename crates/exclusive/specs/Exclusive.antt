@@ -3,6 +3,7 @@
 -- equation: `unclamped_is`.
 use Prim.Native.Nat.{ℕ, zero, suc, min, ◌<◌, ◌^◌}
 use Rattle.std.specs.Prelude.{Bool, cond, List, [], ◌∷◌, ◌≡◌, eqb, ltb, Float, get_or, length}
+use Rattle.std.specs.Prelude.{Result, Ok, Err}
 use Rattle.std.specs.Float.{nan}
 use Rattle.lists.specs.Lists.{keep}
 use Rattle.lists.specs.Written.{written}
@@ -11,6 +12,8 @@ use Rattle.masks.specs.Presence.{stands}
 use Rattle.binary64.specs.Constants.{zero64}
 use Rattle.binary64.specs.Functions.{clamp_to_zero}
 use Rattle.binary64.specs.Floats.{◌+ᶠ◌, ◌-ᶠ◌}
+use Rattle.exclusive.specs.declared.areas.RowsError.{RowsError}
+use Rattle.exclusive.specs.declared.areas.RowsError.TheVariants.{TooManyHeads, TablesTooShort}
 use Rattle.exclusive.specs.RowOrder.{row_order}
 
 -- f of each row of a list, added one after another
@@ -48,9 +51,19 @@ UnclampedIs =
 
 -- ---- the call over lent tables
 
--- Document 01's number for tables of so many rows, 0 where they are taken: 2, n is above 10; 7, there are fewer than 2^n rows.
+-- Whether tables of so many rows are taken: not where n is above 10, and not where there are fewer than 2^n rows.
+abbrev pub rows_check : ℕ → ℕ → Result Unit RowsError
+rows_check n rows = cond (ltb 10 n) (Err TooManyHeads) (cond (ltb rows (2 ^ n)) (Err TablesTooShort) (Ok tt))
+
+-- Document 01's number of an answer: 0 where the tables are taken, 2 for too many heads, 7 for tables too short.
+abbrev pub rows_number : Result Unit RowsError → ℕ
+rows_number (Ok x) = 0
+rows_number (Err TooManyHeads) = 2
+rows_number (Err TablesTooShort) = 7
+
+-- Document 01's number for tables of so many rows.
 abbrev pub rows_answer : ℕ → ℕ → ℕ
-rows_answer n rows = cond (ltb 10 n) 2 (cond (ltb rows (2 ^ n)) 7 0)
+rows_answer n rows = rows_number (rows_check n rows)
 
 -- the answer, from presence bytes, areas and the table of exclusives
 abbrev pub exclusive_answer : ℕ → List ℕ → List Float → List Float → ℕ

@@ -5,43 +5,40 @@ ghost use Rattle.lists.specs.Written.{written};
 ghost use Rattle.masks.specs.Presence.{stands};
 ghost use Rattle.binary64.specs.Constants.{zero64};
 ghost use Rattle.binary64.specs.Functions.{clamp_to_zero};
-ghost use Rattle.exclusive.specs.Exclusive.{exclusive_row, rows_answer, exclusive_answer, exclusive_table, exclusives_in_place};
+ghost use Rattle.exclusive.specs.Exclusive.{exclusive_row, rows_check, rows_number, exclusive_table, exclusives_in_place};
 
 use crate::levels::subtract_levels;
-use crate::rows::row_count;
+use crate::presence::Presence;
 use binary64::clamp_to_zero;
 
-// The smaller of two lengths.
-pub fn shorter(a: usize, b: usize) -> usize
-    ensures { result ≡ min a b }
-{
-    if a < b { a } else { b }
+// Why tables are refused, under document 01's numbers.
+#[derive(Clone, Copy, PartialEq, Eq, Debug)]
+pub enum RowsError {
+    TooManyHeads = 2,
+    TablesTooShort = 7,
 }
 
-// The answer for tables of so many rows: 0, or document 01's number.
-pub fn rows_answer(n: usize, rows: usize) -> u8
-    ensures { result ≡ rows_answer n rows }
+// Document 01's number of an answer: 0 where the tables are taken.
+pub fn rows_number(answer: Result<(), RowsError>) -> u8
+    ensures { result ≡ rows_number answer }
+{
+    match answer {
+        Ok(()) => 0,
+        Err(error) => error as u8,
+    }
+}
+
+// Whether tables of so many rows are taken for n heads.
+pub fn rows_answer(n: usize, rows: usize) -> Result<(), RowsError>
+    ensures { result ≡ rows_check n rows }
 {
     if 10 < n {
-        return 2;
+        return Err(RowsError::TooManyHeads);
     }
     if rows < 1usize << n {
-        return 7;
+        return Err(RowsError::TablesTooShort);
     }
-    0
-}
-
-// The areas of the rows, to be worked on in place.
-fn copy_rows(areas: &[f64], exclusives: &mut [f64], n: usize)
-    requires { (n ≤ 10) × (2 ^ n ≤ length areas.now) × (2 ^ n ≤ length exclusives.old) }
-    ensures { exclusives.new ≡ written (λ S. get_or areas.now S nan) (2 ^ n) exclusives.old }
-{
-    let masks = row_count(n, exclusives.len());
-    let mut s: usize = 0;
-    while s < masks {
-        exclusives[s] = areas[s];
-        s += 1;
-    }
+    Ok(())
 }
 
 // A number clamped where its row is present, and +0 where it is absent.
@@ -55,60 +52,66 @@ fn clamped(byte: u8, number: f64) -> f64
 }
 
 // "Clamping comes last."
-fn clamp_rows(present: &[u8], numbers: &mut [f64], n: usize)
-    requires { (n ≤ 10) × (2 ^ n ≤ length present.now) × (2 ^ n ≤ length numbers.old) }
-    ensures { numbers.new ≡ written (λ S. cond (stands present.now S) (clamp_to_zero (get_or numbers.old S nan)) zero64) (2 ^ n) numbers.old }
+fn clamp_rows(present: &Presence, numbers: &mut [f64])
+    requires { 2 ^ present.now.n ≤ length numbers.old }
+    ensures { let P = present.now in numbers.new
+        ≡ written (λ S. cond (stands P.bytes.now S) (clamp_to_zero (get_or numbers.old S nan)) zero64) (2 ^ P.n) numbers.old }
 {
-    let masks = row_count(n, numbers.len());
-    let mut s: usize = 0;
-    while s < masks {
-        let number = clamped(present[s], numbers[s]);
-        numbers[s] = number;
-        s += 1;
+    let bytes = present.bytes;
+    for s in 0..present.row_count() {
+        numbers[s] = clamped(bytes[s], numbers[s]);
     }
 }
 
 // The rows of a table of areas become exclusives, in place.
-fn exclude(present: &[u8], areas: &mut [f64], n: usize)
-    requires { (n ≤ 10) × (2 ^ n ≤ length present.now) × (2 ^ n ≤ length areas.old) }
-    ensures { areas.new ≡ written (exclusive_row n (stands present.now) (λ S. get_or areas.old S nan)) (2 ^ n) areas.old }
+fn exclude(present: &Presence, areas: &mut [f64])
+    requires { 2 ^ present.now.n ≤ length areas.old }
+    ensures { let P = present.now in areas.new
+        ≡ written (exclusive_row P.n (stands P.bytes.now) (λ S. get_or areas.old S nan)) (2 ^ P.n) areas.old }
 {
-    subtract_levels(present, areas, n);
-    clamp_rows(present, areas, n);
+    subtract_levels(present, areas);
+    clamp_rows(present, areas);
 }
 
-// The rows of the table of exclusives.
-fn write_exclusives(present: &[u8], areas: &[f64], exclusives: &mut [f64], n: usize)
-    requires { (n ≤ 10) × (2 ^ n ≤ length present.now) × (2 ^ n ≤ length areas.now) × (2 ^ n ≤ length exclusives.old) }
-    ensures { exclusives.new ≡ written (exclusive_row n (stands present.now) (λ S. get_or areas.now S nan)) (2 ^ n) exclusives.old }
+// The rows of the table of exclusives: the areas, worked on in place.
+fn write_exclusives(present: &Presence, areas: &[f64], exclusives: &mut [f64])
+    requires { (2 ^ present.now.n ≤ length areas.now) × (2 ^ present.now.n ≤ length exclusives.old) }
+    ensures { let P = present.now in exclusives.new
+        ≡ written (exclusive_row P.n (stands P.bytes.now) (λ S. get_or areas.now S nan)) (2 ^ P.n) exclusives.old }
 {
-    copy_rows(areas, exclusives, n);
-    exclude(present, exclusives, n);
+    let rows = present.row_count();
+    exclusives[..rows].copy_from_slice(&areas[..rows]);
+    exclude(present, exclusives);
 }
 
-// The exclusive areas of n heads, from presence bytes and areas: the answer is 0, or 2 for more than ten heads, or 7 where a table has
-// fewer than 2^n rows; then nothing is written.
-pub fn to_exclusive_areas(present: &[u8], areas: &[f64], exclusives: &mut [f64], n: usize) -> u8
-    ensures value { result ≡ exclusive_answer n present.now areas.now exclusives.old }
+// The exclusive areas of n heads, from presence bytes and areas. Refused, for more than ten heads or where a table has
+// fewer than 2^n rows, nothing is written.
+pub fn to_exclusive_areas(
+    present: &[u8],
+    areas: &[f64],
+    exclusives: &mut [f64],
+    n: usize,
+) -> Result<(), RowsError>
+    ensures value { result ≡ rows_check n (min (length present.now) (min (length areas.now) (length exclusives.old))) }
     ensures exclusives_after { exclusives.new ≡ exclusive_table n present.now areas.now exclusives.old }
 {
-    let rows = shorter(present.len(), shorter(areas.len(), exclusives.len()));
-    let answer = rows_answer(n, rows);
-    if answer == 0 {
-        write_exclusives(present, areas, exclusives, n);
-    }
-    answer
+    rows_answer(n, present.len().min(areas.len().min(exclusives.len())))?;
+    let present = Presence { n, bytes: present };
+    write_exclusives(&present, areas, exclusives);
+    Ok(())
 }
 
 // The same with one table: the exclusives take the place of the areas.
-pub fn to_exclusive_areas_in_place(present: &[u8], areas: &mut [f64], n: usize) -> u8
-    ensures value { result ≡ rows_answer n (min (length present.now) (length areas.old)) }
+pub fn to_exclusive_areas_in_place(
+    present: &[u8],
+    areas: &mut [f64],
+    n: usize,
+) -> Result<(), RowsError>
+    ensures value { result ≡ rows_check n (min (length present.now) (length areas.old)) }
     ensures areas_after { areas.new ≡ exclusives_in_place n present.now areas.old }
 {
-    let rows = shorter(present.len(), areas.len());
-    let answer = rows_answer(n, rows);
-    if answer == 0 {
-        exclude(present, areas, n);
-    }
-    answer
+    rows_answer(n, present.len().min(areas.len()))?;
+    let present = Presence { n, bytes: present };
+    exclude(&present, areas);
+    Ok(())
 }

@@ -5,5 +5,6 @@
 
 pub mod areas;
 pub mod levels;
+pub mod presence;
 pub mod rows;
 pub mod steps;

@@ -6,7 +6,7 @@ ghost use Rattle.lists.specs.Written.{tab, written};
 ghost use Rattle.masks.specs.Presence.{stands};
 ghost use Rattle.exclusive.specs.RowOrder.{row_order, row_list};
 
-use crate::areas::shorter;
+use crate::presence::Presence;
 
 // The first n of all: present rows in row order.
 #[derive(Clone, Copy)]
@@ -15,72 +15,54 @@ pub struct Rows {
     pub all: [usize; 1024],
 }
 
-// How many rows there are of n heads, where a table has places for them. The length changes nothing, but of a bound that it sees to be a power
-// of two the compiler makes a shift in each turn of a loop, and does not vectorise it.
-pub(crate) fn row_count(n: usize, places: usize) -> usize
-    requires { (n ≤ 10) × (2 ^ n ≤ places) }
-    ensures { result ≡ 2 ^ n }
-{
-    shorter(1usize << n, places)
-}
-
 // The masks of the present rows, ascending. Each mask is written, and the next takes its place if its row is absent: nothing waits for the
 // test.
-fn present_rows(present: &[u8], n: usize) -> Rows
-    requires { (n ≤ 10) × (2 ^ n ≤ length present.now) }
-    ensures result_value { row_list result ≡ keep (stands present.now) (tab (λ S. S) (2 ^ n)) }
+fn present_rows(present: &Presence) -> Rows
+    ensures result_value { row_list result ≡ keep (stands present.now.bytes.now) (tab (λ S. S) (2 ^ present.now.n)) }
     ensures n_bound { (result.n ≤ 1024) × (length result.all ≡ 1024) }
 {
-    let masks = row_count(n, present.len());
+    let bytes = present.bytes;
     let mut all = [0usize; 1024];
-    let mut found: usize = 0;
-    let mut s: usize = 0;
-    while s < masks {
-        all[found] = s;
-        let one: usize = if present[s] == 1 { 1 } else { 0 };
-        found += one;
-        s += 1;
+    let mut n = 0;
+    for s in 0..present.row_count() {
+        all[n] = s;
+        n += usize::from(bytes[s] == 1);
     }
-    Rows { n: found, all: all }
+    Rows { n, all }
 }
 
-// How many heads each of the first `count` masks has, counted once for all numbers of heads.
-fn row_heads(masks: &[usize; 1024], count: usize) -> [u32; 1024]
-    requires { (count ≤ 1024) × (length masks.now ≡ 1024) }
-    ensures { result ≡ written (λ i. ones (get_or masks.now i 0)) count (replicate 1024 0) }
+// How many heads each of these rows has, counted once for all numbers of heads.
+fn row_heads(rows: &[usize]) -> [u32; 1024]
+    requires { length rows.now ≤ 1024 }
+    ensures { result ≡ written (λ i. ones (get_or rows.now i 0)) (length rows.now) (replicate 1024 0) }
 {
     let mut heads = [0u32; 1024];
-    let mut i: usize = 0;
-    while i < count {
-        heads[i] = usize::count_ones(masks[i]);
-        i += 1;
+    for (i, row) in rows.iter().enumerate() {
+        heads[i] = row.count_ones();
     }
     heads
 }
 
-// The present rows of n heads: by number of heads, then by mask.
-pub(crate) fn row_order(present: &[u8], n: usize) -> Rows
-    requires { (n ≤ 10) × (2 ^ n ≤ length present.now) }
-    ensures result_value { row_list result ≡ row_order (stands present.now) n }
+// The present rows: by number of heads, then by mask.
+pub(crate) fn row_order(present: &Presence) -> Rows
+    ensures result_value { row_list result ≡ row_order (stands present.now.bytes.now) present.now.n }
     ensures n_bound { (result.n ≤ 1024) × (length result.all ≡ 1024) }
 {
-    let found = present_rows(present, n);
-    let masks = found.all;
-    let count = found.n;
-    let heads = row_heads(&masks, count);
+    let Rows {
+        n: count,
+        all: masks,
+    } = present_rows(present);
+    let found = &masks[..count];
+    let heads = row_heads(found);
     let mut all = [0usize; 1024];
-    let mut k: usize = 0;
-    let mut c: usize = 0;
-    while c <= n {
-        let mut i: usize = 0;
-        while i < count {
+    let mut n = 0;
+    for c in 0..=present.n {
+        for (i, row) in found.iter().enumerate() {
             if heads[i] == c as u32 {
-                all[k] = masks[i];
-                k += 1;
+                all[n] = *row;
+                n += 1;
             }
-            i += 1;
         }
-        c += 1;
     }
-    Rows { n: k, all: all }
+    Rows { n, all }
 }

@@ -2,58 +2,21 @@
 -- table of exclusives with their gradients.
 use mathlib.Core.Path.{◌≡◌, refl, sym, ap, ap₂, ◌∙◌}
 use mathlib.Core.Bool.{Bool, true, false, cond, not, ◌&&◌}
-use mathlib.Core.List.{List}
+use mathlib.Core.List.{List, ◌++◌}
 use Prim.Native.Nat.{ℕ, suc, ◌+◌, ◌*◌, ◌/◌, ◌%◌, ◌^◌, ◌≤◌, ◌<◌}
 use native.Mathlib.Nat.{mod-lt, div-add-mod'}
 use native.Mathlib.Omega.{arith}
-use borrow.Author.Tests.{ltb-true, ltb-false}
-use lib.Dec.{ltb}
 use lib.Ieee.{Float, nan, lt}
-use lib.ListN.{length, get_or, set, drop}
+use lib.ListN.{length, get_or, set, take, drop, replicate}
 use Rattle.lists.specs.Written.{written}
-use Rattle.lists.proofs.Writing.{written_none, written_before, write_next, written_keep, written_on, written_cong, drop_written}
+use Rattle.lists.proofs.Writing.{written_none, write_next, written_keep, written_on, written_cong}
 use Rattle.masks.specs.Presence.{stands}
 use Rattle.binary64.specs.Constants.{zero64}
 use Rattle.exclusive.specs.Exclusive.{unclamped}
 use Rattle.exclusive.specs.Entries.{entry, Subtracted}
 use Rattle.exclusive_gradients.specs.Gradient.{exclusive_with_gradient, gradient_entry, kept_row}
-use Rattle.exclusive.proofs.TableRows.{row_of_place, place}
+use Rattle.exclusive.proofs.TableRows.{row_of_place, place, fill_written}
 use Rattle.exclusive.proofs.Closing.{subtracted_row, subtracted_one, rest_one}
-
--- ---- one row made +0
-
-module _ (numbers : List Float) (s width : ℕ) where
-  -- the numbers before row s, and +0 from there on
-  abbrev pub zero_from : ℕ → Float
-  zero_from x = cond (ltb x (s * width)) (get_or numbers x nan) zero64
-
-  before : (x : ℕ) → x < s * width → zero_from x ≡ get_or numbers x nan
-  before x h = go (ltb x (s * width)) refl
-    where
-      go : (b : Bool) → ltb x (s * width) ≡ b → cond b (get_or numbers x nan) zero64 ≡ get_or numbers x nan
-      go true e = refl
-      go false e = absurd (omega (arith, ltb-false x (s * width) e))
-
-  from : (x : ℕ) → s * width ≤ x → zero_from x ≡ zero64
-  from x h = go (ltb x (s * width)) refl
-    where
-      go : (b : Bool) → ltb x (s * width) ≡ b → cond b (get_or numbers x nan) zero64 ≡ zero64
-      go true e = absurd (omega (arith, ltb-true x (s * width) e))
-      go false e = refl
-
-  pub zero_start : suc s * width ≤ length numbers → numbers ≡ written zero_from (s * width + 0) numbers
-  zero_start h =
-      let e : s * width ≡ s * width + 0 = omega arith in
-      written_none zero_from numbers ∙ written_on zero_from 0 (s * width) numbers nan (omega arith) (omega arith) (λ i g l. before i l)
-      ∙ ap (λ (m : ℕ). written zero_from m numbers) e
-
-  pub zero_next : (k : ℕ) (now : List Float) → k < width → suc s * width ≤ length numbers → now ≡ written zero_from (s * width + k) numbers
-      → set now (s * width + k) zero64 ≡ written zero_from (s * width + (k + 1)) numbers
-  zero_next k now h room e =
-      let f : s * width + k + 1 ≡ s * width + (k + 1) = omega arith in
-      ap (λ (t : List Float). set t (s * width + k) zero64) e
-      ∙ write_next zero_from (s * width + k) numbers zero64 nan (omega arith) (sym (from (s * width + k) (omega arith)))
-      ∙ ap (λ (m : ℕ). written zero_from m numbers) f
 
 -- ---- all rows, one after another
 
@@ -93,21 +56,15 @@ module _ (bytes : List ℕ) (areas gradients : List Float) (width : ℕ) where
         written_on number_left (s * width) ((s + 1) * width) gradients nan (omega arith) (omega arith)
         (λ x h k. kept (x / width) (get_or gradients x nan) (here x h (omega arith) ∙ e))
 
-    pub zero_numbers : (now : List Float) → kept_row bytes areas s ≡ false → now ≡ written number_left (s * width) gradients
-        → written (zero_from now s width) (suc s * width) now ≡ written number_left ((s + 1) * width) gradients
-    zero_numbers now e w =
-        let f : suc s * width ≡ (s + 1) * width = omega arith in
-        written_cong (zero_from now s width) number_left (suc s * width) now gradients (λ x h. at x h (ltb x (s * width)) refl)
-        (ap (drop (suc s * width)) w ∙ drop_written number_left (s * width) (suc s * width) gradients (omega arith))
-        ∙ ap (λ (m : ℕ). written number_left m gradients) f
-      where
-        at : (x : ℕ) → x < suc s * width → (b : Bool) → ltb x (s * width) ≡ b → zero_from now s width x ≡ number_left x
-        at x h true l =
-            let k = ltb-true x (s * width) l in
-            before now s width x k ∙ ap (λ (t : List Float). get_or t x nan) w ∙ written_before number_left (s * width) x gradients nan k
-        at x h false l =
-            let k = ltb-false x (s * width) l in
-            from now s width x k ∙ sym (lost (x / width) (get_or gradients x nan) (here x k h ∙ e))
+    -- the row filled with +0
+    pub zero_numbers : (now filled : List Float) → kept_row bytes areas s ≡ false → now ≡ written number_left (s * width) gradients
+        → filled ≡ replicate width zero64
+        → take (s * width) now ++ (filled ++ drop width (drop (s * width) now)) ≡ written number_left ((s + 1) * width) gradients
+    zero_numbers now filled e w f =
+        ap (λ (t : List Float). take (s * width) now ++ (t ++ drop width (drop (s * width) now))) f
+        ∙ fill_written number_left (s * width) width zero64 gradients now
+        (λ x h k. lost (x / width) (get_or gradients x nan) (here x h (omega arith) ∙ e)) w
+        ∙ ap (λ (m : ℕ). written number_left m gradients) next
 
 -- ---- the tables of exclusives
 

@@ -7,8 +7,8 @@ use native.Mathlib.Omega.{arith}
 use lib.Dec.{ltb}
 use lib.IntN.{ℤ}
 use lib.ListN.{length, length-set}
-use Rattle.plan.specs.declared.Answer.{Answer}
-use Rattle.plan.specs.declared.Answer.TheVariants.{Taken, Refused}
+use Rattle.plan.specs.Table.{Answered, taken, refused}
+use Rattle.std.specs.Prelude.{Option, Some, None}
 use Rattle.plan.specs.declared.Item.TheVariants.{Count, Map, HeadNumber}
 use Rattle.plan.specs.declared.Lent.{Lent}
 use Rattle.plan.specs.declared.Plan.{Plan}
@@ -17,8 +17,8 @@ use Rattle.lists.specs.Run.{after}
 use Rattle.plan.specs.Book.{head_of, with_head, applied, leaves, book}
 use Rattle.plan.proofs.Exactly.{edit_taken}
 use Rattle.plan.proofs.Keeps.{applied_acceptable}
-use Rattle.file.specs.declared.reader.Handed.{Handed}
-use Rattle.file.specs.declared.reader.Handed.TheVariants.{Nothing, ThePlan, AnEdit}
+use Rattle.file.specs.declared.reader.Completed.{Completed}
+use Rattle.file.specs.declared.reader.Completed.TheVariants.{ThePlan, AnEdit}
 use Rattle.file.specs.declared.reader.Reader.{Reader}
 use Rattle.file.specs.declared.reader.Stage.{Stage}
 use Rattle.file.specs.declared.reader.Stage.TheVariants.{AtCount, AtMap, AtByte0, AtByte1, AtByte2, AtByte3, AtEdit, Stopped}
@@ -55,7 +55,7 @@ InPlan (AtByte1 a) t = OfPlan t
 InPlan (AtByte2 a b) t = OfPlan t
 InPlan (AtByte3 a b c) t = OfPlan t
 InPlan AtEdit t = ⊥
-InPlan (Stopped refusal at) t = Unit {0}
+InPlan (Stopped why) t = Unit {0}
 
 -- the plan is handed out
 abbrev InEdits : Stage → Target → Type 0
@@ -66,15 +66,15 @@ InEdits (AtByte1 a) t = OfEdits t
 InEdits (AtByte2 a b) t = OfEdits t
 InEdits (AtByte3 a b c) t = OfEdits t
 InEdits AtEdit t = Unit {0}
-InEdits (Stopped refusal at) t = Unit {0}
+InEdits (Stopped why) t = Unit {0}
 
 -- ---- a step within the plan
 
 -- where it leads, by what is handed out
-abbrev Onward : Handed → Stage → Target → Type 0
-Onward Nothing stage t = InPlan stage t
-Onward ThePlan stage t = InEdits stage t
-Onward (AnEdit e) stage t = ⊥
+abbrev Onward : Option Completed → Stage → Target → Type 0
+Onward None stage t = InPlan stage t
+Onward (Some ThePlan) stage t = InEdits stage t
+Onward (Some (AnEdit e)) stage t = ⊥
 
 abbrev FromPlan : Reader → Type 0
 FromPlan r = Onward r.handed r.stage r.target
@@ -82,7 +82,7 @@ FromPlan r = Onward r.handed r.stage r.target
 plan_to_head : (r : Reader) (p : Plan) (i : ℕ) → FromPlan (to_head r p i)
 unfolding to_head
 plan_to_head r p i =
-    by_test FromPlan (ltb i p.n) (turn r p (HeadAt i) AtMap Nothing) (turn r p TheBox AtEdit ThePlan) (λ e. tt) (λ e. tt)
+    by_test FromPlan (ltb i p.n) (turn r p (HeadAt i) AtMap None) (turn r p TheBox AtEdit (Some ThePlan)) (λ e. tt) (λ e. tt)
 
 plan_completed : (t : Target) (r : Reader) → OfPlan t → FromPlan (complete_at t r)
 unfolding complete_at
@@ -109,7 +109,7 @@ plan_step (AtByte3 a a' a'') r b h =
     checked FromPlan (item_of r.target r.field z) r.from r (seek (value_read r z) (suc r.field))
     (plan_sought (value_read r z) (suc r.field) h) tt
 plan_step AtEdit r b h = absurd h
-plan_step (Stopped refusal at) r b h = tt
+plan_step (Stopped why) r b h = tt
 
 -- ---- a step within the edits
 
@@ -153,11 +153,11 @@ edits_step (AtByte3 a a' a'') r b h =
     (tt, λ f. refl)
 edits_step AtEdit r b h =
     checked (FromEdits r.plan) (HeadNumber b r.plan.n) r.at r (choose r b) (tt, λ f. refl) (tt, λ f. refl)
-edits_step (Stopped refusal at) r b h = (tt, λ f. refl)
+edits_step (Stopped why) r b h = (tt, λ f. refl)
 
 -- ---- the bytes
 
-edits_fed : (s : List ℕ) (r : Reader) (a : Answer) → InEdits r.stage r.target → (feed r s).plan ≡ plan_after r.plan (handed_over r s (ends a))
+edits_fed : (s : List ℕ) (r : Reader) (a : Answered) → InEdits r.stage r.target → (feed r s).plan ≡ plan_after r.plan (handed_over r s (ends a))
 unfolding feed handed_over plan_after
 edits_fed [] r a h = refl
 edits_fed (b ∷ s) r a h =
@@ -170,12 +170,12 @@ LeavesPlan (ends a) q = Unit {0}
 LeavesPlan (gives_plan p f) q = q ≡ plan_after p f
 LeavesPlan (gives_edit e f) q = ⊥
 
-on_handed : (handed : Handed) (r : Reader) (s : List ℕ) (a : Answer) → Onward handed r.stage r.target → (InPlan r.stage r.target → LeavesPlan (handed_over r s (ends a)) (feed r s).plan) → LeavesPlan (handing handed r.plan (handed_over r s (ends a))) (feed r s).plan
-on_handed Nothing r s a h rest = rest h
-on_handed ThePlan r s a h rest = edits_fed s r a h
-on_handed (AnEdit e) r s a h rest = absurd h
+on_handed : (handed : Option Completed) (r : Reader) (s : List ℕ) (a : Answered) → Onward handed r.stage r.target → (InPlan r.stage r.target → LeavesPlan (handed_over r s (ends a)) (feed r s).plan) → LeavesPlan (handing handed r.plan (handed_over r s (ends a))) (feed r s).plan
+on_handed None r s a h rest = rest h
+on_handed (Some ThePlan) r s a h rest = edits_fed s r a h
+on_handed (Some (AnEdit e)) r s a h rest = absurd h
 
-plan_fed : (s : List ℕ) (r : Reader) (a : Answer) → InPlan r.stage r.target → LeavesPlan (handed_over r s (ends a)) (feed r s).plan
+plan_fed : (s : List ℕ) (r : Reader) (a : Answered) → InPlan r.stage r.target → LeavesPlan (handed_over r s (ends a)) (feed r s).plan
 unfolding feed handed_over
 plan_fed [] r a h = tt
 plan_fed (b ∷ s) r a h =
@@ -202,11 +202,11 @@ reader_book s p f lent enough e =
 
 -- ---- a taken file
 
-plan_given : (most : ℕ) (g : Got Plan) → end_of (then_edits most g) ≡ Taken → (p : Plan) × (f : File) × (then_edits most g ≡ gives_plan p f)
+plan_given : (most : ℕ) (g : Got Plan) → end_of (then_edits most g) ≡ taken → (p : Plan) × (f : File) × (then_edits most g ≡ gives_plan p f)
 unfolding end_of
 plan_given most (got p at s) e = (p, edits most p at s, refl)
 plan_given most (stop r at) e =
-    let refused : Refused r at ≡ Taken = e in
+    let fails : refused r at ≡ taken = e in
     let z : ◌≡◌ {A = ℕ} 0 1 = cc in
     absurd (omega arith)
 

@@ -1,6 +1,6 @@
 -- The theorems that `specs/Exactly.antt` states: where a field began, by the steps of the reader; and the answer by the first check that fails.
 use Prim.Native.Nat.{ℕ, suc, ◌+◌, ◌-◌, ◌^◌, ◌<◌}
-use mathlib.Core.Path.{◌≡◌, refl, sym, ap, ◌∙◌, subst}
+use mathlib.Core.Path.{◌≡◌, refl, sym, ap, ap₂, ◌∙◌, subst}
 use mathlib.Core.Bool.{Bool, true, false, cond, false≢true}
 use mathlib.Core.List.{List, [], ◌∷◌, ◌++◌}
 use mathlib.Core.Logic.{◌⊎◌, inl, inr, ⊎_elim}
@@ -8,9 +8,8 @@ use native.Mathlib.Omega.{arith}
 use lib.Dec.{ltb}
 use lib.IntN.{ℤ}
 use lib.ListN.{length}
+use Rattle.std.specs.Prelude.{Some, None, Ok, Err}
 use Rattle.lists.specs.Every.{Every, every_append}
-use Rattle.plan.specs.declared.Answer.{Answer}
-use Rattle.plan.specs.declared.Answer.TheVariants.{Taken, Refused}
 use Rattle.plan.specs.declared.Item.{Item}
 use Rattle.plan.specs.declared.Item.TheVariants.{Count, Map, Coordinate, Side, Radius, HeadNumber}
 use Rattle.plan.specs.declared.Plan.{Plan}
@@ -18,9 +17,10 @@ use Rattle.plan.specs.declared.Refusal.{Refusal}
 use Rattle.plan.specs.declared.Refusal.TheVariants.{Ended}
 use Rattle.plan.specs.Book.{with_head}
 use Rattle.plan.specs.Exactly.{Satisfied}
-use Rattle.plan.specs.Table.{holds, refusal_of, number_of, answer_number, answer_offset}
+use Rattle.plan.specs.Table.{Answered, taken, refused, refusal_at, holds, refusal_of, number_of, answer_number, answer_offset}
+use Rattle.plan.proofs.Answers.{same_refusal, same_offset}
 use Rattle.plan.proofs.Exactly.{holds_exactly}
-use Rattle.file.specs.declared.reader.Handed.TheVariants.{Nothing, ThePlan}
+use Rattle.file.specs.declared.reader.Completed.TheVariants.{ThePlan}
 use Rattle.file.specs.declared.reader.Reader.{Reader}
 use Rattle.file.specs.declared.reader.Stage.{Stage}
 use Rattle.file.specs.declared.reader.Stage.TheVariants.{AtCount, AtMap, AtByte0, AtByte1, AtByte2, AtByte3, AtEdit, Stopped}
@@ -45,14 +45,14 @@ Began (AtByte1 a) from at = at ≡ next_offset from
 Began (AtByte2 a b) from at = at ≡ next_offset (next_offset from)
 Began (AtByte3 a b c) from at = at ≡ next_offset (next_offset (next_offset from))
 Began AtEdit from at = Unit {0}
-Began (Stopped refusal o) from at = Unit {0}
+Began (Stopped why) from at = Unit {0}
 
 abbrev BeganAt : Reader → Type 0
 BeganAt r = Began r.stage r.from r.at
 
 to_head_began : (r : Reader) (p : Plan) (i : ℕ) → BeganAt (to_head r p i)
 unfolding to_head
-to_head_began r p i = by_test BeganAt (ltb i p.n) (turn r p (HeadAt i) AtMap Nothing) (turn r p TheBox AtEdit ThePlan) (λ e. tt) (λ e. tt)
+to_head_began r p i = by_test BeganAt (ltb i p.n) (turn r p (HeadAt i) AtMap None) (turn r p TheBox AtEdit (Some ThePlan)) (λ e. tt) (λ e. tt)
 
 completed_began : (t : Target) (r : Reader) → BeganAt (complete_at t r)
 unfolding complete_at
@@ -77,7 +77,7 @@ step_began (AtByte3 a a' a'') r b k =
     let z = number32 a a' a'' b in
     checked BeganAt (item_of r.target r.field z) r.from r (seek (value_read r z) (suc r.field)) (sought_began (value_read r z) (suc r.field)) tt
 step_began AtEdit r b k = checked BeganAt (HeadNumber b r.plan.n) r.at r (choose r b) tt tt
-step_began (Stopped refusal at) r b k = tt
+step_began (Stopped why) r b k = tt
 
 fed_began : (r : Reader) (s : List ℕ) → BeganAt r → BeganAt (feed r s)
 unfolding feed
@@ -105,7 +105,7 @@ placed_at (AtByte1 a) r b k e h g = tt
 placed_at (AtByte2 a a') r b k e h g = tt
 placed_at (AtByte3 a a' a'') r b k e h g = (field_placed r.target r.field (number32 a a' a'' b) k r.from (omega arith), tt)
 placed_at AtEdit r b k e h g = (e, tt)
-placed_at (Stopped refusal o) r b k e h g = tt
+placed_at (Stopped why) r b k e h g = tt
 
 pub checks_placed : ChecksPlaced
 checks_placed s b h =
@@ -118,20 +118,20 @@ checks_placed s b h =
 
 -- a check that is passed, and one that is not
 passed : (P : Reader → Type 0) (item : Item) (from : ℕ) (r next : Reader) → Satisfied item → P next → P (check_or item from r next)
-passed P item from r next s k = subst (λ t. P (goes_on (cond t Taken (Refused (refusal_of item) from)) r next)) (sym ((holds_exactly item).1 s)) k
+passed P item from r next s k = subst (λ t. P (goes_on (cond t taken (refused (refusal_of item) from)) r next)) (sym ((holds_exactly item).1 s)) k
 
-failed : (item : Item) (from : ℕ) (r next : Reader) → ¬ Satisfied item → (check_or item from r next).stage ≡ Stopped (refusal_of item) from
+failed : (item : Item) (from : ℕ) (r next : Reader) → ¬ Satisfied item → (check_or item from r next).stage ≡ Stopped (refusal_at (refusal_of item) from)
 failed item from r next s = go (holds item) refl
   where
-    go : (t : Bool) → holds item ≡ t → (goes_on (cond t Taken (Refused (refusal_of item) from)) r next).stage ≡ Stopped (refusal_of item) from
+    go : (t : Bool) → holds item ≡ t → (goes_on (cond t taken (refused (refusal_of item) from)) r next).stage ≡ Stopped (refusal_at (refusal_of item) from)
     go true e = absurd (s ((holds_exactly item).0 e))
     go false e = refl
 
-stopped_step : (r : Reader) (b : ℕ) (refusal : Refusal) (o : ℕ) (stage : Stage) → stage ≡ Stopped refusal o → (step_at stage r b).stage ≡ Stopped refusal o
+stopped_step : (r : Reader) (b : ℕ) (refusal : Refusal) (o : ℕ) (stage : Stage) → stage ≡ Stopped (refusal_at refusal o) → (step_at stage r b).stage ≡ Stopped (refusal_at refusal o)
 unfolding step_at
-stopped_step r b refusal o stage e = subst (λ t. (step_at t r b).stage ≡ Stopped refusal o) (sym e) refl
+stopped_step r b refusal o stage e = subst (λ t. (step_at t r b).stage ≡ Stopped (refusal_at refusal o)) (sym e) refl
 
-stays_stopped : (s : List ℕ) (r : Reader) (refusal : Refusal) (o : ℕ) → r.stage ≡ Stopped refusal o → (feed r s).stage ≡ Stopped refusal o
+stays_stopped : (s : List ℕ) (r : Reader) (refusal : Refusal) (o : ℕ) → r.stage ≡ Stopped (refusal_at refusal o) → (feed r s).stage ≡ Stopped (refusal_at refusal o)
 unfolding feed
 stays_stopped [] r refusal o e = e
 stays_stopped (b ∷ s) r refusal o e = stays_stopped s (step r b) refusal o (stopped_step r b refusal o r.stage e)
@@ -139,16 +139,16 @@ stays_stopped (b ∷ s) r refusal o e = stays_stopped s (step r b) refusal o (st
 module _ (refusal : Refusal) (o : ℕ) where
   -- one check, and then the rest
   one_fails : (item : Item) (from : ℕ) (r next : Reader) (s : List ℕ)
-      → (FirstFails refusal o (checks (check_or item from r next) s) → (feed (check_or item from r next) s).stage ≡ Stopped refusal o)
-      → FirstFails refusal o (check_of item from ∷ checks (check_or item from r next) s) → (feed (check_or item from r next) s).stage ≡ Stopped refusal o
+      → (FirstFails refusal o (checks (check_or item from r next) s) → (feed (check_or item from r next) s).stage ≡ Stopped (refusal_at refusal o))
+      → FirstFails refusal o (check_of item from ∷ checks (check_or item from r next) s) → (feed (check_or item from r next) s).stage ≡ Stopped (refusal_at refusal o)
   one_fails item from r next s rest =
       ⊎_elim
-      (λ u. stays_stopped s (check_or item from r next) refusal o (failed item from r next u.0 ∙ ap (λ x. Stopped x from) u.1 ∙ ap (Stopped refusal) u.2))
+      (λ u. stays_stopped s (check_or item from r next) refusal o (failed item from r next u.0 ∙ ap₂ (λ x at. Stopped (refusal_at x at)) u.1 u.2))
       (λ u. rest u.1)
 
   fails_at : (stage : Stage) (r : Reader) (b : ℕ) (s : List ℕ)
-      → (FirstFails refusal o (checks (step_at stage r b) s) → (feed (step_at stage r b) s).stage ≡ Stopped refusal o)
-      → FirstFails refusal o (checks_at stage r b ++ checks (step_at stage r b) s) → (feed (step_at stage r b) s).stage ≡ Stopped refusal o
+      → (FirstFails refusal o (checks (step_at stage r b) s) → (feed (step_at stage r b) s).stage ≡ Stopped (refusal_at refusal o))
+      → FirstFails refusal o (checks_at stage r b ++ checks (step_at stage r b) s) → (feed (step_at stage r b) s).stage ≡ Stopped (refusal_at refusal o)
   unfolding step_at
   fails_at AtCount r b s rest u = one_fails (Count b) r.at r (begin r b) s rest u
   fails_at AtMap r b s rest u = one_fails (Map (count_of r.target) b) r.at r (seek (map_read r b) 0) s rest u
@@ -159,9 +159,9 @@ module _ (refusal : Refusal) (o : ℕ) where
       let z = number32 a a' a'' b in
       one_fails (item_of r.target r.field z) r.from r (seek (value_read r z) (suc r.field)) s rest u
   fails_at AtEdit r b s rest u = one_fails (HeadNumber b r.plan.n) r.at r (choose r b) s rest u
-  fails_at (Stopped x from) r b s rest u = rest u
+  fails_at (Stopped why) r b s rest u = rest u
 
-  fails_stop : (s : List ℕ) (r : Reader) → FirstFails refusal o (checks r s) → (feed r s).stage ≡ Stopped refusal o
+  fails_stop : (s : List ℕ) (r : Reader) → FirstFails refusal o (checks r s) → (feed r s).stage ≡ Stopped (refusal_at refusal o)
   unfolding feed checks
   fails_stop [] r u = absurd u
   fails_stop (b ∷ s) r u = fails_at r.stage r b s (fails_stop s (step r b)) u
@@ -175,14 +175,14 @@ Running (AtByte1 a) = Unit {0}
 Running (AtByte2 a b) = Unit {0}
 Running (AtByte3 a b c) = Unit {0}
 Running AtEdit = Unit {0}
-Running (Stopped refusal at) = ⊥
+Running (Stopped why) = ⊥
 
 abbrev Runs : Reader → Type 0
 Runs r = Running r.stage
 
 to_head_runs : (r : Reader) (p : Plan) (i : ℕ) → Runs (to_head r p i)
 unfolding to_head
-to_head_runs r p i = by_test Runs (ltb i p.n) (turn r p (HeadAt i) AtMap Nothing) (turn r p TheBox AtEdit ThePlan) (λ e. tt) (λ e. tt)
+to_head_runs r p i = by_test Runs (ltb i p.n) (turn r p (HeadAt i) AtMap None) (turn r p TheBox AtEdit (Some ThePlan)) (λ e. tt) (λ e. tt)
 
 completed_runs : (t : Target) (r : Reader) → Runs (complete_at t r)
 unfolding complete_at
@@ -210,7 +210,7 @@ passes_at (AtByte3 a a' a'') r b s k rest u =
     let z = number32 a a' a'' b in
     rest (passed Runs (item_of r.target r.field z) r.from r (seek (value_read r z) (suc r.field)) u.0 (sought_runs (value_read r z) (suc r.field))) u.1
 passes_at AtEdit r b s k rest u = rest (passed Runs (HeadNumber b r.plan.n) r.at r (choose r b) u.0 tt) u.1
-passes_at (Stopped refusal at) r b s k rest u = absurd k
+passes_at (Stopped why) r b s k rest u = absurd k
 
 passes_run : (s : List ℕ) (r : Reader) → Runs r → AllPassed (checks r s) → Runs (feed r s)
 unfolding feed checks
@@ -219,7 +219,7 @@ passes_run (b ∷ s) r k u = passes_at r.stage r b s k (passes_run s (step r b))
 
 -- ---- the answer
 
-refused_taken : (r : Refusal) (o : ℕ) → Refused r o ≡ Taken → ⊥
+refused_taken : (r : Refusal) (o : ℕ) → refused r o ≡ taken → ⊥
 refused_taken r o e = let z : ◌≡◌ {A = ℕ} 0 1 = cc e in omega arith
 
 -- some check fails, or none does
@@ -259,7 +259,7 @@ kinds_at (AtByte1 a) r b = tt
 kinds_at (AtByte2 a a') r b = tt
 kinds_at (AtByte3 a a' a'') r b = (field_kinds r.target r.field (number32 a a' a'' b), tt)
 kinds_at AtEdit r b = ((omega arith, omega arith), tt)
-kinds_at (Stopped refusal at) r b = tt
+kinds_at (Stopped why) r b = tt
 
 checks_kinds : (s : List ℕ) (r : Reader) → Every (λ c. Kinds c.item) (checks r s)
 unfolding checks
@@ -276,14 +276,14 @@ module _ (s : List ℕ) where
   answer = sym (reader_answers s)
 
   -- a check fails: its refusal and its offset
-  failing : (r : Refusal) (o : ℕ) → FirstFails r o (checks start s) → end_of (read_file s) ≡ Refused r o
+  failing : (r : Refusal) (o : ℕ) → FirstFails r o (checks start s) → end_of (read_file s) ≡ refused r o
   failing r o u = answer ∙ ap (λ stage. finished_at stage (feed start s).at) (fails_stop r o s start u)
 
   never_ended : (r : Refusal) (o : ℕ) → FirstFails r o (checks start s) → (number_of r ≡ 1 → ⊥) × (number_of r ≡ 7 → ⊥)
   never_ended r o u = refusal_kinds (checks start s) r o (checks_kinds s start) u
 
   -- every check is passed: taken, or 1
-  running_taken : (stage : Stage) (at : ℕ) → finished_at stage at ≡ Taken → stage ≡ AtEdit
+  running_taken : (stage : Stage) (at : ℕ) → finished_at stage at ≡ taken → stage ≡ AtEdit
   running_taken AtCount at e = absurd (refused_taken Ended at e)
   running_taken AtMap at e = absurd (refused_taken Ended at e)
   running_taken AtByte0 at e = absurd (refused_taken Ended at e)
@@ -291,19 +291,19 @@ module _ (s : List ℕ) where
   running_taken (AtByte2 a b) at e = absurd (refused_taken Ended at e)
   running_taken (AtByte3 a b c) at e = absurd (refused_taken Ended at e)
   running_taken AtEdit at e = refl
-  running_taken (Stopped r o) at e = absurd (refused_taken r o e)
+  running_taken (Stopped why) at e = absurd (refused_taken why.refusal why.at e)
 
-  running_wanted : (stage : Stage) (at : ℕ) (r : Refusal) (o : ℕ) → Running stage → finished_at stage at ≡ Refused r o → Wanted stage × (r ≡ Ended)
-  running_wanted AtCount at r o k e = (tt, cc e)
-  running_wanted AtMap at r o k e = (tt, cc e)
-  running_wanted AtByte0 at r o k e = (tt, cc e)
-  running_wanted (AtByte1 a) at r o k e = (tt, cc e)
-  running_wanted (AtByte2 a b) at r o k e = (tt, cc e)
-  running_wanted (AtByte3 a b c) at r o k e = (tt, cc e)
+  running_wanted : (stage : Stage) (at : ℕ) (r : Refusal) (o : ℕ) → Running stage → finished_at stage at ≡ refused r o → Wanted stage × (r ≡ Ended)
+  running_wanted AtCount at r o k e = (tt, sym (same_refusal e))
+  running_wanted AtMap at r o k e = (tt, sym (same_refusal e))
+  running_wanted AtByte0 at r o k e = (tt, sym (same_refusal e))
+  running_wanted (AtByte1 a) at r o k e = (tt, sym (same_refusal e))
+  running_wanted (AtByte2 a b) at r o k e = (tt, sym (same_refusal e))
+  running_wanted (AtByte3 a b c) at r o k e = (tt, sym (same_refusal e))
   running_wanted AtEdit at r o k e = absurd (refused_taken r o (sym e))
-  running_wanted (Stopped x from) at r o k e = absurd k
+  running_wanted (Stopped why) at r o k e = absurd k
 
-  wanted_ended : (stage : Stage) (at : ℕ) → Wanted stage → finished_at stage at ≡ Refused Ended at
+  wanted_ended : (stage : Stage) (at : ℕ) → Wanted stage → finished_at stage at ≡ refused Ended at
   wanted_ended AtCount at k = refl
   wanted_ended AtMap at k = refl
   wanted_ended AtByte0 at k = refl
@@ -311,14 +311,14 @@ module _ (s : List ℕ) where
   wanted_ended (AtByte2 a b) at k = refl
   wanted_ended (AtByte3 a b c) at k = refl
   wanted_ended AtEdit at k = absurd k
-  wanted_ended (Stopped r o) at k = absurd k
+  wanted_ended (Stopped why) at k = absurd k
 
   -- an answer where some check fails is that check's
-  the_failing : (r : Refusal) (o : ℕ) → end_of (read_file s) ≡ Refused r o → SomeFails (checks start s) → FirstFails r o (checks start s)
+  the_failing : (r : Refusal) (o : ℕ) → end_of (read_file s) ≡ refused r o → SomeFails (checks start s) → FirstFails r o (checks start s)
   the_failing r o e u =
-      let same : Refused u.0 u.1 ≡ Refused r o = sym (failing u.0 u.1 u.2) ∙ e in
-      let refusal : u.0 ≡ r = cc same in
-      let offset : u.1 ≡ o = cc same in
+      let same : refused u.0 u.1 ≡ refused r o = sym (failing u.0 u.1 u.2) ∙ e in
+      let refusal : u.0 ≡ r = same_refusal same in
+      let offset : u.1 ≡ o = same_offset same in
       subst (λ x. FirstFails x o (checks start s)) refusal (subst (λ x. FirstFails u.0 x (checks start s)) offset u.2)
 
   runs : AllPassed (checks start s) → Running (feed start s).stage
@@ -343,7 +343,7 @@ file_ended s o = (
       (decided (checks start s))),
   (λ u.
       let last : (feed start s).at ≡ o = omega (arith, (fed_at start s (omega arith) tt).0) in
-      answer s ∙ wanted_ended s (feed start s).stage (feed start s).at u.1 ∙ ap (Refused Ended) last),
+      answer s ∙ wanted_ended s (feed start s).stage (feed start s).at u.1 ∙ ap (refused Ended) last),
 )
 
 pub file_refused : FileRefused
@@ -370,11 +370,11 @@ from_number k o (c ∷ cs) u =
 pub file_number : FileNumber
 file_number s k o h = ((λ q. given (end_of (read_file s)) refl q.0 q.1), found)
   where
-    given : (a : Answer) → end_of (read_file s) ≡ a → answer_number a ≡ k → answer_offset a ≡ o → FirstNumbered k o (checks start s)
-    given Taken e n at = absurd (omega (arith, n))
-    given (Refused r p) e n at =
-        let first = (file_refused s r p (λ q. let is = ap number_of q in omega (arith, is, n))).0 e in
-        subst (λ i. FirstNumbered i o (checks start s)) n (subst (λ i. FirstNumbered (number_of r) i (checks start s)) at (to_number r p (checks start s) first))
+    given : (a : Answered) → end_of (read_file s) ≡ a → answer_number a ≡ k → answer_offset a ≡ o → FirstNumbered k o (checks start s)
+    given (Ok done) e n at = absurd (omega (arith, n))
+    given (Err r) e n at =
+        let first = (file_refused s r.refusal r.at (λ q. let is = ap number_of q in omega (arith, is, n))).0 e in
+        subst (λ i. FirstNumbered i o (checks start s)) n (subst (λ i. FirstNumbered (number_of r.refusal) i (checks start s)) at (to_number r.refusal r.at (checks start s) first))
 
     found : FirstNumbered k o (checks start s) → (answer_number (end_of (read_file s)) ≡ k) × (answer_offset (end_of (read_file s)) ≡ o)
     found u =
@@ -385,10 +385,10 @@ file_number s k o h = ((λ q. given (end_of (read_file s)) refl q.0 q.1), found)
 pub file_seven_never : FileSevenNever
 file_seven_never s e = go (end_of (read_file s)) refl e
   where
-    go : (a : Answer) → end_of (read_file s) ≡ a → answer_number a ≡ 7 → ⊥
-    go Taken q e = omega arith
-    go (Refused r o) q e =
+    go : (a : Answered) → end_of (read_file s) ≡ a → answer_number a ≡ 7 → ⊥
+    go (Ok done) q e = omega arith
+    go (Err r) q e =
         ⊎_elim
-        (λ u. let is : number_of r ≡ 1 = ap number_of (running_wanted s (feed start s).stage (feed start s).at r o (runs s u) (sym (answer s) ∙ q)).1 in omega arith)
-        (λ u. (never_ended s r o (the_failing s r o q u)).1 e)
+        (λ u. let is : number_of r.refusal ≡ 1 = ap number_of (running_wanted s (feed start s).stage (feed start s).at r.refusal r.at (runs s u) (sym (answer s) ∙ q)).1 in omega arith)
+        (λ u. (never_ended s r.refusal r.at (the_failing s r.refusal r.at q u)).1 e)
         (decided (checks start s))

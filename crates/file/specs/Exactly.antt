@@ -3,13 +3,12 @@
 -- Proved under the names in lower case, `proofs/Exactly.antt`.
 use Rattle.std.specs.Prelude.{ℕ, ◌+◌, ◌-◌, ◌^◌, ◌<◌, min, ◌≡◌, List, [], ◌∷◌, ◌++◌, ◌↔◌, ◌⊎◌, length}
 use Rattle.lists.specs.Every.{Every}
-use Rattle.plan.specs.declared.Answer.TheVariants.{Taken, Refused}
 use Rattle.plan.specs.declared.Item.{Item}
 use Rattle.plan.specs.declared.Item.TheVariants.{Count, Map, Coordinate, Side, Radius, HeadNumber, Tables}
 use Rattle.plan.specs.declared.Refusal.{Refusal}
 use Rattle.plan.specs.declared.Refusal.TheVariants.{Ended}
 use Rattle.plan.specs.Exactly.{Satisfied}
-use Rattle.plan.specs.Table.{answer_number, answer_offset, number_of, refusal_of}
+use Rattle.plan.specs.Table.{taken, refused, answer_number, answer_offset, number_of, refusal_of}
 use Rattle.file.specs.declared.reader.Reader.{Reader}
 use Rattle.file.specs.declared.reader.Stage.{Stage}
 use Rattle.file.specs.declared.reader.Stage.TheVariants.{AtCount, AtMap, AtByte0, AtByte1, AtByte2, AtByte3, AtEdit, Stopped}
@@ -36,7 +35,7 @@ checks_at (AtByte1 a) r b = []
 checks_at (AtByte2 a a') r b = []
 checks_at (AtByte3 a a' a'') r b = check_of (item_of r.target r.field (number32 a a' a'' b)) r.from ∷ []
 checks_at AtEdit r b = check_of (HeadNumber b r.plan.n) r.at ∷ []
-checks_at (Stopped refusal at) r b = []
+checks_at (Stopped why) r b = []
 
 abbrev pub checks_of : Reader → ℕ → List Check
 checks_of r b = checks_at r.stage r b
@@ -81,20 +80,20 @@ Wanted (AtByte1 a) = Unit {0}
 Wanted (AtByte2 a b) = Unit {0}
 Wanted (AtByte3 a b c) = Unit {0}
 Wanted AtEdit = ⊥
-Wanted (Stopped refusal at) = ⊥
+Wanted (Stopped why) = ⊥
 
 -- taken: every check is passed, and the file ends where an edit could begin
 abbrev pub FileTaken : Type 0
-FileTaken = (s : List ℕ) → (end_of (read_file s) ≡ Taken) ↔ (AllPassed (checks start s) × ((feed start s).stage ≡ AtEdit))
+FileTaken = (s : List ℕ) → (end_of (read_file s) ≡ taken) ↔ (AllPassed (checks start s) × ((feed start s).stage ≡ AtEdit))
 
 -- 1: every check is passed, and the file ends where a byte is wanted; the offset is the file's length
 abbrev pub FileEnded : Type 0
 FileEnded = (s : List ℕ) (o : ℕ)
-    → (end_of (read_file s) ≡ Refused Ended o) ↔ (AllPassed (checks start s) × Wanted (feed start s).stage × (o ≡ min (length s) (2 ^ 64 - 1)))
+    → (end_of (read_file s) ≡ refused Ended o) ↔ (AllPassed (checks start s) × Wanted (feed start s).stage × (o ≡ min (length s) (2 ^ 64 - 1)))
 
 -- any other refusal: it is that of the first check that fails, and so is its offset
 abbrev pub FileRefused : Type 0
-FileRefused = (s : List ℕ) (r : Refusal) (o : ℕ) → (r ≡ Ended → ⊥) → (end_of (read_file s) ≡ Refused r o) ↔ FirstFails r o (checks start s)
+FileRefused = (s : List ℕ) (r : Refusal) (o : ℕ) → (r ≡ Ended → ⊥) → (end_of (read_file s) ≡ refused r o) ↔ FirstFails r o (checks start s)
 
 -- the first check that is not passed has this number and this offset
 abbrev pub FirstNumbered : ℕ → ℕ → List Check → Type 0

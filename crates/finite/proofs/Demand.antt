@@ -5,7 +5,7 @@ use Prim.Native.Nat.{ℕ, ◌^◌, ◌<◌}
 use lib.ListN.{length}
 use Rattle.lists.specs.Run as Run
 use Rattle.binary64.specs.Magnitude.{Most}
-use Rattle.plan.specs.declared.Answer.TheVariants.{Taken}
+use Rattle.plan.specs.Table.{taken}
 use Rattle.plan.specs.declared.Gradients.{Gradients}
 use Rattle.plan.specs.declared.Lent.{Lent}
 use Rattle.plan.specs.declared.Plan.{Plan}
@@ -28,21 +28,21 @@ use Rattle.finite.proofs.Gradients.{clipped_gradients_finite, open_gradients_fin
 use Rattle.finite.proofs.Overlap.{overlap_finite}
 
 -- a taken call is of a taken plan
-call_plan : (p : Plan) (gradients : Gradients) (lent : Lent) → length p.heads ≡ 10 → call_answer p gradients lent ≡ Taken → plan_answer p ≡ Taken
+call_plan : (p : Plan) (gradients : Gradients) (lent : Lent) → length p.heads ≡ 10 → call_answer p gradients lent ≡ taken → plan_answer p ≡ taken
 call_plan p gradients lent ten taken = (plan_taken p ten).1 ((call_taken p gradients lent ten).0 taken).0
 
 -- ---- any way to work out rows whose afresh rows are bounded, with the exclusives of to_exclusive_areas
 
 module _ (j k : ℕ) (m : Method) (own : m.exclusives ≡ to_exclusives)
-    (bounded : (p : Plan) → length p.heads ≡ 10 → plan_answer p ≡ Taken → (S : ℕ) → S < 2 ^ p.n → Most j 1074 (afresh m p S).number)
-    (exclusive : (p : Plan) → length p.heads ≡ 10 → plan_answer p ≡ Taken
+    (bounded : (p : Plan) → length p.heads ≡ 10 → plan_answer p ≡ taken → (S : ℕ) → S < 2 ^ p.n → Most j 1074 (afresh m p S).number)
+    (exclusive : (p : Plan) → length p.heads ≡ 10 → plan_answer p ≡ taken
     → ExclusivesFinite k p.n (is_there (afresh m p)) (λ S. (afresh m p S).number)) where
   -- the afresh rows of a taken plan
-  rows_finite : (p : Plan) → length p.heads ≡ 10 → plan_answer p ≡ Taken → (t : PlanTable) → AfreshRows m p t.rows → RowsFinite j p.n t
+  rows_finite : (p : Plan) → length p.heads ≡ 10 → plan_answer p ≡ taken → (t : PlanTable) → AfreshRows m p t.rows → RowsFinite j p.n t
   rows_finite p ten taken t fresh = record { rows = λ S h. rw (fresh S h) (bounded p ten taken S h) }
 
   -- and their exclusives
-  areas_finite : (p : Plan) → length p.heads ≡ 10 → plan_answer p ≡ Taken → (t : PlanTable) → ExclusivesOf m p.n (afresh m p) t.exclusives
+  areas_finite : (p : Plan) → length p.heads ≡ 10 → plan_answer p ≡ taken → (t : PlanTable) → ExclusivesOf m p.n (afresh m p) t.exclusives
       → AreasFinite k p.n t
   areas_finite p ten taken t of = record {
     exclusives = λ S h. rw (is S h) ((exclusive p ten taken).exclusive S h);
@@ -71,7 +71,7 @@ module _ (j k : ℕ) (m : Method) (own : m.exclusives ≡ to_exclusives)
       let b = book s.plan es in
       let kept = book_keeps s.plan es in
       let ten : length b.heads ≡ 10 = kept.room ∙ fresh.room in
-      let ok : plan_answer b ≡ Taken = (plan_taken b ten).1 (book_acceptable s.plan es fresh.room ((plan_taken s.plan fresh.room).0 fresh.taken)) in
+      let ok : plan_answer b ≡ taken = (plan_taken b ten).1 (book_acceptable s.plan es fresh.room ((plan_taken s.plan fresh.room).0 fresh.taken)) in
       let left = Run.after (table_step m) s es in (
         subst (λ n. RowsFinite j n left) kept.n (rows_finite b ten ok left ends.fresh),
         λ any. subst (λ n. AreasFinite k n left) kept.n (areas_finite b ten ok left (ends.exclusive any)),
@@ -99,16 +99,16 @@ demand_one sets = record {
   edit_not_below = edit_not_below 41197685760000 46 (in_box sets) refl in-box in_box_exclusive;
 }
   where
-    in-box : (p : Plan) → length p.heads ≡ 10 → plan_answer p ≡ Taken → (S : ℕ) → S < 2 ^ p.n → Most 41197685760000 1074 (afresh (in_box sets) p S).number
+    in-box : (p : Plan) → length p.heads ≡ 10 → plan_answer p ≡ taken → (S : ℕ) → S < 2 ^ p.n → Most 41197685760000 1074 (afresh (in_box sets) p S).number
     in-box = table_clipped_finite sets to_exclusives
 
-    in_box_exclusive : (p : Plan) → length p.heads ≡ 10 → plan_answer p ≡ Taken
+    in_box_exclusive : (p : Plan) → length p.heads ≡ 10 → plan_answer p ≡ taken
         → ExclusivesFinite 46 p.n (is_there (afresh (in_box sets) p)) (λ S. (afresh (in_box sets) p S).number)
     in_box_exclusive p = clipped_exclusives_finite sets to_exclusives (is_there (afresh (in_box sets) p)) p
 
-    without : (p : Plan) → length p.heads ≡ 10 → plan_answer p ≡ Taken → (S : ℕ) → S < 2 ^ p.n → Most 1440000000000 1074 (afresh (unboxed sets) p S).number
+    without : (p : Plan) → length p.heads ≡ 10 → plan_answer p ≡ taken → (S : ℕ) → S < 2 ^ p.n → Most 1440000000000 1074 (afresh (unboxed sets) p S).number
     without = table_finite sets to_exclusives
 
-    without_exclusive : (p : Plan) → length p.heads ≡ 10 → plan_answer p ≡ Taken
+    without_exclusive : (p : Plan) → length p.heads ≡ 10 → plan_answer p ≡ taken
         → ExclusivesFinite 41 p.n (is_there (afresh (unboxed sets) p)) (λ S. (afresh (unboxed sets) p S).number)
     without_exclusive p = open_exclusives_finite sets to_exclusives (is_there (afresh (unboxed sets) p)) p

@@ -3,11 +3,10 @@
 use Rattle.std.specs.Prelude.{◌≡◌, Bool, ℕ, ◌^◌, ◌≤◌, ◌<◌, Float, length, replicate}
 use Rattle.binary64.specs.Constants.{zero64}
 use Rattle.binary64.specs.Magnitude.{Most}
-use Rattle.plan.specs.declared.Answer.TheVariants.{Taken}
 use Rattle.plan.specs.declared.Plan.{Plan}
 use Rattle.plan.specs.Checks.{plan_answer}
 use Rattle.plan.specs.Limits.{GroundWithin, Acceptable}
-use Rattle.plan.specs.Table.{gradient_width}
+use Rattle.plan.specs.Table.{taken, gradient_width}
 use Rattle.drawn.specs.Drawn.{plan_circles, box_of}
 use Rattle.regions.specs.Table.{Exclusives, plan_members, afresh}
 use Rattle.geometry.specs.Rectangle.{area, bounds}
@@ -49,14 +48,14 @@ AcceptableClippedFinite = (p : Plan) → length p.heads ≡ 10 → Acceptable p 
 
 -- A plan that is taken: the row of any set of its heads.
 abbrev pub PlanClippedFinite : Type 0
-PlanClippedFinite = (p : Plan) → length p.heads ≡ 10 → plan_answer p ≡ Taken → (S : ℕ) → ClippedRowFinite p S
+PlanClippedFinite = (p : Plan) → length p.heads ≡ 10 → plan_answer p ≡ taken → (S : ℕ) → ClippedRowFinite p S
 
 -- And row 0, the area of the box, is at most 1,600,000,000.
 abbrev pub PlanBoxFinite : Type 0
-PlanBoxFinite = (p : Plan) → length p.heads ≡ 10 → plan_answer p ≡ Taken → Most 1600000000 1074 (area (box_of p.ground))
+PlanBoxFinite = (p : Plan) → length p.heads ≡ 10 → plan_answer p ≡ taken → Most 1600000000 1074 (area (box_of p.ground))
 
 -- The afresh table of a taken plan's rows in its box, for any list of sets and any exclusives: every number, row 0 too.
 abbrev pub TableClippedFinite : Type 0
 TableClippedFinite =
-    (sets : Plan → ℕ → Bool) (exclusives : Exclusives) (p : Plan) → length p.heads ≡ 10 → plan_answer p ≡ Taken → (S : ℕ) → S < 2 ^ p.n
+    (sets : Plan → ℕ → Bool) (exclusives : Exclusives) (p : Plan) → length p.heads ≡ 10 → plan_answer p ≡ taken → (S : ℕ) → S < 2 ^ p.n
     → Most 41197685760000 1074 (afresh (clipped_method sets exclusives) p S).number

@@ -22,7 +22,7 @@ use Rattle.boundary.specs.declared.arcs.BoundaryArc.{BoundaryArc}
 use Rattle.boundary.specs.Outline.{gap, angles_of, outline}
 use Rattle.boundary.specs.Set.{region_arcs}
 use Rattle.inside.specs.Breaks.{breaks as breaks_of}
-use Rattle.plan.specs.declared.Answer.TheVariants.{Taken}
+use Rattle.plan.specs.Table.{taken}
 use Rattle.plan.specs.declared.Plan.{Plan}
 use Rattle.plan.specs.Checks.{plan_answer}
 use Rattle.regions.specs.Table.{plan_members}
@@ -74,7 +74,7 @@ pub record PointInDomain (c : Circle) (p : Point) : Type 0 where
 -- For a taken plan: at every point counted at every head of any set.
 abbrev pub ArgumentsInDomain : Type 0
 ArgumentsInDomain =
-    (p : Plan) → length p.heads ≡ 10 → plan_answer p ≡ Taken → (S : ℕ) → Every (λ m. Every (PointInDomain m.circle) m.points) (plan_members p S)
+    (p : Plan) → length p.heads ≡ 10 → plan_answer p ≡ taken → (S : ℕ) → Every (λ m. Every (PointInDomain m.circle) m.points) (plan_members p S)
 
 -- acos and asin are taken of a quotient that has passed the test |q| ≤ 1 (inside's `vertical_crossings` and `horizontal_crossings`): it is of their domain.
 abbrev pub QuotientInDomain : Type 0

@@ -5,7 +5,7 @@ use Rattle.std.specs.Float.Ieee.{is_nan, lt}
 use Rattle.binary64.specs.Constants.{zero64}
 use Rattle.binary64.specs.Magnitude.{Most}
 use Rattle.binary64.specs.Units.{negative}
-use Rattle.plan.specs.declared.Answer.TheVariants.{Taken}
+use Rattle.plan.specs.Table.{taken}
 use Rattle.plan.specs.declared.Plan.{Plan}
 use Rattle.plan.specs.Checks.{plan_answer}
 use Rattle.exclusive.specs.Exclusive.{unclamped, exclusive_row}
@@ -50,11 +50,11 @@ pub record ExclusivesFinite (k n : ℕ) (present : ℕ → Bool) (area : ℕ →
 -- whichever rows the exclusives are told are present.
 abbrev pub ClippedExclusivesFinite : Type 0
 ClippedExclusivesFinite =
-    (sets : Plan → ℕ → Bool) (exclusives : Exclusives) (present : ℕ → Bool) (p : Plan) → length p.heads ≡ 10 → plan_answer p ≡ Taken
+    (sets : Plan → ℕ → Bool) (exclusives : Exclusives) (present : ℕ → Bool) (p : Plan) → length p.heads ≡ 10 → plan_answer p ≡ taken
     → ExclusivesFinite 46 p.n present (λ S. (afresh (clipped_method sets exclusives) p S).number)
 
 -- Without the box at most 2^41, and 2^162.
 abbrev pub OpenExclusivesFinite : Type 0
 OpenExclusivesFinite =
-    (sets : Plan → ℕ → Bool) (exclusives : Exclusives) (present : ℕ → Bool) (p : Plan) → length p.heads ≡ 10 → plan_answer p ≡ Taken
+    (sets : Plan → ℕ → Bool) (exclusives : Exclusives) (present : ℕ → Bool) (p : Plan) → length p.heads ≡ 10 → plan_answer p ≡ taken
     → ExclusivesFinite 41 p.n present (λ S. (afresh (open_method sets exclusives) p S).number)

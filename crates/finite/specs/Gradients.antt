@@ -7,10 +7,9 @@ use Rattle.lists.specs.Every.{Every}
 use Rattle.binary64.specs.Constants.{zero64}
 use Rattle.binary64.specs.Magnitude.{Most}
 use Rattle.binary64.specs.Units.{signed_zero}
-use Rattle.plan.specs.declared.Answer.TheVariants.{Taken}
 use Rattle.plan.specs.declared.Plan.{Plan}
 use Rattle.plan.specs.Checks.{plan_answer}
-use Rattle.plan.specs.Table.{gradient_width, open_gradient_width}
+use Rattle.plan.specs.Table.{taken, gradient_width, open_gradient_width}
 use Rattle.geometry.specs.Rectangle.{area}
 use Rattle.drawn.specs.Drawn.{box_of}
 use Rattle.exclusive_gradients.specs.Gradient.{unless_replaced, exclusive_with_gradient}
@@ -26,11 +25,11 @@ use Rattle.finite.specs.Exclusives.{MostTwoTo}
 -- The gradient rows of a taken plan, row 0 and absent rows included: in the box each entry is at most 31,490,604,288, and without it at most 72,000,000.
 abbrev pub ClippedGradientRowsFinite : Type 0
 ClippedGradientRowsFinite =
-    (sets : Plan → ℕ → Bool) (p : Plan) → length p.heads ≡ 10 → plan_answer p ≡ Taken → (S : ℕ) → Every (Most 31490604288 1074) (clipped_gradients sets p S)
+    (sets : Plan → ℕ → Bool) (p : Plan) → length p.heads ≡ 10 → plan_answer p ≡ taken → (S : ℕ) → Every (Most 31490604288 1074) (clipped_gradients sets p S)
 
 abbrev pub OpenGradientRowsFinite : Type 0
 OpenGradientRowsFinite =
-    (sets : Plan → ℕ → Bool) (p : Plan) → length p.heads ≡ 10 → plan_answer p ≡ Taken → (S : ℕ) → Every (Most 72000000 1074) (open_gradients sets p S)
+    (sets : Plan → ℕ → Bool) (p : Plan) → length p.heads ≡ 10 → plan_answer p ≡ taken → (S : ℕ) → Every (Most 72000000 1074) (open_gradients sets p S)
 
 -- the areas that go with the gradients in the box, which are summed in another way than those of the rows; without a box they are the rows'
 abbrev pub clipped_sums : (Plan → ℕ → Bool) → Plan → ℕ → Float
@@ -51,13 +50,13 @@ pub record GradientsFinite (k j n width : ℕ) (present : ℕ → Bool) (areas :
 -- In the box: areas of at most 2^(46 + 11(n+1)), entries of at most 2^(35 + 11(n+1)), which for ten heads are 2^167 and 2^156.
 abbrev pub ClippedGradientsFinite : Type 0
 ClippedGradientsFinite =
-    (sets : Plan → ℕ → Bool) (present : ℕ → Bool) (p : Plan) → length p.heads ≡ 10 → plan_answer p ≡ Taken
+    (sets : Plan → ℕ → Bool) (present : ℕ → Bool) (p : Plan) → length p.heads ≡ 10 → plan_answer p ≡ taken
     → GradientsFinite 46 35 p.n (gradient_width p.n) present (clipped_sums sets p) (clipped_gradients sets p)
 
 -- Without the box: 2^(41 + 11(n+1)) and 2^(27 + 11(n+1)), which for ten heads are 2^162 and 2^148.
 abbrev pub OpenGradientsFinite : Type 0
 OpenGradientsFinite =
-    (sets : Plan → ℕ → Bool) (exclusives : Exclusives) (present : ℕ → Bool) (p : Plan) → length p.heads ≡ 10 → plan_answer p ≡ Taken
+    (sets : Plan → ℕ → Bool) (exclusives : Exclusives) (present : ℕ → Bool) (p : Plan) → length p.heads ≡ 10 → plan_answer p ≡ taken
     → GradientsFinite 41 27 p.n (open_gradient_width p.n) present (λ S. (afresh (open_method sets exclusives) p S).number) (open_gradients sets p)
 
 -- ---- of any numbers at all

@@ -5,7 +5,7 @@ use Rattle.binary64.specs.Magnitude.{Most}
 use Rattle.heads.specs.Limits.{in_limits}
 use Rattle.masks.specs.Mask.{in_set}
 use Rattle.regions.specs.Table.{head_at}
-use Rattle.plan.specs.declared.Answer.TheVariants.{Taken}
+use Rattle.plan.specs.Table.{taken}
 use Rattle.plan.specs.declared.Plan.{Plan}
 use Rattle.plan.specs.Checks.{plan_answer}
 use Rattle.drawn.specs.Drawn.{plan_circles}
@@ -23,4 +23,4 @@ pub record PlanOverlapFinite (p : Plan) : Type 0 where
   pub some : (S : ℕ) → Most 1440000000000 1074 (overlap_of (plan_circles p) S)
 
 abbrev pub OverlapFinite : Type 0
-OverlapFinite = (p : Plan) → length p.heads ≡ 10 → plan_answer p ≡ Taken → PlanOverlapFinite p
+OverlapFinite = (p : Plan) → length p.heads ≡ 10 → plan_answer p ≡ taken → PlanOverlapFinite p

@@ -3,7 +3,7 @@
 use Rattle.std.specs.Prelude.{◌≡◌, Bool, true, List, ℕ, ◌*◌, ◌^◌, ◌≤◌, ◌<◌, Float, length, replicate}
 use Rattle.binary64.specs.Constants.{zero64}
 use Rattle.binary64.specs.Magnitude.{Most}
-use Rattle.plan.specs.declared.Answer.TheVariants.{Taken}
+use Rattle.plan.specs.Table.{taken}
 use Rattle.plan.specs.declared.Plan.{Plan}
 use Rattle.plan.specs.Checks.{plan_answer}
 use Rattle.plan.specs.Limits.{Acceptable}
@@ -41,10 +41,10 @@ AcceptableFinite = (p : Plan) → length p.heads ≡ 10 → Acceptable p → (S 
 
 -- A plan that is taken: the row of any set of its heads.
 abbrev pub PlanFinite : Type 0
-PlanFinite = (p : Plan) → length p.heads ≡ 10 → plan_answer p ≡ Taken → (S : ℕ) → OpenRowFinite p S
+PlanFinite = (p : Plan) → length p.heads ≡ 10 → plan_answer p ≡ taken → (S : ℕ) → OpenRowFinite p S
 
 -- The afresh table of open rows of a taken plan, for any list of sets and any exclusives: every number.
 abbrev pub TableFinite : Type 0
 TableFinite =
-    (sets : Plan → ℕ → Bool) (exclusives : Exclusives) (p : Plan) → length p.heads ≡ 10 → plan_answer p ≡ Taken
+    (sets : Plan → ℕ → Bool) (exclusives : Exclusives) (p : Plan) → length p.heads ≡ 10 → plan_answer p ≡ taken
     → (S : ℕ) → S < 2 ^ p.n → Most 1440000000000 1074 (afresh (open_method sets exclusives) p S).number

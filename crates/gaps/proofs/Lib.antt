@@ -1,3 +1,3 @@
-pub mod Circles
+pub mod Next
 pub mod Owning
 pub mod Numbering

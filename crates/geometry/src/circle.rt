@@ -15,7 +15,7 @@ use binary64::{abs, smaller};
 use elementary::arctangent::acos;
 use elementary::root::root;
 
-#[derive(Clone, Copy)]
+#[derive(Clone, Copy, PartialEq, Debug)]
 pub struct Circle {
     pub center: Point,
     pub radius: f64,
@@ -62,10 +62,8 @@ impl Circle {
     {
         let squared = squared_distance(self.center, other.center);
         // a sum with a radius that is not below zero is no less, as rounded too
-        if moderate(other.radius) {
-            if root_above(squared, self.radius) {
-                return false;
-            }
+        if moderate(other.radius) && root_above(squared, self.radius) {
+            return false;
         }
         root(squared) + other.radius <= self.radius
     }
@@ -104,18 +102,6 @@ impl Circle {
         lens(r1, r2, d)
     }
 
-    // Whether centre and radius are equal.
-    fn identical(self, other: Circle) -> bool
-        ensures { result ≡ spec.identical self other }
-    {
-        if self.center.x == other.center.x {
-            if self.center.y == other.center.y {
-                return self.radius == other.radius;
-            }
-        }
-        false
-    }
-
     // Where the outlines cross, for centres at the distance d: the foot of the chord lies at the
     // distance a on the way to the other centre, each point h away from the foot.
     fn crossing(self, other: Circle, d: f64) -> Meeting
@@ -147,7 +133,7 @@ impl Circle {
     pub fn intersection_points(self, other: Circle) -> Meeting
         ensures { points result ≡ spec.intersection_points self other }
     {
-        if self.identical(other) {
+        if self == other {
             return Meeting::None;
         }
         let squared = squared_distance(self.center, other.center);
@@ -163,6 +149,7 @@ impl Circle {
 }
 
 // The square of the distance of two points, whose root it is.
+#[tactic(auto, unfolding(elementary::specs::Root::hypot))]
 fn squared_distance(p: Point, q: Point) -> f64
     ensures { root result ≡ distance p q }
 {
@@ -178,37 +165,24 @@ fn moderate(x: f64) -> bool
     0.0 <= x && x < 18446744073709551616.0
 }
 
-// Whether the root of s is seen to be above t without being worked out: s is above the square, as rounded, of a number above t.
+// Whether the root of s is seen to be above t without being worked out: s is above the square, as rounded, of a number
+// above t.
 fn root_above(s: f64, t: f64) -> bool
     ensures { result ≡ true → Above t (root s) }
 {
-    if moderate(s) {
-        if moderate(t) {
-            let more = t * 1.0009765625;
-            if t < more {
-                return more * more < s;
-            }
-        }
-    }
-    false
+    let more = t * 1.0009765625;
+    moderate(s) && moderate(t) && t < more && more * more < s
 }
 
-// Whether the root of s is at most t. The root takes most of the time of a distance, and is seldom needed: below the square of t, as
-// rounded, s has a root of at most t.
+// Whether the root of s is at most t. The root takes most of the time of a distance, and is seldom needed: below the
+// square of t, as rounded, s has a root of at most t.
 fn root_at_most(s: f64, t: f64) -> bool
     ensures { result ≡ (root s ≤ᶠ t) }
 {
-    if moderate(s) {
-        if moderate(t) {
-            if s < t * t {
-                return true;
-            }
-        }
+    if moderate(s) && moderate(t) && s < t * t {
+        return true;
     }
-    if root_above(s, t) {
-        return false;
-    }
-    root(s) <= t
+    !root_above(s, t) && root(s) <= t
 }
 
 // The area between two arcs: a sector of each circle, less the kite between the centres and the

@@ -1,11 +1,12 @@
-// Where two outlines meet: nowhere, in one point or in two. The Rust has a Vec<Point> here.
+// Where two outlines meet: nowhere, in one point or in two. The Rust has a Vec<Point> here; a library without a heap has
+// a value with the coordinates.
 ghost use Rattle.std.specs.Prelude.{◌≡◌};
 ghost use Rattle.geometry.specs.Meeting as spec;
 
 use crate::point::Point;
 
 // The coordinates x, y of each point.
-#[derive(Clone, Copy)]
+#[derive(Clone, Copy, PartialEq, Debug)]
 pub enum Meeting {
     None,
     One(f64, f64),
@@ -17,11 +18,10 @@ impl Meeting {
     pub(crate) fn of(p: Point, q: Point) -> Self
         ensures { spec.points result ≡ spec.distinct p q }
     {
-        if p.x == q.x {
-            if p.y == q.y {
-                return Meeting::One(p.x, p.y);
-            }
+        if p == q {
+            Meeting::One(p.x, p.y)
+        } else {
+            Meeting::Two(p.x, p.y, q.x, q.y)
         }
-        Meeting::Two(p.x, p.y, q.x, q.y)
     }
 }

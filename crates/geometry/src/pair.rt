@@ -6,8 +6,8 @@ ghost use Rattle.geometry.specs.Meeting.{points};
 use crate::circle::Circle;
 use crate::meeting::Meeting;
 
-// The numbers of the two heads in the plan, and their meeting.
-#[derive(Clone, Copy)]
+// The numbers of the two heads in the plan, and their meeting; by value, as the library has no heap.
+#[derive(Clone, Copy, PartialEq, Debug)]
 pub struct Pair {
     pub first: usize,
     pub second: usize,
@@ -21,11 +21,10 @@ impl Pair {
             (result.second ≡ second) ×
             (points result.meeting ≡ intersection_points a b) }
     {
-        let meeting = a.intersection_points(b);
         Pair {
             first,
             second,
-            meeting,
+            meeting: a.intersection_points(b),
         }
     }
 }

@@ -6,7 +6,7 @@ ghost use Rattle.geometry.specs.Rectangle as spec;
 use crate::bounds::Bounds;
 use crate::point::Point;
 
-#[derive(Clone, Copy)]
+#[derive(Clone, Copy, PartialEq, Debug)]
 pub struct Rectangle {
     pub center: Point,
     pub width: f64,

@@ -22,12 +22,11 @@ use Rattle.intersections.specs.Members.{heads_of}
 use Rattle.intersections.specs.Points.{collected}
 use Rattle.outline.specs.Area.{open_area}
 use Rattle.clip.specs.Gradient.{WithGradient, with_gradient}
-use Rattle.plan.specs.declared.Answer.TheVariants.{Taken, Refused}
 use Rattle.plan.specs.declared.Gradients.{Gradients}
 use Rattle.plan.specs.declared.Gradients.TheVariants.{Clipped, Open}
 use Rattle.plan.specs.declared.Plan.{Plan}
-use Rattle.plan.specs.declared.Refusal.{Refusal}
 use Rattle.plan.specs.Checks.{call_answer}
+use Rattle.plan.specs.Table.{taken}
 use Rattle.plan.proofs.Exactly.{call_taken}
 use Rattle.drawn.specs.Drawn.{plan_circles, box_of}
 use Rattle.drawn.proofs.Circles.{circles_many}
@@ -228,7 +227,7 @@ module _ (p : Plan) (sets sets' : Plan → ℕ → Bool) (same : Alike p.n (sets
       three (bytes_alike p.n _ _ (there false) _ _ areas t.presence) (areas_alike p.n _ _ (there false) _ _ areas t.exclusives)
       (rows_alike p.n _ _ (there false) _ _ areas (3 * p.n) _ _ rows t.gradients)
 
--- ---- a call: its sets, its room, its refusals
+-- ---- a call: its sets and its room
 
 -- the bytes of a plan's sets
 pub sets_say : (p : Plan) → length p.heads ≡ 10 → p.n ≤ 10 → Alike p.n (stands (set_bytes (plan_circles p) (collected (plan_circles p)))) (plan_sets p)
@@ -239,7 +238,7 @@ sets_say p ten few S h =
     ap (λ (b : ℕ). eqb b 1) (written_before (λ T. byte (is T)) (2 ^ length (plan_circles p)) S (replicate 1024 0) 0 below) ∙ byte_stands (is S)
 
 -- a taken call has room for its rows
-pub taken_room : (b : Bool) (p : Plan) (t : GradientSlices) → length p.heads ≡ 10 → call_answer p (which_of b) (lent_gradients t) ≡ Taken → Room p b t
+pub taken_room : (b : Bool) (p : Plan) (t : GradientSlices) → length p.heads ≡ 10 → call_answer p (which_of b) (lent_gradients t) ≡ taken → Room p b t
 taken_room true p t ten e =
     let z = (call_taken p Clipped (lent_gradients t) ten).0 e in
     record { few = z.0.count; bytes = omega (arith, z.1.0); numbers = omega (arith, z.1.0); slopes = omega (arith, z.1.1) }
@@ -248,8 +247,5 @@ taken_room false p t ten e =
     record { few = z.0.count; bytes = omega (arith, z.1.0); numbers = omega (arith, z.1.0); slopes = omega (arith, z.1.1) }
 
 module _ (which : Gradients) (slopes : Plan → Slopes) (p : Plan) (t : GradientSlices) where
-  pub step_taken : call_answer p which (lent_gradients t) ≡ Taken → step_to (gradients_written p.n (slopes p) t) Taken ≡ gradients_step which slopes p t
+  pub step_taken : call_answer p which (lent_gradients t) ≡ taken → step_to (gradients_written p.n (slopes p) t) taken ≡ gradients_step which slopes p t
   step_taken e = rw e
-
-  pub step_refused : (r : Refusal) (at : ℕ) → call_answer p which (lent_gradients t) ≡ Refused r at → step_to t (Refused r at) ≡ gradients_step which slopes p t
-  step_refused r at e = rw e

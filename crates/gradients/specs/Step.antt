@@ -3,14 +3,13 @@
 use Rattle.std.specs.Prelude.{ℕ, ◌+◌, ◌*◌, ◌^◌, ◌≤◌, Bool, true, false, cond, List, [], ◌∷◌, ◌≡◌, Float, length}
 use Rattle.lists.specs.Run.{Step}
 use Rattle.binary64.specs.Constants.{zero64}
-use Rattle.plan.specs.declared.Answer.{Answer}
 use Rattle.plan.specs.declared.Gradients.{Gradients}
 use Rattle.plan.specs.declared.Gradients.TheVariants.{Clipped, Open}
 use Rattle.plan.specs.declared.Lent.{Lent}
 use Rattle.plan.specs.declared.Plan.{Plan}
 use Rattle.plan.specs.Book.{leaves}
 use Rattle.plan.specs.Checks.{call_answer}
-use Rattle.plan.specs.Table.{lent_by}
+use Rattle.plan.specs.Table.{Answered, lent_by}
 use Rattle.geometry.specs.Rectangle.{area}
 use Rattle.intersections.specs.Points.{collected}
 use Rattle.drawn.specs.Drawn.{plan_circles, box_of}
@@ -70,19 +69,19 @@ abbrev pub gradients_written : ℕ → Slopes → GradientSlices → GradientSli
 gradients_written n g t =
     gradient_slices (presence_written n g.rows t.presence) (areas_written n g t.exclusives) (slopes_written n g t.gradients)
 
-abbrev pub step_to : GradientSlices → Answer → Step GradientSlices Answer
+abbrev pub step_to : GradientSlices → Answered → Step GradientSlices Answered
 step_to left answer = record { left = left; answer = answer }
 
-abbrev pub gradients_step : Gradients → (Plan → Slopes) → Plan → GradientSlices → Step GradientSlices Answer
+abbrev pub gradients_step : Gradients → (Plan → Slopes) → Plan → GradientSlices → Step GradientSlices Answered
 gradients_step which slopes p t =
     let answer = call_answer p which (lent_gradients t) in
     step_to (leaves answer t (gradients_written p.n (slopes p) t)) answer
 
 -- in the box, and without it; the box's fields are checked in both
-unfoldable pub clipped_step : (Plan → ℕ → Bool) → Plan → GradientSlices → Step GradientSlices Answer
+unfoldable pub clipped_step : (Plan → ℕ → Bool) → Plan → GradientSlices → Step GradientSlices Answered
 clipped_step sets = gradients_step Clipped (clipped_plan sets)
 
-unfoldable pub open_step : (Plan → ℕ → Bool) → Plan → GradientSlices → Step GradientSlices Answer
+unfoldable pub open_step : (Plan → ℕ → Bool) → Plan → GradientSlices → Step GradientSlices Answered
 open_step sets = gradients_step Open (open_plan sets)
 
 -- there is room for the rows of a plan

@@ -10,7 +10,6 @@ ghost use Rattle.gradients.specs.Step.{gradient_slices, step_to, gradients_writt
 use diagram::drawing::Drawing;
 use diagram::gradients::exclusive_areas_and_gradients_of;
 use drawn::{box_of, circles_of};
-use exclusive::areas::shorter;
 use intersections::collect::collect_intersections;
 use plan::check::check_call;
 use plan::{Answer, Gradients, Lent, Plan};
@@ -21,8 +20,8 @@ fn lent_by(presence: usize, exclusives: usize, gradients: usize) -> Lent
     ensures { result ≡ lent_by (presence ∷ exclusives ∷ []) gradients }
 {
     Lent {
-        rows: shorter(presence, exclusives),
-        gradients: gradients,
+        rows: presence.min(exclusives),
+        gradients,
     }
 }
 
@@ -30,16 +29,13 @@ fn lent_by(presence: usize, exclusives: usize, gradients: usize) -> Lent
 fn drawing_of(plan: Plan, clipped: bool) -> Drawing
     ensures { Of plan clipped result }
 {
-    let ground = plan.ground;
     let circles = circles_of(plan);
-    let points = collect_intersections(circles, plan.n);
-    let container = box_of(ground);
     Drawing {
         boxed: clipped,
         n: plan.n,
-        circles: circles,
-        points: points,
-        container: container,
+        circles,
+        points: collect_intersections(circles, plan.n),
+        container: box_of(plan.ground),
     }
 }
 
@@ -57,7 +53,8 @@ fn write_gradients(
         ≡ gradients_written plan.n (plan_slopes drawing.boxed (λ q. stands sets.now) plan)
         (gradient_slices presence.old exclusives.old gradients.old) }
 {
-    exclusive_areas_and_gradients_of(sets, drawing, presence, exclusives, gradients);
+    // The plan's checks have asked for the same room.
+    let _ = exclusive_areas_and_gradients_of(sets, drawing, presence, exclusives, gradients);
 }
 
 // Which gradient rows a call writes.
@@ -82,18 +79,11 @@ fn work_out(
         ≡ gradients_step (which_of clipped) (plan_slopes clipped plan_sets) plan (gradient_slices presence.old exclusives.old gradients.old) }
 {
     let lent = lent_by(presence.len(), exclusives.len(), gradients.len());
-    let answer = check_call(plan, which(clipped), lent);
-    match answer {
-        Answer::Taken => {
-            let drawing = drawing_of(plan, clipped);
-            let circles = drawing.circles;
-            let points = drawing.points;
-            let sets = discover_regions(circles, points, drawing.n);
-            write_gradients(plan, drawing, &sets, presence, exclusives, gradients);
-            Answer::Taken
-        }
-        Answer::Refused(refusal, at) => Answer::Refused(refusal, at),
-    }
+    check_call(plan, which(clipped), lent)?;
+    let drawing = drawing_of(plan, clipped);
+    let sets = discover_regions(drawing.circles, drawing.points, drawing.n);
+    write_gradients(plan, drawing, &sets, presence, exclusives, gradients);
+    Ok(())
 }
 
 // The exclusives of a plan in its box with their gradients: row S at index S, its gradient of 3n + 4 numbers from S * (3n + 4) on: by x, y and

@@ -1,40 +1,47 @@
--- What each of the tests of `relation_at` settles: t is the difference of the radii a and b as the code has it.
-use Prim.Native.Nat.{ℕ, ◌+◌, ◌*◌, ◌<◌}
-use native.Mathlib.Omega.{arith}
-use mathlib.Core.Path.{◌≡◌, sym, ap, ◌∙◌, subst}
-use mathlib.Core.Bool.{true, false}
-use lib.Dec.{ltb}
-use borrow.Author.Tests.{ltb-true, ltb-false}
+-- What each arm of `relation_at` settles: t and s are the difference and the sum of the radii a and b as the code has them.
+use Rattle.std.proofs.Common.{ℕ, ◌+◌, ◌*◌, ◌<◌, ◌≡◌, Less, Equal, Greater, arith, sym, ap, ◌∙◌, subst}
+use Rattle.std.specs.Int.{abs_diff}
+use Rattle.std.specs.Ordering.{nat_cmp}
+use Rattle.std.proofs.lemmas.Cmp.{ranked}
 use Rattle.heads.specs.declared.Relation.TheVariants.{Apart, TouchingOutside, Crossing, TouchingInside, Holding, Identical}
 use Rattle.heads.specs.Relation.{gap, relation}
 use Rattle.heads.specs.Cases.{relation_is, gap_zero}
 
-module _ (D a b t : ℕ) (e : t ≡ gap a b) where
+module _ (D a b t : ℕ) (h : t ≡ abs_diff a b) where
+  gap_is : t ≡ gap a b
+  unfolding gap
+  gap_is = h
+
   -- below t²
-  pub holding : ltb D (t * t) ≡ true → Holding ≡ relation D a b
-  holding h = sym (relation_is Holding D a b (subst (λ (n : ℕ). D < n * n) e (ltb-true D (t * t) h)))
+  pub holding : Less ≡ nat_cmp D (t * t) → Holding ≡ relation D a b
+  holding o = sym (relation_is Holding D a b (subst (λ (n : ℕ). D < n * n) gap_is (ranked D (t * t) Less o)))
 
   -- at t², and t is zero
-  pub same : D ≡ t * t → t ≡ 0 → Identical ≡ relation D a b
-  same h z = sym (relation_is Identical D a b (h ∙ ap (λ (n : ℕ). n * n) z, gap_zero a b (sym e ∙ z)))
+  pub same : Equal ≡ nat_cmp D (t * t) → t ≡ 0 → Identical ≡ relation D a b
+  same o z =
+      sym (relation_is Identical D a b (ranked D (t * t) Equal o ∙ ap (λ (n : ℕ). n * n) z, gap_zero a b (sym gap_is ∙ z)))
 
   -- at t², and t is not zero
-  pub inside : D ≡ t * t → (t ≡ 0 → ⊥) → TouchingInside ≡ relation D a b
-  inside h z = sym (relation_is TouchingInside D a b (omega arith, h ∙ ap (λ (n : ℕ). n * n) e))
+  pub inside : Equal ≡ nat_cmp D (t * t) → (t ≡ 0 → ⊥) → TouchingInside ≡ relation D a b
+  inside o z =
+      let e : t ≡ gap a b = gap_is in
+      sym (relation_is TouchingInside D a b (omega arith, ranked D (t * t) Equal o ∙ ap (λ (n : ℕ). n * n) e))
 
-  -- neither below t² nor at it
-  module _ (h : ltb D (t * t) ≡ false) (k : D ≡ t * t → ⊥) where
+  -- above t²
+  module _ (s : ℕ) (k : s ≡ a + b) (o : Greater ≡ nat_cmp D (t * t)) where
     beyond : gap a b * gap a b < D
-    beyond = subst (λ (n : ℕ). n * n < D) e (omega (arith, ltb-false D (t * t) h))
+    beyond = subst (λ (n : ℕ). n * n < D) gap_is (ranked D (t * t) Greater o)
 
-    -- below s²
-    pub crossing : ltb D ((a + b) * (a + b)) ≡ true → Crossing ≡ relation D a b
-    crossing l = sym (relation_is Crossing D a b (beyond, ltb-true D ((a + b) * (a + b)) l))
+    -- and below s²
+    pub crossing : Less ≡ nat_cmp D (s * s) → Crossing ≡ relation D a b
+    crossing l =
+        sym (relation_is Crossing D a b (beyond, subst (λ (n : ℕ). D < n * n) k (ranked D (s * s) Less l)))
 
-    -- at s²
-    pub outside : D ≡ (a + b) * (a + b) → TouchingOutside ≡ relation D a b
-    outside l = sym (relation_is TouchingOutside D a b (beyond, l))
+    -- and at s²
+    pub outside : Equal ≡ nat_cmp D (s * s) → TouchingOutside ≡ relation D a b
+    outside l =
+        sym (relation_is TouchingOutside D a b (beyond, subst (λ (n : ℕ). D ≡ n * n) k (ranked D (s * s) Equal l)))
 
-    -- neither below s² nor at it
-    pub apart : ltb D ((a + b) * (a + b)) ≡ false → (D ≡ (a + b) * (a + b) → ⊥) → Apart ≡ relation D a b
-    apart l n = sym (relation_is Apart D a b (omega (arith, ltb-false D ((a + b) * (a + b)) l)))
+    -- and above s²
+    pub apart : Greater ≡ nat_cmp D (s * s) → Apart ≡ relation D a b
+    apart l = sym (relation_is Apart D a b (subst (λ (n : ℕ). n * n < D) k (ranked D (s * s) Greater l)))

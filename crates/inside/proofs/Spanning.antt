@@ -1,11 +1,11 @@
 -- Laws of the span of an edge for the loop that goes through the circles of a set.
-use mathlib.Core.Path.{◌≡◌, refl, sym, ap, ◌∙◌}
+use mathlib.Core.Path.{◌≡◌, refl, sym}
 use mathlib.Core.Bool.{Bool, true, false}
 use mathlib.Core.List.{List, [], map, map-id}
 use Prim.Native.Nat.{ℕ, ◌+◌, ◌≤◌, ◌<◌}
 use native.Mathlib.Numerals.{add-one}
-use lib.ListN.{length, get_or, take, drop, drop_of_length-le}
-use lib.Seq.{drop-cons, get_or-take}
+use lib.ListN.{length, get_or, drop, drop_of_length-le}
+use lib.Seq.{drop-cons}
 use lib.Ieee.{Float}
 use Rattle.lists.proofs.Lists.{get_d_mapped}
 use Rattle.geometry.specs.declared.circle.Circle.{Circle}
@@ -39,10 +39,9 @@ module _ (y lo hi : Float) (cs : List Circle) (i : ℕ) where
   span_end h = rw (drop_of_length-le cs h)
 
 -- the circle at i as an edge sees it
-pub seen_at : (upright : Bool) (n : ℕ) (circles : List Circle) (i : ℕ) → i < n → i < length (take n circles)
-    → seen upright (get_or circles i no_circle) ≡ get_or (map (seen upright) (take n circles)) i no_circle
-seen_at upright n circles i h k =
-    sym (get_d_mapped (seen upright) (take n circles) i no_circle no_circle k ∙ ap (seen upright) (get_or-take n circles i no_circle h))
+pub seen_at : (upright : Bool) (circles : List Circle) (i : ℕ) → i < length circles
+    → seen upright (get_or circles i no_circle) ≡ get_or (map (seen upright) circles) i no_circle
+seen_at upright circles i h = sym (get_d_mapped (seen upright) circles i no_circle no_circle h)
 
 -- a horizontal edge sees the circles as they are
 pub seen_level : (cs : List Circle) → map (seen false) cs ≡ cs

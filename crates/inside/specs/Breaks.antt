@@ -1,5 +1,5 @@
 -- The breaks of an arc: its two ends and the angles at which it crosses the four edges of the box, in order.
-use Rattle.std.specs.Prelude.{ℕ, ◌+◌, ◌≤◌, ◌≡◌, Bool, ◌&&◌, cond, List, [], ◌∷◌, ◌++◌, map, length, take, Float}
+use Rattle.std.specs.Prelude.{ℕ, ◌+◌, ◌≤◌, ◌≡◌, Bool, ◌&&◌, cond, List, [], ◌∷◌, ◌++◌, map, Float}
 use Rattle.std.specs.Float.Ieee.{neg}
 use Rattle.elementary.specs.Arctangent.{acos, asin}
 use Rattle.geometry.specs.declared.bounds.Bounds.{Bounds}
@@ -11,6 +11,8 @@ use Rattle.binary64.specs.Functions.{absolute}
 use Rattle.binary64.specs.Floats.{◌+ᶠ◌, ◌-ᶠ◌, ◌*ᶠ◌, ◌/ᶠ◌, ◌<ᶠ◌, ◌≤ᶠ◌}
 use Rattle.boundary.specs.Sort.{sort_onto, sorted}
 use Rattle.boundary.specs.declared.arcs.BoundaryArc.{BoundaryArc}
+use Rattle.boundary.specs.Counted.{angle_list}
+use Rattle.inside.specs.declared.breaks.Breaks.{Breaks}
 
 -- strictly inside the arc from a to b: further than 1e-12 from either end
 unfoldable pub strictly_inside : Float → Float → Float → Bool
@@ -58,17 +60,12 @@ unfoldable pub breaks : Bounds → Circle → BoundaryArc → List Float
 unfolding breaks_between
 breaks box c arc = breaks_between box c arc.phi_start (arc.phi_start +ᶠ arc.delta_phi)
 
--- ---- the list of breaks in 32 places of a lent array, the first n of it, with as many places for adopters beside
+-- ---- the breaks that the code has found so far
 
--- there is room for so many more
-pub record Room (more n : ℕ) (phi : List Float) (adopters : List ℕ) : Type 0 where
-  pub fits : n + more ≤ 32
-  pub places : length phi ≡ 32
-  pub beside : length adopters ≡ 32
-
--- the new ones, of which there are at most so many, are put in: the first m are those that were there with them, sorted
-pub record Put (most n m : ℕ) (new phi phi' : List Float) (adopters' : List ℕ) : Type 0 where
-  pub few : m ≤ n + most
-  pub places : length phi' ≡ 32
-  pub beside : length adopters' ≡ 32
-  pub first : take m phi' ≡ sort_onto (take n phi) new
+-- The new ones, of which there are at most so many, are put in: the list is those that were there with them, sorted.
+-- The ends stay.
+pub record Put (most : ℕ) (new : List Float) (before after : Breaks) : Type 0 where
+  pub few : after.found.n ≤ before.found.n + most
+  pub found : angle_list after.found ≡ sort_onto (angle_list before.found) new
+  pub phi_a : after.phi_a ≡ before.phi_a
+  pub phi_b : after.phi_b ≡ before.phi_b

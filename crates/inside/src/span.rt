@@ -1,4 +1,4 @@
-// The span of an edge of the box: the part of it that every head of a set waters. The Rust has an Option<(f64, f64)> here.
+// The span of an edge of the box: the part of it that every head of a set waters.
 // Rests on specs/Span.antt.
 ghost use Rattle.std.specs.Prelude.{◌≡◌, map};
 ghost use Rattle.intersections.specs.Counted.{circle_list};
@@ -10,7 +10,8 @@ use geometry::circle::Circle;
 use geometry::point::Point;
 use intersections::members::Members;
 
-// No span, or the low and the high end.
+// No span, or the low and the high end: an Option<(f64, f64)> in the Rust, here an enum, the form that
+// docs/DECISIONS.md names.
 #[derive(Clone, Copy)]
 pub enum Span {
     None,
@@ -61,32 +62,27 @@ pub fn seen(upright: bool, c: Circle) -> Circle
     ensures { result ≡ seen upright c }
 {
     if upright {
-        return Circle::new(Point::new(c.center.y, c.center.x), c.radius);
+        Circle::new(Point::new(c.center.y, c.center.x), c.radius)
+    } else {
+        c
     }
-    c
 }
 
-// The span of the edge at `at` from `from` to `to`. The Rust also stops as soon as the ends have met: the answers are the
-// same, since the low end only rises and the high end only falls.
+// The span of the edge at `at` from `from` to `to`. The Rust also stops as soon as the ends have met: the answers are
+// the same, since the low end only rises and the high end only falls.
 fn edge_inside_interval(upright: bool, at: f64, from: f64, to: f64, set: Members) -> Span
     ensures { spans result ≡ horizontal_span at from to (map (seen upright) (circle_list set)) }
 {
-    let n = set.n;
     let mut lo = from;
     let mut hi = to;
-    let mut i: usize = 0;
-    while i < 10 {
-        if n <= i {
-            return open_between(lo, hi);
-        }
-        let c = seen(upright, set.circles[i]);
+    for circle in &set.circles[..set.n.min(10)] {
+        let c = seen(upright, *circle);
         if misses(at, c) {
             return Span::None;
         }
         let half = half_chord(at, c);
         lo = raised(lo, c.center.x - half);
         hi = lowered(hi, c.center.x + half);
-        i += 1;
     }
     open_between(lo, hi)
 }

@@ -1,4 +1,4 @@
--- The heads of a set gathered into two arrays, numbers and circles: what the loop of `gathered_members` has found below j.
+-- The heads of a set gathered one after another, numbers and circles; the head of a set of one, by its trailing zeros.
 use mathlib.Core.Path.{◌≡◌, refl, sym, ap, ◌∙◌}
 use mathlib.Core.Bool.{Bool, true, false, cond}
 use mathlib.Core.List.{List, [], ◌∷◌, ◌++◌, map, map-append, append-nil}
@@ -10,49 +10,49 @@ use native.Mathlib.Omega.{arith}
 use borrow.Author.Tests.{lt-ltb, le-ltb, ltb-true, ltb-false, eqb-true, eqb-false}
 use lib.Count.{ones, count_trailing_zeros}
 use lib.Dec.{eqb, ltb}
-use lib.ListN.{length, take, set}
-use lib.Seq.{take-suc-set, length-take-le}
+use lib.ListN.{length, length-append}
 use Rattle.masks.specs.Mask.{in_set}
 use Rattle.masks.specs.Operations.{in_power}
 use Rattle.masks.specs.Lowest.{one_single}
 use Rattle.lists.specs.Lists.{up_to}
 use Rattle.geometry.specs.declared.circle.Circle.{Circle}
+use Rattle.intersections.specs.declared.members.Members.{Members}
+use Rattle.intersections.specs.Counted.{head_list, circle_list, HoldsBelow, HoldsHeads}
+use Rattle.intersections.specs.Counts.{heads_few}
 use Rattle.intersections.specs.Members.{heads_of, circle_at}
 
--- the first `count` of both arrays are the heads of S below j
-pub record Gathered (circles : List Circle) (S j : ℕ) (heads : List ℕ) (chosen : List Circle) (count : ℕ) : Type 0 where
-  pub few : count ≤ j
-  pub numbers : take count heads ≡ heads_of j S
-  pub theirs : take count chosen ≡ map (circle_at circles) (heads_of j S)
-
-module _ (circles : List Circle) (S : ℕ) (heads : List ℕ) (chosen : List Circle) where
-  pub gathered_none : Gathered circles S 0 heads chosen 0
+module _ (circles : List Circle) (S : ℕ) where
+  pub gathered_none : (m : Members) → m.n ≡ 0 → HoldsBelow circles S 0 m
   unfolding heads_of up_to
-  gathered_none = record { few = omega arith; numbers = refl; theirs = refl }
+  gathered_none m e = record { n_value = e; result_value = rw e; result_value_2 = rw e }
 
-  -- a head more
-  pub gathered_with : (j count : ℕ) (c : Circle) → in_set S j ≡ true → count < length heads → count < length chosen → c ≡ circle_at circles j
-      → Gathered circles S j heads chosen count → Gathered circles S (j + 1) (set heads count j) (set chosen count c) (count + 1)
-  unfolding heads_of up_to
-  gathered_with j count c e h k f g =
-      record {
-        few = omega (arith, g.few);
-        numbers = rw (add-one count, add-one j, take-suc-set heads count j h, g.numbers, e);
-        theirs = rw (add-one count, add-one j, take-suc-set chosen count c k, g.theirs, e, f) (sym (map-append (circle_at circles) (heads_of j S) (j ∷ [])));
-      }
+  module _ (j : ℕ) {m : Members} where
+    -- a head more
+    pub gathered_with : {more : Members} {c : Circle} → in_set S j ≡ true → c ≡ circle_at circles j → more.n ≡ m.n + 1
+        → head_list more ≡ head_list m ++ (j ∷ []) → circle_list more ≡ circle_list m ++ (c ∷ [])
+        → HoldsBelow circles S j m → HoldsBelow circles S (j + 1) more
+    unfolding heads_of up_to
+    gathered_with e f n h k g =
+        record {
+          n_value = rw (n, g.n_value, add-one j, e) (sym (length-append (heads_of j S) (j ∷ [])));
+          result_value = rw (h, g.result_value, add-one j, e);
+          result_value_2 = rw (k, g.result_value_2, f, add-one j, e) (sym (map-append (circle_at circles) (heads_of j S) (j ∷ [])));
+        }
 
-  -- a head that is not in the set
-  pub gathered_without : (j count : ℕ) → in_set S j ≡ false → Gathered circles S j heads chosen count → Gathered circles S (j + 1) heads chosen count
-  unfolding heads_of up_to
-  gathered_without j count e g =
-      record {
-        few = omega (arith, g.few);
-        numbers = rw (add-one j, e) (g.numbers ∙ sym (append-nil (heads_of j S)));
-        theirs = rw (add-one j, e) (g.theirs ∙ ap (map (circle_at circles)) (sym (append-nil (heads_of j S))));
-      }
+    -- a head that is not in the set
+    pub gathered_without : in_set S j ≡ false → HoldsBelow circles S j m → HoldsBelow circles S (j + 1) m
+    unfolding heads_of up_to
+    gathered_without e g =
+        let same : heads_of j S ≡ heads_of (j + 1) S = rw (add-one j, e) (sym (append-nil (heads_of j S))) in
+        record {
+          n_value = g.n_value ∙ ap length same;
+          result_value = g.result_value ∙ same;
+          result_value_2 = g.result_value_2 ∙ ap (map (circle_at circles)) same;
+        }
 
-  pub gathered_count : (j count : ℕ) → count ≤ length heads → Gathered circles S j heads chosen count → count ≡ length (heads_of j S)
-  gathered_count j count h g = sym (length-take-le count heads h) ∙ ap length g.numbers
+    -- there is room for one more
+    pub gathered_few : HoldsBelow circles S j m → m.n ≤ j
+    gathered_few g = omega (arith, g.n_value, heads_few j S)
 
 -- the heads of a set of one, by its trailing zeros
 heads_power : (n j : ℕ) → heads_of n (2 ^ j) ≡ cond (ltb j n) (j ∷ []) []
@@ -71,3 +71,17 @@ heads_power (suc n) j = rw (in_power j n, heads_power n j) (by (ltb j n) (eqb n 
 
 pub single_heads : (n S : ℕ) → S < 2 ^ 64 → ones S ≡ 1 → heads_of n S ≡ cond (ltb (count_trailing_zeros 64 S) n) (count_trailing_zeros 64 S ∷ []) []
 single_heads n S h e = ap (heads_of n) (one_single 64 S h e) ∙ heads_power n (count_trailing_zeros 64 S)
+
+module _ (circles : List Circle) (S : ℕ) (h : S < 2 ^ 64) (e : ones S ≡ 1) (m : Members) where
+  abbrev j : ℕ
+  j = count_trailing_zeros 64 S
+
+  pub single_with : j < length circles → m.n ≡ 1 → head_list m ≡ j ∷ [] → circle_list m ≡ circle_at circles j ∷ [] → HoldsHeads circles S m
+  single_with l n f g =
+      let heads : heads_of (length circles) S ≡ j ∷ [] = single_heads (length circles) S h e ∙ rw (lt-ltb j (length circles) l) in
+      record { n_value = rw heads n; result_value = rw heads f; result_value_2 = rw heads g }
+
+  pub single_none : length circles ≤ j → m.n ≡ 0 → HoldsHeads circles S m
+  single_none l n =
+      let heads : heads_of (length circles) S ≡ [] = single_heads (length circles) S h e ∙ rw (le-ltb j (length circles) l) in
+      record { n_value = rw (heads, n); result_value = rw (heads, n); result_value_2 = rw (heads, n) }

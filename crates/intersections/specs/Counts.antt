@@ -49,7 +49,7 @@ row_few : (cs : List Circle) (i : ℕ) → length (later_points cs i) ≤ (lengt
 unfolding later_points
 row_few cs i = up_to_few (λ d. pair_points cs i (i + 1 + d)) 2 (length cs - (i + 1)) (λ d h. pair_few cs i (i + 1 + d))
 
-rows_few : (cs : List Circle) (m : ℕ) → m ≤ length cs → length (up_to (later_points cs) m) + m * m + m ≤ 2 * m * length cs
+pub rows_few : (cs : List Circle) (m : ℕ) → m ≤ length cs → length (up_to (later_points cs) m) + m * m + m ≤ 2 * m * length cs
 unfolding up_to
 rows_few cs zero h = omega arith
 rows_few cs (suc m) h =

@@ -1,18 +1,11 @@
 // The heads of a set, in order, and which points are counted for it there. Rests on specs/Members.antt.
-ghost use Rattle.std.specs.Prelude.{◌≡◌, map, min, take, length};
+ghost use Rattle.std.specs.Prelude.{◌≡◌, ◌<◌, ◌+◌, [], ◌∷◌, ◌++◌, map, take, length};
 ghost use Rattle.std.specs.Int.Count.{ones};
 ghost use Rattle.intersections.specs.Members.{heads_of, counted_for, circle_at};
-ghost use Rattle.intersections.specs.Counted.{head_list, circle_list};
+ghost use Rattle.intersections.specs.Counted.{head_list, circle_list, HoldsHeads};
 
 use crate::points::IntersectionPoint;
 use geometry::circle::Circle;
-
-// How many the first n_sets of ten circles are.
-pub fn at_most_ten(n_sets: usize) -> usize
-    ensures { result ≡ min n_sets 10 }
-{
-    if n_sets < 10 { n_sets } else { 10 }
-}
 
 // The first n of each: the numbers of a set's heads and their circles.
 #[derive(Clone, Copy)]
@@ -22,93 +15,72 @@ pub struct Members {
     pub circles: [Circle; 10],
 }
 
+impl Members {
+    // One head more, and its circle.
+    fn push(&mut self, head: usize, circle: Circle)
+        requires { self.old.n < 10 }
+        ensures n_value { self.new.n ≡ self.old.n + 1 }
+        ensures heads_value { head_list self.new ≡ head_list self.old ++ (head ∷ []) }
+        ensures circles_value { circle_list self.new ≡ circle_list self.old ++ (circle ∷ []) }
+    {
+        self.heads[self.n] = head;
+        self.circles[self.n] = circle;
+        self.n += 1;
+    }
+}
+
 // The heads of a set among the first n_sets, one after another.
 fn gathered_members(mask: usize, circles: [Circle; 10], n_sets: usize) -> Members
-    ensures n_value { result.n ≡ length (heads_of (length (take n_sets circles)) mask) }
-    ensures result_value { head_list result ≡ heads_of (length (take n_sets circles)) mask }
-    ensures result_value_2 { circle_list result ≡ map (circle_at (take n_sets circles)) (heads_of (length (take n_sets circles)) mask) }
+    ensures { HoldsHeads (take n_sets circles) mask result }
 {
-    let mut heads = [0usize; 10];
-    let mut chosen = circles;
-    let mut count: usize = 0;
-    let mut j: usize = 0;
-    while j < 10 {
-        if n_sets <= j {
-            return Members {
-                n: count,
-                heads: heads,
-                circles: chosen,
-            };
-        }
+    let mut members = Members {
+        n: 0,
+        heads: [0; 10],
+        circles,
+    };
+    for j in 0..n_sets.min(10) {
         if mask >> j & 1 == 1 {
-            heads[count] = j;
-            chosen[count] = circles[j];
-            count += 1;
+            members.push(j, circles[j]);
         }
-        j += 1;
     }
-    Members {
-        n: count,
-        heads: heads,
-        circles: chosen,
-    }
+    members
 }
 
 // The head of a set of one, if it is among the first n_sets: its trailing zeros say which.
 fn single_member(mask: usize, circles: [Circle; 10], n_sets: usize) -> Members
     requires { ones mask ≡ 1 }
-    ensures n_value { result.n ≡ length (heads_of (length (take n_sets circles)) mask) }
-    ensures result_value { head_list result ≡ heads_of (length (take n_sets circles)) mask }
-    ensures result_value_2 { circle_list result ≡ map (circle_at (take n_sets circles)) (heads_of (length (take n_sets circles)) mask) }
+    ensures { HoldsHeads (take n_sets circles) mask result }
 {
-    let j = usize::trailing_zeros(mask) as usize;
-    let mut heads = [0usize; 10];
-    let mut chosen = circles;
-    if n_sets <= j {
-        return Members {
-            n: 0,
-            heads: heads,
-            circles: chosen,
-        };
+    let mut members = Members {
+        n: 0,
+        heads: [0; 10],
+        circles,
+    };
+    let j = mask.trailing_zeros() as usize;
+    if j < n_sets.min(10) {
+        members.push(j, circles[j]);
     }
-    if 10 <= j {
-        return Members {
-            n: 0,
-            heads: heads,
-            circles: chosen,
-        };
-    }
-    heads[0] = j;
-    chosen[0] = circles[j];
-    Members {
-        n: 1,
-        heads: heads,
-        circles: chosen,
-    }
+    members
 }
 
 // The heads of a set among the first n_sets.
 pub fn members_of(mask: usize, circles: [Circle; 10], n_sets: usize) -> Members
     ensures n_value { result.n ≡ length (heads_of (length (take n_sets circles)) mask) }
     ensures result_value { head_list result ≡ heads_of (length (take n_sets circles)) mask }
-    ensures result_value_2 { circle_list result ≡ map (circle_at (take n_sets circles)) (heads_of (length (take n_sets circles)) mask) }
+    ensures result_value_2 { circle_list result ≡
+        map (circle_at (take n_sets circles)) (heads_of (length (take n_sets circles)) mask) }
 {
-    if usize::count_ones(mask) == 1 {
-        return single_member(mask, circles, n_sets);
+    if mask.count_ones() == 1 {
+        single_member(mask, circles, n_sets)
+    } else {
+        gathered_members(mask, circles, n_sets)
     }
-    gathered_members(mask, circles, n_sets)
 }
 
 // Whether a meeting point is counted for a set at head j.
+#[tactic(auto, using(masks::specs::Subset::and_test), unfolding(crate::specs::Members::counted_for))]
 pub fn counted_for(mask: usize, j: usize, q: IntersectionPoint) -> bool
     ensures { result ≡ counted_for mask j q }
 {
-    let adopted = mask & q.adopters == mask;
-    if q.first == j {
-        return adopted;
-    }
-    if q.second == j {
-        return adopted;
-    }
-    false
+    (q.first == j || q.second == j) && mask & q.adopters == mask
 }

@@ -6,6 +6,7 @@ ghost use Rattle.std.specs.Prelude.{◌≡◌};
 ghost use Rattle.masks.specs.Mask.{subset};
 
 // Whether every head of a is in b.
+#[tactic(auto, using(crate::specs::Subset::and_test))]
 pub fn is_subset(a: usize, b: usize) -> bool
     ensures { result ≡ subset 64 a b }
 {

@@ -1,17 +1,16 @@
--- The members of a set and its outline, from what `members_of` and `outline_of` give; and a loop over a list of arcs.
+-- The members of a set and its outline, from what `members_of` and `outline_of` give; the first so many of an array; and a loop over a list.
 use mathlib.Core.Path.{◌≡◌, refl, ap, ◌∙◌}
 use mathlib.Core.List.{List, ◌∷◌, [], map, foldl}
-use Prim.Native.Nat.{ℕ, ◌+◌, ◌≤◌, ◌<◌}
-use native.Mathlib.Omega.{arith}
+use Prim.Native.Nat.{ℕ, min, ◌+◌, ◌≤◌, ◌<◌}
 use lib.ListN.{length, get_or, take, length-map}
 use lib.Seq.{take_all}
+use Rattle.lists.proofs.Arrays.{capped_take}
 use Rattle.lists.proofs.Folds.{fold_suc}
 use Rattle.geometry.specs.declared.circle.Circle.{Circle}
 use Rattle.intersections.specs.declared.points.IntersectionPoint.{IntersectionPoint}
 use Rattle.intersections.specs.Members.{circles_of, heads_of, points_for, circle_at, member_at, members_of, members_with}
 use Rattle.boundary.specs.declared.arcs.BoundaryArc.{BoundaryArc}
 use Rattle.boundary.specs.Outline.{outline}
-use Rattle.boundary.specs.Set.{no_arc}
 
 module _ (circles : List Circle) (points : List IntersectionPoint) (S : ℕ) where
   -- numbers and circles of heads give the members
@@ -41,33 +40,19 @@ module _ (circles : List Circle) (points : List IntersectionPoint) (S : ℕ) whe
   unfolding members_of
   outline_of_set js cs e f g = g ∙ ap outline (rw (e, f) (members-with (heads_of (length circles) S)))
 
--- ---- a loop over a list of arcs: the first `many` of an array of so many places
+-- ---- the first so many of an array
 
--- The first i arcs are folded.
-pub record ArcsTo {S : Type 0} (f : S → BoundaryArc → S) (s₀ : S) (all : List BoundaryArc) (places many n i : ℕ) (s : S) : Type 0 where
-  pub long : length all ≡ places
-  pub count : n ≡ many
-  pub most : i ≤ places
-  pub within : i ≤ n
-  pub sum : s ≡ foldl f s₀ (take i all)
+-- no more than it has, and so as many as were asked for
+pub first_of : {A : Type 0} (l : List A) {m : ℕ} (n k : ℕ) → length l ≡ k → m ≡ min n k → take m l ≡ take n l
+first_of l n k long e = ap (λ (i : ℕ). take i l) e ∙ capped_take l n k long
 
-module _ {S : Type 0} {f : S → BoundaryArc → S} {s₀ : S} {all : List BoundaryArc} {places many n i : ℕ} {s : S} (t : ArcsTo f s₀ all places many n i s) where
-  -- one arc more
-  pub arcs_next : (more : S) → i < places → i < n → more ≡ f s (get_or all i no_arc) → ArcsTo f s₀ all places many n (i + 1) more
-  arcs_next more small below e =
-      record {
-        long = t.long;
-        count = t.count;
-        most = omega arith;
-        within = omega arith;
-        sum = e ∙ rw t.sum (fold_suc f s₀ all i no_arc (omega (arith, t.long)));
-      }
+-- ---- a loop over a list: its first i elements are folded
 
-  -- all arcs, by their count or by the room for them
-  pub arcs_by_count : n ≤ i → s ≡ foldl f s₀ (take many all)
-  arcs_by_count h = let e : i ≡ many = omega (arith, t.count, t.within) in t.sum ∙ rw e
+module _ {A S : Type 0} (f : S → A → S) (s₀ : S) (l : List A) {i : ℕ} {s : S} (so_far : s ≡ foldl f s₀ (take i l)) where
+  -- one element more
+  pub fold_next : {more : S} (d : A) → i < length l → more ≡ f s (get_or l i d) → more ≡ foldl f s₀ (take (i + 1) l)
+  fold_next d h e = e ∙ rw so_far (fold_suc f s₀ l i d h)
 
-  pub arcs_by_room : places ≤ i → s ≡ foldl f s₀ (take many all)
-  arcs_by_room h =
-      t.sum
-      ∙ rw (take_all i all (omega (arith, t.long)), take_all many all (omega (arith, t.long, t.count, t.within)))
+  -- all of them
+  pub fold_all : length l ≤ i → s ≡ foldl f s₀ l
+  fold_all h = so_far ∙ rw (take_all i l h)

@@ -4,24 +4,22 @@ ghost use Rattle.overlaps.specs.Overlap.{overlap, overlap_of};
 
 use geometry::circle::Circle;
 use intersections::collect::collect_intersections;
-use intersections::members::{at_most_ten, members_of};
+use intersections::members::members_of;
 use outline::area::region_area;
 
 // The area that the first n_sets circles water together.
 pub fn compute_overlaps_circles(circles: [Circle; 10], n_sets: usize) -> f64
     ensures { result ≡ overlap (take n_sets circles) }
 {
-    if n_sets == 1 {
-        let one = circles[0];
-        return one.area();
+    match &circles[..n_sets.min(10)] {
+        [one] => one.area(),
+        [one, other] => one.intersection_area(*other),
+        heads => {
+            let all = (1 << heads.len()) - 1;
+            let points = collect_intersections(circles, n_sets);
+            region_area(all, circles, points, n_sets)
+        }
     }
-    if n_sets == 2 {
-        let one = circles[0];
-        return one.intersection_area(circles[1]);
-    }
-    let points = collect_intersections(circles, n_sets);
-    let all = (1usize << at_most_ten(n_sets)) - 1;
-    region_area(all, circles, points, n_sets)
 }
 
 // The area that the heads of a mask among the first n_sets water together: what the call above gives for their circles alone.
@@ -29,6 +27,5 @@ pub fn compute_overlaps_of(mask: usize, circles: [Circle; 10], n_sets: usize) ->
     ensures { result ≡ overlap_of (take n_sets circles) mask }
 {
     let set = members_of(mask, circles, n_sets);
-    let chosen = set.circles;
-    compute_overlaps_circles(chosen, set.n)
+    compute_overlaps_circles(set.circles, set.n)
 }

@@ -4,22 +4,22 @@ use mathlib.Core.Path.{◌≡◌, refl, sym, ◌∙◌, subst}
 use mathlib.Core.List.{[], ◌∷◌}
 use native.Mathlib.Decide.{ℕ_discrete}
 use native.Mathlib.Omega.{arith}
+use Rattle.std.specs.Prelude.{Ok, Err}
 use lib.ListN.{length, get_or, set, length-set}
 use Rattle.lists.specs.Run.{after}
 use lib.Seq.{get_or-set_same, get_or-set_other}
-use Rattle.plan.specs.declared.Answer.{Answer}
-use Rattle.plan.specs.declared.Answer.TheVariants.{Taken, Refused}
 use Rattle.plan.specs.declared.Edit.{Edit}
 use Rattle.plan.specs.declared.Lent.{Lent}
 use Rattle.plan.specs.declared.Plan.{Plan}
+use Rattle.plan.specs.Table.{Answered}
 use Rattle.plan.specs.Checks.{edit_answer}
 use Rattle.plan.specs.Limits.{HeadWithin, no_head, Acceptable}
 use Rattle.plan.specs.Book.{head_of, applied, leaves, book_step, Keeps, AppliedHeads, BookKeeps, AppliedAcceptable, BookAcceptable}
 use Rattle.plan.proofs.Exactly.{edit_taken}
 
-entered_keeps : (p : Plan) (e : Edit) (a : Answer) → Keeps p (leaves a p (applied p e))
-entered_keeps p e Taken = record { n = refl; ground = refl; room = length-set p.heads e.head (head_of e) }
-entered_keeps p e (Refused r at) = record { n = refl; ground = refl; room = refl }
+entered_keeps : (p : Plan) (e : Edit) (a : Answered) → Keeps p (leaves a p (applied p e))
+entered_keeps p e (Ok done) = record { n = refl; ground = refl; room = length-set p.heads e.head (head_of e) }
+entered_keeps p e (Err r) = record { n = refl; ground = refl; room = refl }
 
 pub applied_heads : AppliedHeads
 applied_heads p e = refl
@@ -52,10 +52,10 @@ applied_acceptable p e long ok edit =
           ];
     }
 
-entered_acceptable : (p : Plan) (e : Edit) (lent : Lent) (a : Answer) → edit_answer p e lent ≡ a → length p.heads ≡ 10 → Acceptable p → Acceptable (leaves a p (applied p e))
-entered_acceptable p e lent Taken taken long ok =
+entered_acceptable : (p : Plan) (e : Edit) (lent : Lent) (a : Answered) → edit_answer p e lent ≡ a → length p.heads ≡ 10 → Acceptable p → Acceptable (leaves a p (applied p e))
+entered_acceptable p e lent (Ok done) taken long ok =
     applied_acceptable p e long ok ((edit_taken p e lent long).0 taken).1
-entered_acceptable p e lent (Refused r at) refused long ok = ok
+entered_acceptable p e lent (Err r) refused long ok = ok
 
 pub book_acceptable : BookAcceptable
 unfolding after

@@ -1,17 +1,15 @@
 -- The book (document 01, "Edits in a list"): a plan and nothing more. Where the checks refuse an edit the book stays;
 -- otherwise head k takes the three values and all else stays. What a list of edits keeps is proved in `proofs/Keeps.antt`.
-use Rattle.std.specs.Prelude.{ℕ, ◌≡◌, List, [], ◌∷◌, length, set}
+use Rattle.std.specs.Prelude.{ℕ, ◌≡◌, List, [], ◌∷◌, length, set, Ok, Err}
 use Rattle.lists.specs.Run as Run
 use Rattle.lists.specs.Run.{Step}
 use Rattle.heads.specs.declared.Head.{Head}
-use Rattle.plan.specs.declared.Answer.{Answer}
-use Rattle.plan.specs.declared.Answer.TheVariants.{Taken, Refused}
 use Rattle.plan.specs.declared.Edit.{Edit}
 use Rattle.plan.specs.declared.Lent.{Lent}
 use Rattle.plan.specs.declared.Plan.{Plan}
 use Rattle.plan.specs.Checks.{edit_answer}
 use Rattle.plan.specs.Limits.{Acceptable, AcceptableEdit}
-use Rattle.plan.specs.Table.{heads_after}
+use Rattle.plan.specs.Table.{Answered, heads_after}
 
 -- the head that an edit asks for
 abbrev pub head_of : Edit → Head
@@ -26,9 +24,9 @@ abbrev pub applied : Plan → Edit → Plan
 applied p e = with_head p e.head (head_of e)
 
 -- what an answer leaves: taken, the new; refused, the old
-abbrev pub leaves : {A : Type 0} → Answer → A → A → A
-leaves Taken p q = q
-leaves (Refused r at) p q = p
+abbrev pub leaves : {A : Type 0} → Answered → A → A → A
+leaves (Ok done) p q = q
+leaves (Err e) p q = p
 
 -- one edit against the book
 abbrev pub entered : Plan → Edit → Lent → Plan
@@ -40,21 +38,21 @@ pub record Entry : Type 0 where
   pub lent : Lent
 
 -- the same as a step, with its answer
-abbrev pub book_step : Plan → Entry → Step Plan Answer
+abbrev pub book_step : Plan → Entry → Step Plan Answered
 book_step p e = record { left = entered p e.edit e.lent; answer = edit_answer p e.edit e.lent }
 
 -- the plan that a list of edits leaves, and the answer to each
 abbrev pub book : Plan → List Entry → Plan
 book = Run.after book_step
 
-abbrev pub answers : Plan → List Entry → List Answer
+abbrev pub answers : Plan → List Entry → List Answered
 answers = Run.answers book_step
 
 -- some edit of a list was taken
-abbrev pub AnyTaken : List Answer → Type 0
+abbrev pub AnyTaken : List Answered → Type 0
 AnyTaken [] = ⊥
-AnyTaken (Taken ∷ rest) = Unit {0}
-AnyTaken (Refused r at ∷ rest) = AnyTaken rest
+AnyTaken (Ok done ∷ rest) = Unit {0}
+AnyTaken (Err e ∷ rest) = AnyTaken rest
 
 -- ---- what a list of edits keeps
 

@@ -1,15 +1,14 @@
--- Laws of digits: how many they are, the value of the first of them, and how many a number has in base ten.
-use mathlib.Core.Path.{◌≡◌, refl, sym, ap, ◌∙◌}
+-- Laws of digits: how many they are, how many a number has in base ten, and how they are put one after another.
+use mathlib.Core.Path.{◌≡◌, refl, ap, ◌∙◌}
 use mathlib.Core.Bool.{Bool, true, false, cond}
 use mathlib.Core.List.{List, ◌∷◌}
-use Prim.Native.Nat.{ℕ, zero, suc, ◌+◌, ◌*◌, ◌/◌, ◌%◌, ◌-◌, ◌^◌, ◌≤◌, ◌<◌}
-use native.Mathlib.Nat.{mul-div_cancel_left, mul-le-mul_left, mul-pos, pow-suc, pow-succ', pow-zero, pow-le-pow_right}
-use native.Mathlib.Numerals.{add-one}
+use Prim.Native.Nat.{ℕ, zero, suc, max, ◌+◌, ◌*◌, ◌/◌, ◌%◌, ◌-◌, ◌^◌, ◌≤◌, ◌<◌}
+use native.Mathlib.Nat.{mul-pos, pow-succ', pow-zero}
 use native.Mathlib.Omega.{arith}
-use borrow.Author.Tests.{lt-ltb, le-ltb, ltb-true, ltb-false}
+use borrow.Author.Tests.{lt-ltb, le-ltb}
 use lib.Dec.{ltb}
 use lib.ListN.{length, set}
-use Rattle.printing.specs.Text.{glyph, digits, places, put}
+use Rattle.printing.specs.Text.{glyph, digits, places, decimal, put}
 use Rattle.printing.proofs.Putting.{put_next}
 
 pub length_digits : (b k n : ℕ) → length (digits b k n) ≡ k
@@ -23,6 +22,10 @@ unfolding digits
 digits_next b k n = refl
 
 -- ---- how many digits
+
+pub power_pos : (b k : ℕ) → 0 < b → 0 < b ^ k
+power_pos b zero h = rw (pow-zero b) (omega arith)
+power_pos b (suc k) h = rw (pow-succ' b k) (mul-pos h (power_pos b k h))
 
 -- one digit and the others
 pub places_next : (most n : ℕ) → 10 ≤ n → places (suc most) n ≡ suc (places most (n / 10))
@@ -43,75 +46,31 @@ places_few (suc most) n = by (ltb n 10) (places_few most (n / 10))
     by true h = omega arith
     by false h = omega arith
 
--- ---- the byte of a digit
+-- as many as the power of ten below the number says; 0 has as many as 1
+pub places_of_power : (most n k : ℕ) → k ≤ most → 10 ^ k ≤ max n 1 → n < 10 * 10 ^ k → places most n ≡ k + 1
+places_of_power most n zero h low high = places_one most n (omega arith)
+places_of_power zero n (suc k) h low high = absurd (omega arith)
+places_of_power (suc most) n (suc k) h low high =
+    let some = power_pos 10 k (omega arith) in
+    let more = pow-succ' 10 k in
+    let rest = places_of_power most (n / 10) k (omega arith) (omega arith) (omega arith) in
+    omega (arith, rest, places_next most n (omega arith))
 
-pub glyph_low : (d : ℕ) → d < 10 → 48 + d ≡ glyph d
-glyph_low d h = rw (lt-ltb d 10 h)
+pub decimal_few : (n : ℕ) → length (decimal n) ≤ 20
+decimal_few n = omega (arith, length_digits 10 (places 19 n) n, places_few 19 n)
 
-pub glyph_high : (d : ℕ) → 10 ≤ d → 55 + d ≡ glyph d
-glyph_high d h = rw (le-ltb d 10 h)
-
--- ---- the value of the first of so many digits
-
-power_pos : (b k : ℕ) → 0 < b → 0 < b ^ k
-power_pos b zero h = rw (pow-zero b) (omega arith)
-power_pos b (suc k) h = rw (pow-succ' b k) (mul-pos h (power_pos b k h))
-
-unit_is : (b k : ℕ) → 0 < b → b ^ suc k / b ≡ b ^ k
-unit_is b k h = rw (pow-succ' b k) (mul-div_cancel_left (b ^ k) h)
-
-pub unit_pos : (b left : ℕ) → 2 ≤ b → 0 < left → 0 < b ^ left / b
-unit_pos b zero h k = absurd (omega arith)
-unit_pos b (suc left) h k = rw (unit_is b left (omega arith)) (power_pos b left (omega arith))
-
--- the digit after it
-pub unit_next : (b left : ℕ) → 2 ≤ b → 0 < left → b ^ left / b / b ≡ b ^ (left - 1) / b
-unit_next b zero h k = absurd (omega arith)
-unit_next b (suc left) h k =
-    let e : left ≡ suc left - 1 = omega arith in
-    ap (λ x. x / b) (unit_is b left (omega arith) ∙ ap (λ j. b ^ j) e)
+-- ---- digit by digit
 
 -- the first digit is put, and the others are left
-pub put_digit : (out : List ℕ) (place b left n : ℕ) → 2 ≤ b → 0 < left
-    → put out place (digits b left n) ≡ put (set out place (glyph (n / (b ^ left / b) % b))) (place + 1) (digits b (left - 1) n)
-put_digit out place b zero n h k = absurd (omega arith)
-put_digit out place b (suc left) n h k =
+pub put_digit : (out : List ℕ) (place b left n : ℕ) → 0 < left
+    → put out place (digits b left n) ≡ put (set out place (glyph (n / b ^ (left - 1) % b))) (place + 1) (digits b (left - 1) n)
+put_digit out place b zero n h = absurd (omega arith)
+put_digit out place b (suc left) n h =
     let e : left ≡ suc left - 1 = omega arith in
     ap (put out place) (digits_next b left n)
     ∙ put_next out place (glyph (n / b ^ left % b)) (digits b left n)
-    ∙ ap (λ u. put (set out place (glyph (n / u % b))) (place + 1) (digits b left n)) (sym (unit_is b left (omega arith)))
-    ∙ ap (λ j. put (set out place (glyph (n / (b ^ suc left / b) % b))) (place + 1) (digits b j n)) e
+    ∙ ap (λ j. put (set out place (glyph (n / b ^ j % b))) (place + 1) (digits b j n)) e
 
 pub put_no_digit : (out : List ℕ) (place b n : ℕ) → put out place (digits b 0 n) ≡ out
 unfolding digits put
 put_no_digit out place b n = refl
-
--- ---- a number in base ten, digit by digit from its end: `unit` times `rest` is the number without its last k - 1 digits
-
-pub ten_more : (unit k : ℕ) → unit * 10 ≡ 10 ^ k → unit * 10 * 10 ≡ 10 ^ (k + 1)
-ten_more unit k e = rw (add-one k, pow-suc 10 k, e)
-
-pub part_more : (unit rest n : ℕ) → unit * rest ≤ n → unit * 10 * (rest / 10) ≤ n
-part_more unit rest n h =
-    let most = mul-le-mul_left unit (tenth rest) in
-    omega (arith, most)
-  where
-    tenth : (rest : ℕ) → 10 * (rest / 10) ≤ rest
-    tenth rest = omega arith
-
-pub unit_more : (unit rest n : ℕ) → 10 ≤ rest → unit * rest ≤ n → unit * 10 ≤ n
-unit_more unit rest n h k = omega (arith, mul-le-mul_left unit h)
-
--- a smaller power of ten has a smaller exponent
-pub exponent_lt : (k m : ℕ) → 10 ^ k < 10 ^ m → k < m
-exponent_lt k m h = by (ltb k m) refl
-  where
-    by : (b : Bool) → ltb k m ≡ b → k < m
-    by true t = ltb-true k m t
-    by false t = absurd (let g = pow-le-pow_right {n = 10} (omega arith) {i = m} {j = k} (ltb-false k m t) in omega arith)
-
--- one digit more is counted: of twenty there was one left
-pub count_more : (k rest total : ℕ) → k < 20 → 10 ≤ rest → k + places (20 - k) rest ≡ total → k + 1 + places (20 - (k + 1)) (rest / 10) ≡ total
-count_more k rest total h g e =
-    let same : 20 - k ≡ suc (20 - (k + 1)) = omega arith in
-    omega (arith, e, ap (λ m. places m rest) same, places_next (20 - (k + 1)) rest g)

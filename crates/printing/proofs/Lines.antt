@@ -1,42 +1,35 @@
 -- Laws of the lines of a table and of a refusal's line: as they are put, and as the rows go on.
-use mathlib.Core.Path.{◌≡◌, refl, sym, ap, ap₂, ◌∙◌}
+use mathlib.Core.Path.{◌≡◌, refl, sym, ap, ◌∙◌}
 use mathlib.Core.Bool.{Bool, true, false, cond, ◌&&◌}
 use mathlib.Core.List.{List, [], ◌∷◌, ◌++◌, append_assoc, append-nil, flat_map}
-use Prim.Native.Nat.{ℕ, suc, ◌+◌, ◌*◌, ◌^◌, ◌≤◌, ◌<◌}
+use Prim.Native.Nat.{ℕ, zero, suc, ◌+◌, ◌*◌, ◌^◌, ◌≤◌, ◌<◌}
+use native.Mathlib.Numerals.{add-one}
 use native.Mathlib.Omega.{arith}
 use borrow.Author.Tests.{lt-ltb, le-ltb, ltb-true, ltb-false}
 use lib.Count.{ones}
 use lib.Dec.{eqb, ltb}
 use lib.Ieee.{Float, nan, binary64, to_bits}
-use lib.ListN.{length, get_or, set, length-append}
+use lib.ListN.{length, get_or, length-append}
 use Rattle.lists.specs.Lists.{up_to}
 use Rattle.lists.proofs.Lists.{up_to_cong, up_to_through}
 use Rattle.masks.specs.Presence.{stands}
 use Rattle.exclusive.specs.RowOrder.{rows_of, row_order}
 use Rattle.exclusive.proofs.Places.{few_rows, masks_le, level_next, rows_next}
 use Rattle.exclusive.proofs.RowOrder.{row}
-use Rattle.printing.specs.Text.{digits, places, decimal, line_end, put}
-use Rattle.printing.specs.Rows.{line_of, row_line, row_lines, table_lines, LinesFew, LinesSame, refused_word, at_word, refusal_line, RefusalFew}
-use Rattle.printing.proofs.Putting.{put_append, put_one}
-use Rattle.printing.proofs.Digits.{length_digits, places_few}
+use Rattle.printing.specs.declared.text.Cursor.{Cursor}
+use Rattle.printing.specs.Text.{digits, decimal, line_end, Advances}
+use Rattle.printing.specs.Rows.{line_of, row_line, row_lines, level_lines, table_lines, LinesFew, LinesSame, refused_word, at_word, refusal_line, RefusalFew}
+use Rattle.printing.proofs.Putting.{advance_then}
+use Rattle.printing.proofs.Digits.{length_digits, decimal_few}
 
--- ---- one text and then another
+-- ---- a line, as its parts are put
 
-pub put_then : (out mid end : List ℕ) (at next : ℕ) (s t : List ℕ)
-    → mid ≡ put out at s → next ≡ at + length s → end ≡ put mid next t → end ≡ put out at (s ++ t)
-put_then out mid end at next s t e n f = f ∙ ap₂ (λ o r. put o r t) e n ∙ sym (put_append out at s t)
-
--- a line, as its parts are put
-pub line_put : (out a b c d : List ℕ) (at space end mask bits : ℕ)
-    → (space ≡ at + 3) × (a ≡ put out at (digits 16 3 mask)) → b ≡ set a space 32
-    → (end ≡ space + 1 + 16) × (c ≡ put b (space + 1) (digits 16 16 bits)) → d ≡ set c end 10
-    → d ≡ put out at (line_of mask bits)
+pub line_put : (mask bits : ℕ) {a b c d e : Cursor}
+    → Advances (digits 16 3 mask) a b → Advances (32 ∷ []) b c → Advances (digits 16 16 bits) c d → Advances line_end d e
+    → Advances (line_of mask bits) a e
 unfolding line_of
-line_put out a b c d at space end mask bits first gap second last =
-    put_then out a d at space (digits 16 3 mask) (32 ∷ (digits 16 16 bits ++ line_end)) first.1 (first.0 ∙ ap (λ n. at + n) (sym (length_digits 16 3 mask)))
-    (put_then a b d space (space + 1) (32 ∷ []) (digits 16 16 bits ++ line_end) (gap ∙ put_one a space 32) refl
-    (put_then b c d (space + 1) end (digits 16 16 bits) line_end second.1 (second.0 ∙ ap (λ n. space + 1 + n) (sym (length_digits 16 16 bits)))
-    (last ∙ put_one c end 10)))
+line_put mask bits first gap second last =
+    advance_then (digits 16 3 mask) _ first (advance_then (32 ∷ []) _ gap (advance_then (digits 16 16 bits) line_end second last))
 
 pub length_line : (mask bits : ℕ) → length (line_of mask bits) ≡ 21
 unfolding line_of
@@ -50,34 +43,13 @@ length_line mask bits =
     )
 
 -- a refusal's line
-pub refusal_put : (out a b c d e : List ℕ) (i j k l number offset : ℕ)
-    → (i ≡ length refused_word) × (a ≡ put out 0 refused_word)
-    → (j ≡ i + length (decimal number)) × (b ≡ put a i (decimal number))
-    → (k ≡ j + length at_word) × (c ≡ put b j at_word)
-    → (l ≡ k + length (decimal offset)) × (d ≡ put c k (decimal offset))
-    → e ≡ set d l 10
-    → (l + 1 ≡ length (refusal_line number offset)) × (e ≡ put out 0 (refusal_line number offset))
+pub refusal_put : (number offset : ℕ) {a b c d e f : Cursor}
+    → Advances refused_word a b → Advances (decimal number) b c → Advances at_word c d → Advances (decimal offset) d e → Advances line_end e f
+    → Advances (refusal_line number offset) a f
 unfolding refusal_line
-refusal_put out a b c d e i j k l number offset first second third fourth last =
-    let t₄ = decimal offset ++ line_end in
-    let t₃ = at_word ++ t₄ in
-    let t₂ = decimal number ++ t₃ in (
-      omega (
-        arith,
-        first.0,
-        second.0,
-        third.0,
-        fourth.0,
-        length-append refused_word t₂,
-        length-append (decimal number) t₃,
-        length-append at_word t₄,
-        length-append (decimal offset) line_end,
-      ),
-      put_then out a e 0 i refused_word t₂ first.1 first.0
-          (put_then a b e i j (decimal number) t₃ second.1 second.0
-          (put_then b c e j k at_word t₄ third.1 third.0
-          (put_then c d e k l (decimal offset) line_end fourth.1 fourth.0 (last ∙ put_one d l 10)))),
-    )
+refusal_put number offset first second third fourth last =
+    advance_then refused_word _ first
+    (advance_then (decimal number) _ second (advance_then at_word _ third (advance_then (decimal offset) line_end fourth last)))
 
 pub refusal_few : RefusalFew
 unfolding refusal_line
@@ -88,10 +60,8 @@ refusal_few number offset =
       length-append (decimal number) (at_word ++ (decimal offset ++ line_end)),
       length-append at_word (decimal offset ++ line_end),
       length-append (decimal offset) line_end,
-      length_digits 10 (places 19 number) number,
-      length_digits 10 (places 19 offset) offset,
-      places_few 19 number,
-      places_few 19 offset,
+      decimal_few number,
+      decimal_few offset,
     )
 
 -- ---- as the rows go on
@@ -138,24 +108,22 @@ module _ (present : ℕ → Bool) (line : ℕ → List ℕ) where
   pub lines_next : (m c : ℕ) → lines_below m (c + 1) ≡ lines_below m c ++ lines_at c m
   lines_next m c = ap (flat_map line) (rows_next present m c) ∙ flat_append line (up_to (λ d. rows_of present d m) c) (rows_of present c m)
 
--- the line of a row is put after those before it
-module _ (present : ℕ → Bool) (number : ℕ → Float) (out : List ℕ) (start c s : ℕ) where
-  pub row_put : (mid end : List ℕ) (at next bits : ℕ) → (present s && eqb (ones s) c) ≡ true
-      → at ≡ start + length (lines_at present (row_line number) c s) → mid ≡ put out start (lines_at present (row_line number) c s)
-      → bits ≡ to_bits binary64 (number s) → next ≡ at + 21 → end ≡ put mid at (line_of s bits)
-      → (next ≡ start + length (lines_at present (row_line number) c (s + 1))) × (end ≡ put out start (lines_at present (row_line number) c (s + 1)))
-  row_put mid end at next bits is counted so_far its after last =
-      let before = lines_at present (row_line number) c s in
-      let more = level_row present (row_line number) c s is in (
-        omega (arith, counted, after, ap length more, length-append before (row_line number s), length_line s (to_bits binary64 (number s))),
-        put_then out mid end start at before (row_line number s) so_far counted (last ∙ ap (λ b. put mid at (line_of s b)) its) ∙ ap (put out start) (sym more),
-      )
+-- ---- the levels of the table, one after another
 
--- all levels are the table
-pub lines_all : (n : ℕ) (bytes : List ℕ) (numbers : List Float) → n ≤ 10
-    → lines_below (stands bytes) (row_line (λ S. get_or numbers S nan)) (2 ^ n) (suc n) ≡ table_lines n bytes numbers
-unfolding table_lines row_lines row_order
-lines_all n bytes numbers h = rw (le-ltb 10 n h)
+module _ (n : ℕ) (bytes : List ℕ) (numbers : List Float) where
+  abbrev pub levels_below : ℕ → List ℕ
+  levels_below c = lines_below (stands bytes) (row_line (λ S. get_or numbers S nan)) (2 ^ n) c
+
+  pub level_put : (c m : ℕ) {a b d : Cursor} → m ≡ 2 ^ n → Advances (levels_below c) a b → Advances (level_lines bytes numbers c m) b d
+      → Advances (levels_below (c + 1)) a d
+  level_put c m e before level =
+      let next = lines_next (stands bytes) (row_line (λ S. get_or numbers S nan)) (2 ^ n) c in
+      rw next (advance_then (levels_below c) _ before (rw e at level))
+
+  -- all levels are the table
+  pub lines_all : n ≤ 10 → levels_below (n + 1) ≡ table_lines n bytes numbers
+  unfolding table_lines row_lines row_order
+  lines_all h = rw (add-one, le-ltb 10 n h)
 
 pub lines_none : (n : ℕ) (bytes : List ℕ) (numbers : List Float) → 10 < n → table_lines n bytes numbers ≡ []
 unfolding table_lines
@@ -174,21 +142,35 @@ flat_length number (S ∷ l) =
       flat_length number l,
     )
 
+pub level_few : (bytes : List ℕ) (numbers : List Float) (c s : ℕ) → length (level_lines bytes numbers c s) ≤ 21 * s
+level_few bytes numbers c zero = omega (arith, ap length (no_level (stands bytes) (row_line (λ S. get_or numbers S nan)) c))
+level_few bytes numbers c (suc s) = rw (← add-one s) (by (stands bytes s && eqb (ones s) c) refl (level_few bytes numbers c s))
+  where
+    line : ℕ → List ℕ
+    line = row_line (λ S. get_or numbers S nan)
+
+    by : (b : Bool) → (stands bytes s && eqb (ones s) c) ≡ b → length (level_lines bytes numbers c s) ≤ 21 * s
+        → length (level_lines bytes numbers c (s + 1)) ≤ 21 * (s + 1)
+    by true e few =
+        omega (
+          arith,
+          ap length (level_row (stands bytes) line c s e),
+          length-append (level_lines bytes numbers c s) (line s),
+          length_line s (to_bits binary64 (get_or numbers s nan)),
+        )
+    by false e few = omega (arith, ap length (level_skip (stands bytes) line c s e))
+
+pub levels_few : (n : ℕ) (bytes : List ℕ) (numbers : List Float) (c : ℕ) → length (levels_below n bytes numbers c) ≤ 21 * 2 ^ n
+levels_few n bytes numbers c =
+    omega (arith, flat_length (λ S. get_or numbers S nan) (up_to (λ d. rows_of (stands bytes) d (2 ^ n)) c), few_rows (stands bytes) (2 ^ n) c)
+
 pub lines_few : LinesFew
 lines_few n bytes numbers = by (ltb 10 n) refl
   where
-    few : n ≤ 10 → length (lines_below (stands bytes) (row_line (λ S. get_or numbers S nan)) (2 ^ n) (suc n)) ≤ 21504
-    few h =
-        omega (
-          arith,
-          flat_length (λ S. get_or numbers S nan) (up_to (λ d. rows_of (stands bytes) d (2 ^ n)) (suc n)),
-          few_rows (stands bytes) (2 ^ n) (suc n),
-          masks_le n h,
-        )
-
     by : (b : Bool) → ltb 10 n ≡ b → length (table_lines n bytes numbers) ≤ 21504
     by true e = rw (lines_none n bytes numbers (ltb-true 10 n e)) (omega arith)
-    by false e = rw (← lines_all n bytes numbers (ltb-false 10 n e)) (few (ltb-false 10 n e))
+    by false e =
+        rw (← lines_all n bytes numbers (ltb-false 10 n e)) (omega (arith, levels_few n bytes numbers (n + 1), masks_le n (ltb-false 10 n e)))
 
 -- ---- what the lines look at
 

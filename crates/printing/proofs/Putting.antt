@@ -1,12 +1,13 @@
 -- Laws of a text put into a lent slice.
-use mathlib.Core.Path.{◌≡◌, refl, sym, ap, ◌∙◌}
+use mathlib.Core.Path.{◌≡◌, refl, sym, ap, ap₂, ◌∙◌}
 use mathlib.Core.List.{List, [], ◌∷◌, ◌++◌, append_assoc}
-use Prim.Native.Nat.{ℕ, zero, suc, ◌+◌, ◌≤◌, ◌<◌}
+use Prim.Native.Nat.{ℕ, zero, suc, ◌+◌, ◌≤◌}
 use native.Mathlib.Numerals.{add-one}
 use native.Mathlib.Omega.{arith}
-use lib.ListN.{length, get_or, set, take, drop, length-append, length-set}
-use lib.Seq.{set_at, drop-cons}
-use Rattle.printing.specs.Text.{put, PutFits, PutCut}
+use lib.ListN.{length, set, take, drop, length-append, length-set}
+use lib.Seq.{set_at}
+use Rattle.printing.specs.declared.text.Cursor.{Cursor}
+use Rattle.printing.specs.Text.{put, Advances, Printed, PutFits, PutCut}
 
 -- one text and then another
 pub put_append : (out : List ℕ) (at : ℕ) (s t : List ℕ) → put out at (s ++ t) ≡ put (put out at s) (at + length s) t
@@ -82,13 +83,23 @@ cut_after p (x ∷ out) (b ∷ t) h =
 pub put_cut : PutCut
 put_cut out t h = cut_after [] out t h
 
--- ---- a word, from byte i on
+-- ---- a cursor, as texts are put at it
 
-pub put_rest : (out : List ℕ) (at : ℕ) (word : List ℕ) (i : ℕ) → i < length word
-    → put out (at + i) (drop i word) ≡ put (set out (at + i) (get_or word i 0)) (at + (i + 1)) (drop (i + 1) word)
-put_rest out at word i h =
-    let e : at + i + 1 ≡ at + (i + 1) = omega arith in
-    ap (put out (at + i)) (drop-cons word i 0 h)
-    ∙ put_next out (at + i) (get_or word i 0) (drop (suc i) word)
-    ∙ ap (λ n. put (set out (at + i) (get_or word i 0)) n (drop (suc i) word)) e
-    ∙ ap (λ n. put (set out (at + i) (get_or word i 0)) (at + (i + 1)) (drop n word)) (sym (add-one i))
+pub advance_none : (c : Cursor) → Advances [] c c
+advance_none c = record { bytes = sym (put_nothing c.out.now c.at); place = omega arith; same_slice = refl }
+
+-- a byte is put, or there is no place for it
+pub byte_put : (b : ℕ) {c d : Cursor} → d.out.now ≡ set c.out.now c.at b → d.at ≡ c.at + 1 → d.out.ghost_name ≡ c.out.ghost_name → Advances (b ∷ []) c d
+byte_put b {c = c} bytes place same = record { bytes = bytes ∙ put_one c.out.now c.at b; place = place; same_slice = same }
+
+-- one text and then another
+pub advance_then : (s t : List ℕ) {a b c : Cursor} → Advances s a b → Advances t b c → Advances (s ++ t) a c
+advance_then s t {a = a} first second = record {
+  bytes = second.bytes ∙ ap₂ (λ o n. put o n t) first.bytes first.place ∙ sym (put_append a.out.now a.at s t);
+  place = omega (arith, first.place, second.place, length-append s t);
+  same_slice = second.same_slice ∙ first.same_slice;
+}
+
+-- all that was put at the front of the slice
+pub printed_by : (text : List ℕ) {left : List ℕ} {a b : Cursor} → a.at ≡ 0 → left ≡ b.out.now → Advances text a b → Printed text a.out.now left b.at
+printed_by text {a = a} e f all = record { counted = omega (arith, all.place, e); bytes = f ∙ all.bytes ∙ ap (λ n. put a.out.now n text) e }

@@ -1,5 +1,6 @@
 -- Text as a list of bytes: numbers in a base, and a text put into a lent slice.
 use Rattle.std.specs.Prelude.{ℕ, zero, suc, ◌+◌, ◌/◌, ◌%◌, ◌^◌, ◌≤◌, ◌≡◌, cond, List, [], ◌∷◌, ◌++◌, ltb, length, set, take, drop}
+use Rattle.printing.specs.declared.text.Cursor.{Cursor}
 
 -- ---- numbers
 
@@ -31,6 +32,12 @@ line_end = 10 ∷ []
 unfoldable pub put : List ℕ → ℕ → List ℕ → List ℕ
 put out at [] = out
 put out at (b ∷ text) = put (set out at b) (suc at) text
+
+-- A cursor over a lent slice after a text was put at it: the text stands from its index on, and its index is the one after the text.
+pub record Advances (text : List ℕ) (old new : Cursor) : Type 0 where
+  pub bytes : new.out.now ≡ put old.out.now old.at text
+  pub place : new.at ≡ old.at + length text
+  pub same_slice : new.out.ghost_name ≡ old.out.ghost_name
 
 -- What a call that puts a text gives and leaves: how many bytes the text has, whether or not they fit, and the slice with the text at its front.
 pub record Printed (text out left : List ℕ) (count : ℕ) : Type 0 where

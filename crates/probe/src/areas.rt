@@ -8,7 +8,7 @@ ghost use Rattle.probe.specs.Handed as spec;
 
 use crate::given::{Circles, circles_of};
 use crate::outlines::points_of;
-use exclusive::areas::to_exclusive_areas;
+use exclusive::areas::{rows_number, to_exclusive_areas};
 use overlaps::overlaps::{compute_overlaps_circles, compute_overlaps_of};
 use sets::discover::discover_regions;
 
@@ -25,7 +25,7 @@ pub extern "C" fn probe_sets(circles: Circles, n_sets: usize) -> Sets
     ensures { result.bytes ≡ set_bytes (spec.circles circles.numbers n_sets) (spec.points circles.numbers n_sets) }
 {
     let bytes = discover_regions(circles_of(circles), points_of(circles, n_sets), n_sets);
-    Sets { bytes: bytes }
+    Sets { bytes }
 }
 
 // Exclusive areas from presence bytes and areas.
@@ -39,7 +39,7 @@ pub extern "C" fn probe_to_exclusive_areas(
     ensures value { result ≡ exclusive_answer n present.now areas.now exclusives.old }
     ensures exclusives_after { exclusives.new ≡ exclusive_table n present.now areas.now exclusives.old }
 {
-    to_exclusive_areas(present, areas, exclusives, n)
+    rows_number(to_exclusive_areas(present, areas, exclusives, n))
 }
 
 // The area that all of them water together.

@@ -13,6 +13,7 @@ use diagram::gradients::{
     compute_exclusive_regions_clipped_with_gradient,
     compute_exclusive_regions_with_gradient_circles,
 };
+use exclusive::areas::rows_number;
 use exclusive_gradients::gradients::to_exclusive_areas_and_gradients;
 use geometry::point::Point;
 use geometry::rectangle::Rectangle;
@@ -37,7 +38,7 @@ pub extern "C" fn probe_to_exclusive_areas_and_gradients(
     ensures areas_after { areas.new ≡ exclusive_areas n width present.now areas.old gradients.old }
     ensures gradients_after { gradients.new ≡ exclusive_gradients n width present.now areas.old gradients.old }
 {
-    to_exclusive_areas_and_gradients(present, areas, gradients, n, width)
+    rows_number(to_exclusive_areas_and_gradients(present, areas, gradients, n, width))
 }
 
 // The exclusive areas of the circles.
@@ -52,7 +53,7 @@ pub extern "C" fn probe_compute_exclusive_regions(
     ensures presence_after { presence.new ≡ left.presence_left n_sets (left.open_diagram (spec.circles circles.numbers n_sets)) presence.old exclusives.old }
     ensures exclusives_after { exclusives.new ≡ left.exclusives_left n_sets (left.open_diagram (spec.circles circles.numbers n_sets)) presence.old exclusives.old }
 {
-    compute_exclusive_regions(circles_of(circles), n_sets, presence, exclusives)
+    rows_number(compute_exclusive_regions(circles_of(circles), n_sets, presence, exclusives))
 }
 
 // Those in the box.
@@ -71,13 +72,13 @@ pub extern "C" fn probe_compute_exclusive_regions_clipped(
     ensures presence_after { presence.new ≡ left.presence_left n_sets (left.clipped_diagram (around (at x y) width height) (spec.circles circles.numbers n_sets)) presence.old exclusives.old }
     ensures exclusives_after { exclusives.new ≡ left.exclusives_left n_sets (left.clipped_diagram (around (at x y) width height) (spec.circles circles.numbers n_sets)) presence.old exclusives.old }
 {
-    compute_exclusive_regions_clipped(
+    rows_number(compute_exclusive_regions_clipped(
         circles_of(circles),
         n_sets,
         container(x, y, width, height),
         presence,
         exclusives,
-    )
+    ))
 }
 
 // The exclusive areas with their gradients.
@@ -94,13 +95,13 @@ pub extern "C" fn probe_compute_exclusive_regions_with_gradient_circles(
     ensures exclusives_after { exclusives.new ≡ left.areas_left n_sets (left.open_with_gradients (spec.circles circles.numbers n_sets)) presence.old exclusives.old gradients.old }
     ensures gradients_after { gradients.new ≡ left.gradients_left n_sets (left.open_with_gradients (spec.circles circles.numbers n_sets)) presence.old exclusives.old gradients.old }
 {
-    compute_exclusive_regions_with_gradient_circles(
+    rows_number(compute_exclusive_regions_with_gradient_circles(
         circles_of(circles),
         n_sets,
         presence,
         exclusives,
         gradients,
-    )
+    ))
 }
 
 // Those in the box.
@@ -121,12 +122,12 @@ pub extern "C" fn probe_compute_exclusive_regions_clipped_with_gradient(
     ensures exclusives_after { exclusives.new ≡ left.areas_left n_sets (left.clipped_with_gradients (around (at x y) width height) (spec.circles circles.numbers n_sets)) presence.old exclusives.old gradients.old }
     ensures gradients_after { gradients.new ≡ left.gradients_left n_sets (left.clipped_with_gradients (around (at x y) width height) (spec.circles circles.numbers n_sets)) presence.old exclusives.old gradients.old }
 {
-    compute_exclusive_regions_clipped_with_gradient(
+    rows_number(compute_exclusive_regions_clipped_with_gradient(
         circles_of(circles),
         n_sets,
         container(x, y, width, height),
         presence,
         exclusives,
         gradients,
-    )
+    ))
 }

@@ -1,22 +1,21 @@
 -- The state after the bytes of a file is what the whole file says, as specs/Reading.antt states it; and one byte more, as the code takes it.
-use Prim.Native.Nat.{ℕ, suc, ◌+◌, ◌≤◌, ◌<◌}
+use Prim.Native.Nat.{ℕ, ◌+◌, ◌≤◌, ◌<◌}
 use mathlib.Core.Path.{◌≡◌, refl, sym, ap, ap₂, ◌∙◌, subst}
 use mathlib.Core.List.{List, [], ◌∷◌, ◌++◌, append-nil, append_assoc, foldl}
-use native.Mathlib.Numerals.{add-one}
 use native.Mathlib.Omega.{arith}
 use lib.Ieee.{Float}
-use lib.ListN.{length, get_or, drop, drop_of_length-le}
-use lib.Seq.{drop-cons}
-use Rattle.plan.specs.declared.Answer.{Answer}
-use Rattle.plan.specs.declared.Answer.TheVariants.{Taken, Refused}
+use lib.ListN.{length, get_or, take}
+use Rattle.std.proofs.lemmas.List.{take_more}
+use Rattle.std.proofs.Common.{Option, None, Some, Ok, Err}
 use Rattle.plan.specs.declared.Edit.{Edit}
 use Rattle.plan.specs.declared.Plan.{Plan}
-use Rattle.plan.specs.declared.Refusal.{Refusal}
-use Rattle.plan.specs.Table.{number_of}
-use Rattle.file.specs.declared.reader.Handed.{Handed}
-use Rattle.file.specs.declared.reader.Handed.TheVariants.{Nothing, ThePlan, AnEdit}
+use Rattle.plan.specs.declared.Refused.{Refused}
+use Rattle.plan.specs.Table as Table
+use Rattle.plan.specs.Table.{Answered, number_of}
+use Rattle.file.specs.declared.reader.Completed.{Completed}
+use Rattle.file.specs.declared.reader.Completed.TheVariants.{ThePlan, AnEdit}
 use Rattle.file.specs.declared.reader.Reader.{Reader}
-use Rattle.file.specs.File.{File, ends, gives_plan, gives_edit, read_file}
+use Rattle.file.specs.File.{File, ends, read_file}
 use Rattle.file.specs.Reader.{start, step, finish, feed, handing, handed_over}
 use Rattle.file.proofs.Same.{reader_reads}
 use Rattle.regions.specs.Slices.{LentTables, PlanSlices, step_of, afresh_slices, edit_slices}
@@ -24,7 +23,7 @@ use Rattle.regions.specs.Table.{Method}
 use Rattle.printing.specs.Rows.{table_lines, refusal_line}
 use Rattle.printing.specs.Text.{Printed}
 use Rattle.printing.proofs.Lines.{lines_few, refusal_few}
-use Rattle.reading.specs.Whole.{over, no_plan, file_left, file_answer, plan_lines, printed_for, file_printed}
+use Rattle.reading.specs.Whole.{over, no_plan, file_left, file_answer, plan_lines, printed_for}
 use Rattle.reading.specs.Reading.{State, state_of, begun, handed_to, read_byte, read_bytes, answer_at}
 use Rattle.reading.specs.Reading.{printed_at, AfterBytes, BegunReads, PieceReads, FileAnswers, FilePrints, joined, PiecesRead, PiecesPrint}
 use Rattle.reading.proofs.Fresh.{left_over}
@@ -33,13 +32,13 @@ use Rattle.reading.proofs.Whole.{file-left, file_answers, file_lines, printed_sa
 module _ (m : Method) where
   -- ---- the tables are what the file says
 
-  handed-over : (h : Handed) (p : Plan) (f : File) (d : PlanSlices) → left_over m (handing h p f) d ≡ left_over m f (handed_to m h p d)
+  handed-over : (h : Option Completed) (p : Plan) (f : File) (d : PlanSlices) → left_over m (handing h p f) d ≡ left_over m f (handed_to m h p d)
   unfolding left_over handed_to
-  handed-over Nothing p f d = refl
-  handed-over ThePlan p f d = refl
-  handed-over (AnEdit e) p f d = refl
+  handed-over None p f d = refl
+  handed-over (Some ThePlan) p f d = refl
+  handed-over (Some (AnEdit e)) p f d = refl
 
-  bytes_left : (s : List ℕ) (r : Reader) (d : PlanSlices) (a : Answer) → (read_bytes m (state_of r d) s).left ≡ left_over m (handed_over r s (ends a)) d
+  bytes_left : (s : List ℕ) (r : Reader) (d : PlanSlices) (a : Answered) → (read_bytes m (state_of r d) s).left ≡ left_over m (handed_over r s (ends a)) d
   unfolding read_bytes handed_over left_over
   bytes_left [] r d a = refl
   bytes_left (b ∷ s) r d a =
@@ -95,49 +94,51 @@ module _ (m : Method) where
 
   -- ---- from the front, as the code goes
 
-  pub bytes_next : (s : State) (bytes : List ℕ) (i : ℕ) → i < length bytes
-      → read_bytes m s (drop i bytes) ≡ read_bytes m (read_byte m s (get_or bytes i 0)) (drop (i + 1) bytes)
+  pub bytes_first : (s : State) → read_bytes m s [] ≡ s
   unfolding read_bytes
-  bytes_next s bytes i h = rw (add-one, drop-cons bytes i 0)
+  bytes_first s = refl
 
-  pub bytes_past : (s : State) (bytes : List ℕ) (i : ℕ) → length bytes ≤ i → read_bytes m s (drop i bytes) ≡ s
+  -- one byte more of those before it
+  pub bytes_next : (s : State) (bytes : List ℕ) (i : ℕ) → i < length bytes
+      → read_bytes m s (take (i + 1) bytes) ≡ read_byte m (read_bytes m s (take i bytes)) (get_or bytes i 0)
   unfolding read_bytes
-  bytes_past s bytes i h = rw (drop_of_length-le bytes {i = i} h)
+  bytes_next s bytes i h =
+      ap (read_bytes m s) (take_more bytes i 0 h) ∙ bytes_append s (take i bytes) (get_or bytes i 0 ∷ [])
 
   pub byte_read : (r r' : Reader) (d d' : PlanSlices) (b : ℕ) → r' ≡ step r b → d' ≡ handed_to m r'.handed r'.plan d
       → state_of r' d' ≡ read_byte m (state_of r d) b
   byte_read r r' d d' b e q = ap (state_of r') q ∙ ap (λ x. state_of x (handed_to m x.handed x.plan d)) e
 
   -- what a byte hands out, as the code takes it to the tables
-  pub handed_nothing : (h : Handed) (p : Plan) (d : PlanSlices) → h ≡ Nothing → d ≡ handed_to m h p d
+  pub handed_nothing : (h : Option Completed) (p : Plan) (d : PlanSlices) → h ≡ None → d ≡ handed_to m h p d
   unfolding handed_to
   handed_nothing h p d e = rw e
 
-  pub handed_plan : (h : Handed) (p : Plan) (d left : PlanSlices) (a : Answer) → h ≡ ThePlan → step_of left a ≡ afresh_slices m (over d.tables p)
+  pub handed_plan : (h : Option Completed) (p : Plan) (d left : PlanSlices) (a : Answered) → h ≡ Some ThePlan → step_of left a ≡ afresh_slices m (over d.tables p)
       → left ≡ handed_to m h p d
   unfolding handed_to
   handed_plan h p d left a e q = rw e (ap (λ x. x.left) q)
 
-  pub handed_edit : (h : Handed) (p : Plan) (d left : PlanSlices) (e : Edit) (a : Answer) → h ≡ AnEdit e → step_of left a ≡ edit_slices m d e
+  pub handed_edit : (h : Option Completed) (p : Plan) (d left : PlanSlices) (e : Edit) (a : Answered) → h ≡ Some (AnEdit e) → step_of left a ≡ edit_slices m d e
       → left ≡ handed_to m h p d
   unfolding handed_to
   handed_edit h p d left e a q s = rw q (ap (λ x. x.left) s)
 
 -- ---- what is printed, as the code prints it
 
-pub taken_printed : (a : Answer) (lines : List ℕ) → a ≡ Taken → lines ≡ printed_for a lines
+pub taken_printed : (a : Answered) (lines : List ℕ) → a ≡ Table.taken → lines ≡ printed_for a lines
 taken_printed a lines e = rw e
 
-pub refused_printed : {r : Refusal} {at : ℕ} (a : Answer) (lines : List ℕ) (k : ℕ) → a ≡ Refused r at → k ≡ number_of r → refusal_line k at ≡ printed_for a lines
-refused_printed {at = at} a lines k e q = rw e (ap (λ n. refusal_line n at) q)
+pub refused_printed : {r : Refused} (a : Answered) (lines : List ℕ) (k : ℕ) → a ≡ Err r → k ≡ number_of r.refusal → refusal_line k r.at ≡ printed_for a lines
+refused_printed {r = r} a lines k e q = rw e (ap (λ n. refusal_line n r.at) q)
 
 pub printed_as : {text text' out left : List ℕ} {count : ℕ} → text ≡ text' → Printed text out left count → Printed text' out left count
 printed_as {out = out} {left = left} {count = count} e p = subst (λ text. Printed text out left count) e p
 
 -- it fits in 21504 bytes
-pub printed_few : (a : Answer) (n : ℕ) (bytes : List ℕ) (numbers : List Float) → length (printed_for a (table_lines n bytes numbers)) ≤ 21504
-printed_few Taken n bytes numbers = lines_few n bytes numbers
-printed_few (Refused r at) n bytes numbers = omega (arith, refusal_few (number_of r) at)
+pub printed_few : (a : Answered) (n : ℕ) (bytes : List ℕ) (numbers : List Float) → length (printed_for a (table_lines n bytes numbers)) ≤ 21504
+printed_few (Ok done) n bytes numbers = lines_few n bytes numbers
+printed_few (Err r) n bytes numbers = omega (arith, refusal_few (number_of r.refusal) r.at)
 
 pub printed_fits : {text out left : List ℕ} {count : ℕ} → length text ≤ 21504 → Printed text out left count → count ≤ 21504
 printed_fits few p = omega (arith, p.counted)

@@ -11,23 +11,23 @@ use Rattle.lists.specs.Run as Run
 use lib.Seq.{drop_at}
 use Rattle.lists.specs.Written.{tab, written}
 use Rattle.lists.proofs.Writing.{written_cong, length_tab}
-use Rattle.plan.specs.declared.Answer.{Answer}
-use Rattle.plan.specs.declared.Answer.TheVariants.{Taken, Refused}
+use Rattle.std.proofs.Common.{Ok, Err}
 use Rattle.plan.specs.declared.Edit.{Edit}
 use Rattle.plan.specs.declared.Gradients.TheVariants.{None}
 use Rattle.plan.specs.declared.Lent.{Lent}
 use Rattle.plan.specs.declared.Plan.{Plan}
-use Rattle.plan.specs.Book.{Entry, book, head_of, applied, leaves}
-use Rattle.plan.specs.Checks.{plan_answer, edit_answer}
+use Rattle.plan.specs.Book.{book, head_of, applied, leaves}
+use Rattle.plan.specs.Checks.{edit_answer}
+use Rattle.plan.specs.Table as Table
+use Rattle.plan.specs.Table.{Answered}
 use Rattle.plan.specs.Limits.{Acceptable, AcceptableEdit}
 use Rattle.plan.proofs.Exactly.{plan_taken, call_taken, edit_taken}
 use Rattle.plan.proofs.Keeps.{applied_acceptable}
 use Rattle.file.specs.Applied.{plan_after, entries}
 use Rattle.file.specs.File.{File, ends, gives_plan, gives_edit}
 use Rattle.file.specs.Sound.{EditsWithin}
-use Rattle.regions.specs.Demand.{AfreshRows, Fresh}
+use Rattle.regions.specs.Demand.{Fresh}
 use Rattle.regions.specs.Edit.{Row}
-use Rattle.regions.specs.Run.{slices_after}
 use Rattle.regions.specs.Slices.{Slices, slices_of, row_at, with_rows, LentTables, lent_of, PlanSlices, settled_tables}
 use Rattle.regions.specs.Slices.{afresh_answer, afresh_left, afresh_slices, slice_answer, edited_left, edit_slices, plan_table, entry_of}
 use Rattle.regions.specs.Table.{Method, afresh, edited}
@@ -76,24 +76,24 @@ row_below F count u S h = row_written F count u S ∙ rw (lt-ltb S count h)
 -- ---- what the checks say
 
 module _ (t : LentTables) (q : Plan) (ten : length q.heads ≡ 10) where
-  pub afresh_is_taken : Acceptable q → 2 ^ q.n ≤ (lent_of t).rows → afresh_answer (over t q) ≡ Taken
+  pub afresh_is_taken : Acceptable q → 2 ^ q.n ≤ (lent_of t).rows → afresh_answer (over t q) ≡ Table.taken
   afresh_is_taken ok enough = (call_taken q None (lent_of t) ten).1 (ok, (enough, omega arith))
 
-  pub afresh_needs : afresh_answer (over t q) ≡ Taken → 2 ^ q.n ≤ (lent_of t).rows
+  pub afresh_needs : afresh_answer (over t q) ≡ Table.taken → 2 ^ q.n ≤ (lent_of t).rows
   afresh_needs e = ((call_taken q None (lent_of t) ten).0 e).1.0
 
 -- what the afresh call leaves
-pub afresh_leaves : (m : Method) (d : PlanSlices) → afresh_answer d ≡ Taken → (afresh_slices m d).left ≡ afresh_left m d
+pub afresh_leaves : (m : Method) (d : PlanSlices) → afresh_answer d ≡ Table.taken → (afresh_slices m d).left ≡ afresh_left m d
 unfolding afresh_slices
 afresh_leaves m d e = ap (λ a. leaves a d (afresh_left m d)) e
 
-pub afresh_stays : (m : Method) (d : PlanSlices) → (afresh_answer d ≡ Taken → ⊥) → (afresh_slices m d).left ≡ d
+pub afresh_stays : (m : Method) (d : PlanSlices) → (afresh_answer d ≡ Table.taken → ⊥) → (afresh_slices m d).left ≡ d
 unfolding afresh_slices
 afresh_stays m d n = go (afresh_answer d) n
   where
-    go : (a : Answer) → (a ≡ Taken → ⊥) → leaves a d (afresh_left m d) ≡ d
-    go Taken n = absurd (n refl)
-    go (Refused r at) n = refl
+    go : (a : Answered) → (a ≡ Table.taken → ⊥) → leaves a d (afresh_left m d) ≡ d
+    go (Ok done) n = absurd (n refl)
+    go (Err r) n = refl
 
 -- ---- one edit on fresh tables
 
@@ -106,7 +106,7 @@ module _ (m : Method) (t : LentTables) (q : Plan) (e : Edit) (ten : length q.hea
   unfolding fresh
   lengths = settled_lengths m q.n (afresh m q) t (afresh_room (over t q) ten (afresh_is_taken t q ten ok enough))
 
-  taken : slice_answer fresh e ≡ Taken
+  taken : slice_answer fresh e ≡ Table.taken
   unfolding fresh
   taken = (edit_taken q e (lent_of fresh.tables) ten).1 (ok, within, subst (λ l. 2 ^ q.n ≤ l.rows) (sym lengths) enough)
 
@@ -152,15 +152,15 @@ fresh_edits m t (gives_edit e f) q ten ok within enough =
 -- ---- on tables that are too short
 
 module _ (p : Plan) (lent : Lent) (ten : length p.heads ≡ 10) (short : lent.rows < 2 ^ p.n) where
-  not_taken : (e : Edit) → edit_answer p e lent ≡ Taken → ⊥
+  not_taken : (e : Edit) → edit_answer p e lent ≡ Table.taken → ⊥
   not_taken e a = omega (arith, ((edit_taken p e lent ten).0 a).2)
 
   stays : {A : Type 0} (e : Edit) (x y : A) → leaves (edit_answer p e lent) x y ≡ x
   stays e x y = go (edit_answer p e lent) (not_taken e)
     where
-      go : (a : Answer) → (a ≡ Taken → ⊥) → leaves a x y ≡ x
-      go Taken n = absurd (n refl)
-      go (Refused r at) n = refl
+      go : (a : Answered) → (a ≡ Table.taken → ⊥) → leaves a x y ≡ x
+      go (Ok done) n = absurd (n refl)
+      go (Err r) n = refl
 
   pub short_book : (f : File) → book p (entries lent f) ≡ p
   unfolding Run.after entries

@@ -2,7 +2,7 @@
 use Prim.Native.Nat.{ℕ, ◌^◌, ◌≤◌, ◌<◌}
 use mathlib.Core.Path.{◌≡◌, refl, sym, ap, ap₂, ◌∙◌, subst}
 use mathlib.Core.Bool.{Bool, true, false}
-use mathlib.Core.List.{List, []}
+use mathlib.Core.List.{List}
 use mathlib.Core.Logic.{inl}
 use native.Mathlib.Omega.{arith}
 use borrow.Author.Tests.{ltb-true, ltb-false}
@@ -10,32 +10,30 @@ use lib.Dec.{eqb, ltb}
 use lib.Ieee.{nan}
 use lib.ListN.{length, get_or}
 use Rattle.masks.specs.Presence.{stands}
-use Rattle.plan.specs.declared.Answer.{Answer}
-use Rattle.plan.specs.declared.Answer.TheVariants.{Taken, Refused}
+use Rattle.std.proofs.Common.{Ok, Err}
 use Rattle.plan.specs.declared.Gradients.TheVariants.{None}
 use Rattle.plan.specs.declared.Plan.{Plan}
 use Rattle.plan.specs.Book.{leaves}
 use Rattle.plan.specs.Checks.{first_of, call_answer}
-use Rattle.plan.specs.Limits.{Acceptable}
-use Rattle.plan.specs.Table.{answer_number, answer_offset}
+use Rattle.plan.specs.Table as Table
+use Rattle.plan.specs.Table.{Answered, answer_number, answer_offset}
 use Rattle.plan.proofs.Exactly.{call_seven, offset_zero}
 use Rattle.plan.proofs.Keeps.{book_keeps, book_acceptable}
-use Rattle.file.specs.Applied.{plan_after, entries}
+use Rattle.file.specs.Applied.{entries}
 use Rattle.file.specs.File.{File, ends, gives_plan, gives_edit, read_file}
 use Rattle.file.specs.Reader.{start, finish, feed}
 use Rattle.file.specs.Same.{end_of}
-use Rattle.file.specs.Sound.{EditsWithin, FileWithin}
+use Rattle.file.specs.Sound.{FileWithin}
 use Rattle.file.proofs.Applied.{reader_plan, reader_book, taken_gives}
 use Rattle.file.proofs.Same.{reader_answers}
 use Rattle.file.proofs.Sound.{file_sound}
-use Rattle.regions.specs.Edit.{Row}
-use Rattle.regions.specs.Slices.{row_at, with_rows, LentTables, lent_of, PlanSlices, afresh_answer, afresh_left, afresh_slices}
+use Rattle.regions.specs.Slices.{row_at, LentTables, lent_of, PlanSlices, afresh_answer, afresh_left, afresh_slices}
 use Rattle.regions.specs.Table.{Method, afresh}
 use Rattle.regions.proofs.Slices.{afresh_room, settled_lengths}
-use Rattle.printing.specs.Rows.{row_lines, table_lines, refusal_line}
+use Rattle.printing.specs.Rows.{table_lines, refusal_line}
 use Rattle.printing.proofs.Lines.{table-lines, lines_same}
 use Rattle.reading.specs.Whole.{over, no_plan, last_plan, file_left, tables_answer, file_answer}
-use Rattle.reading.specs.Whole.{afresh_exclusive, exclusive_lines, plan_lines, printed_for, file_printed, ShortTables}
+use Rattle.reading.specs.Whole.{afresh_exclusive, exclusive_lines, plan_lines, printed_for, ShortTables}
 use Rattle.reading.proofs.Fresh.{left_over, row_below, afresh_is_taken, afresh_needs, afresh_leaves, afresh_stays, fresh_edits, short_book, short_edits}
 
 -- ---- the tables
@@ -97,7 +95,7 @@ file-left m t s = by (read_file s) refl
 -- ---- the answer
 
 -- a file that gives nothing is refused
-not_empty : (s : List ℕ) (a : Answer) → read_file s ≡ ends a → a ≡ Taken → ⊥
+not_empty : (s : List ℕ) (a : Answered) → read_file s ≡ ends a → a ≡ Table.taken → ⊥
 unfolding end_of
 not_empty s a e q =
     let gives = taken_gives s (reader_answers s ∙ ap end_of e ∙ q) in
@@ -105,18 +103,18 @@ not_empty s a e q =
     let z : ◌≡◌ {A = ℕ} 0 1 = cc in
     omega arith
 
-first_same : (a x y : Answer) → (a ≡ Taken → x ≡ y) → first_of a x ≡ first_of a y
-first_same Taken x y h = h refl
-first_same (Refused r at) x y h = refl
+first_same : (a x y : Answered) → (a ≡ Table.taken → x ≡ y) → first_of a x ≡ first_of a y
+first_same (Ok done) x y h = h refl
+first_same (Err r) x y h = refl
 
 -- the tables' check is the same after the afresh call as before it
 afresh_again : (m : Method) (t : LentTables) (q : Plan) → length q.heads ≡ 10 → afresh_answer (afresh_slices m (over t q)).left ≡ afresh_answer (over t q)
 unfolding afresh_slices
 afresh_again m t q ten = go (afresh_answer (over t q)) refl
   where
-    go : (a : Answer) → afresh_answer (over t q) ≡ a → afresh_answer (leaves a (over t q) (afresh_left m (over t q))) ≡ afresh_answer (over t q)
-    go Taken e = ap (call_answer q None) (settled_lengths m q.n (afresh m q) t (afresh_room (over t q) ten e))
-    go (Refused r at) e = refl
+    go : (a : Answered) → afresh_answer (over t q) ≡ a → afresh_answer (leaves a (over t q) (afresh_left m (over t q))) ≡ afresh_answer (over t q)
+    go (Ok done) e = ap (call_answer q None) (settled_lengths m q.n (afresh m q) t (afresh_room (over t q) ten e))
+    go (Err r) e = refl
 
 pub file_answers : (m : Method) (t : LentTables) (s : List ℕ)
     → first_of (finish (feed start s)) (afresh_answer (file_left m t (read_file s))) ≡ file_answer t (read_file s)
@@ -130,12 +128,12 @@ file_answers m t s = ap (λ a. first_of a (afresh_answer (file_left m t (read_fi
 
 -- ---- what is printed
 
-pub printed_same : (a : Answer) (x y : List ℕ) → (a ≡ Taken → x ≡ y) → printed_for a x ≡ printed_for a y
-printed_same Taken x y h = h refl
-printed_same (Refused r at) x y h = refl
+pub printed_same : (a : Answered) (x y : List ℕ) → (a ≡ Table.taken → x ≡ y) → printed_for a x ≡ printed_for a y
+printed_same (Ok done) x y h = h refl
+printed_same (Err r) x y h = refl
 
 -- the lines of the second table after a taken afresh call
-exclusive-lines : (m : Method) (t : LentTables) (q : Plan) → length q.heads ≡ 10 → afresh_answer (over t q) ≡ Taken
+exclusive-lines : (m : Method) (t : LentTables) (q : Plan) → length q.heads ≡ 10 → afresh_answer (over t q) ≡ Table.taken
     → table_lines q.n (afresh_left m (over t q)).tables.exclusives.bytes (afresh_left m (over t q)).tables.exclusives.numbers ≡ exclusive_lines m q
 unfolding exclusive_lines
 exclusive-lines m t q ten e =
@@ -149,21 +147,21 @@ exclusive-lines m t q ten e =
     (λ S h. (ap (λ r. eqb r.byte 1) (row S h), ap (λ r. r.number) (row S h)))
 
 -- both answers are taken
-both_taken : (a b : Answer) → first_of a b ≡ Taken → (a ≡ Taken) × (b ≡ Taken)
-both_taken Taken b e = (refl, e)
-both_taken (Refused r at) b e = let z : ◌≡◌ {A = ℕ} 0 1 = cc in absurd (omega arith)
+both_taken : (a b : Answered) → first_of a b ≡ Table.taken → (a ≡ Table.taken) × (b ≡ Table.taken)
+both_taken (Ok done) b e = (refl, e)
+both_taken (Err r) b e = let z : ◌≡◌ {A = ℕ} 0 1 = cc in absurd (omega arith)
 
 -- the lines of the second table
 abbrev pub lines_in : PlanSlices → List ℕ
 lines_in d = table_lines d.plan.n d.tables.exclusives.bytes d.tables.exclusives.numbers
 
-pub file_lines : (m : Method) (t : LentTables) (s : List ℕ) → file_answer t (read_file s) ≡ Taken
+pub file_lines : (m : Method) (t : LentTables) (s : List ℕ) → file_answer t (read_file s) ≡ Table.taken
     → lines_in (file_left m t (read_file s)) ≡ plan_lines m t (read_file s)
 unfolding file_left tables_answer plan_lines end_of
 file_lines m t s taken = by (read_file s) refl taken
   where
-    by : (g : File) → read_file s ≡ g → first_of (end_of g) (tables_answer t g) ≡ Taken → lines_in (file_left m t g) ≡ plan_lines m t g
-    by (ends a) e q = absurd (not_empty s a e (both_taken a Taken q).0)
+    by : (g : File) → read_file s ≡ g → first_of (end_of g) (tables_answer t g) ≡ Table.taken → lines_in (file_left m t g) ≡ plan_lines m t g
+    by (ends a) e q = absurd (not_empty s a e (both_taken a Table.taken q).0)
     by (gives_plan p f) e q =
         let q' = (both_taken (end_of f) (afresh_answer (over t (last_plan t p f))) q).1 in
         ap lines_in (afresh_leaves m (over t (last_plan t p f)) q') ∙ exclusive-lines m t (last_plan t p f) (ten m t s p f e) q'
@@ -171,9 +169,9 @@ file_lines m t s taken = by (read_file s) refl taken
 
 -- ---- tables that are too short
 
-seven_printed : (a : Answer) (lines : List ℕ) → answer_number a ≡ 7 → answer_offset a ≡ 0 → printed_for a lines ≡ refusal_line 7 0
-seven_printed Taken lines n o = absurd (omega arith)
-seven_printed (Refused r at) lines n o = ap₂ refusal_line n o
+seven_printed : (a : Answered) (lines : List ℕ) → answer_number a ≡ 7 → answer_offset a ≡ 0 → printed_for a lines ≡ refusal_line 7 0
+seven_printed (Ok done) lines n o = absurd (omega arith)
+seven_printed (Err r) lines n o = ap₂ refusal_line n o
 
 pub short_tables : (m : Method) → ShortTables m
 unfolding file_left tables_answer plan_lines end_of within

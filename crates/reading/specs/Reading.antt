@@ -1,18 +1,21 @@
 -- A plan file fed in pieces to the reader and the tables: a step on one byte, its fold over the bytes, and that the state after a file's bytes is
 -- what the whole file says, however it is cut.
-use Rattle.std.specs.Prelude.{ℕ, ◌≡◌}
+use Rattle.std.specs.Prelude.{ℕ, ◌≡◌, Option, None, Some}
 use mathlib.Core.List.{List, [], ◌∷◌, ◌++◌, foldl}
-use Rattle.plan.specs.declared.Answer.{Answer}
 use Rattle.plan.specs.declared.Plan.{Plan}
 use Rattle.plan.specs.Checks.{first_of}
-use Rattle.file.specs.declared.reader.Handed.{Handed}
-use Rattle.file.specs.declared.reader.Handed.TheVariants.{Nothing, ThePlan, AnEdit}
+use Rattle.plan.specs.Table.{Answered}
+use Rattle.file.specs.declared.reader.Completed.{Completed}
+use Rattle.file.specs.declared.reader.Completed.TheVariants.{ThePlan, AnEdit}
 use Rattle.file.specs.declared.reader.Reader.{Reader}
 use Rattle.file.specs.File.{read_file}
 use Rattle.file.specs.Reader.{start, step, finish, feed}
 use Rattle.regions.specs.Slices.{LentTables, PlanSlices, afresh_answer, afresh_slices, edit_slices}
 use Rattle.regions.specs.Table.{Method}
 use Rattle.printing.specs.Rows.{table_lines}
+use Rattle.table.specs.declared.tables.Tables.{Tables}
+use Rattle.table.specs.Tables.{plan_tables}
+use Rattle.reading.specs.declared.feeding.Reading.{Reading}
 use Rattle.reading.specs.Whole.{over, no_plan, file_left, file_answer, printed_for, file_printed}
 
 -- ---- the step on one byte, and its fold
@@ -25,16 +28,20 @@ pub record State : Type 0 where
 abbrev pub state_of : Reader → PlanSlices → State
 state_of r d = record { reader = r; left = d }
 
+-- that of the code, with the tables lent to it
+abbrev pub state_in : Reading → Tables → State
+state_in r t = state_of r.reader (plan_tables r.plan t)
+
 -- before the first byte
 abbrev pub begun : LentTables → State
 begun t = state_of start (over t no_plan)
 
 module _ (m : Method) where
   -- what a byte completes, taken to the tables: a plan is worked out afresh, an edit is tried
-  unfoldable pub handed_to : Handed → Plan → PlanSlices → PlanSlices
-  handed_to Nothing p d = d
-  handed_to ThePlan p d = (afresh_slices m (over d.tables p)).left
-  handed_to (AnEdit e) p d = (edit_slices m d e).left
+  unfoldable pub handed_to : Option Completed → Plan → PlanSlices → PlanSlices
+  handed_to None p d = d
+  handed_to (Some ThePlan) p d = (afresh_slices m (over d.tables p)).left
+  handed_to (Some (AnEdit e)) p d = (edit_slices m d e).left
 
   -- one byte
   abbrev pub read_byte : State → ℕ → State
@@ -46,7 +53,7 @@ module _ (m : Method) where
   read_bytes s (b ∷ bytes) = read_bytes (read_byte s b) bytes
 
 -- the answer where the file ends here: the reader's, and then that of the tables
-abbrev pub answer_at : State → Answer
+abbrev pub answer_at : State → Answered
 answer_at s = first_of (finish s.reader) (afresh_answer s.left)
 
 -- what is printed where the file ends here

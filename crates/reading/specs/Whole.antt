@@ -1,12 +1,10 @@
 -- A plan file read over lent tables, said of the whole file: the plan and the tables that it leaves, its answer, and what the program prints. Nothing here
 -- speaks of reading byte by byte; `Reading.antt` does, and says that both agree.
-use Rattle.std.specs.Prelude.{ℕ, ◌<◌, ◌≤◌, ◌^◌, ◌≡◌, List, [], eqb}
-use Rattle.plan.specs.declared.Answer.{Answer}
-use Rattle.plan.specs.declared.Answer.TheVariants.{Taken, Refused}
+use Rattle.std.specs.Prelude.{ℕ, ◌<◌, ◌^◌, ◌≡◌, List, [], eqb, Ok, Err}
 use Rattle.plan.specs.declared.Plan.{Plan}
 use Rattle.plan.specs.Book.{book}
 use Rattle.plan.specs.Checks.{first_of}
-use Rattle.plan.specs.Table.{number_of}
+use Rattle.plan.specs.Table.{Answered, taken, number_of}
 use Rattle.file.specs.Applied.{entries}
 use Rattle.file.specs.File.{File, ends, gives_plan, gives_edit, read_file, no_heads, missing_ground}
 use Rattle.file.specs.Same.{end_of}
@@ -40,13 +38,13 @@ file_left m t (gives_edit e f) = over t no_plan
 -- ---- its answer
 
 -- the tables' own check, "after all values": 7 at offset 0 where they have fewer than 2^n rows
-unfoldable pub tables_answer : LentTables → File → Answer
-tables_answer t (ends a) = Taken
+unfoldable pub tables_answer : LentTables → File → Answered
+tables_answer t (ends a) = taken
 tables_answer t (gives_plan p f) = afresh_answer (over t (last_plan t p f))
-tables_answer t (gives_edit e f) = Taken
+tables_answer t (gives_edit e f) = taken
 
 -- "The first failed check in reading order gives the number": the file's own, then the tables'
-abbrev pub file_answer : LentTables → File → Answer
+abbrev pub file_answer : LentTables → File → Answered
 unfolding end_of
 file_answer t f = first_of (end_of f) (tables_answer t f)
 
@@ -66,9 +64,9 @@ plan_lines m t (gives_plan p f) = exclusive_lines m (last_plan t p f)
 plan_lines m t (gives_edit e f) = []
 
 -- "A refusal prints `refused N at P` .. and nothing more."
-abbrev pub printed_for : Answer → List ℕ → List ℕ
-printed_for Taken lines = lines
-printed_for (Refused r at) lines = refusal_line (number_of r) at
+abbrev pub printed_for : Answered → List ℕ → List ℕ
+printed_for (Ok done) lines = lines
+printed_for (Err r) lines = refusal_line (number_of r.refusal) r.at
 
 -- "It prints for each present row .. its exclusive area .. after the last edit"; "One refused edit refuses the whole file for the program"
 abbrev pub file_printed : Method → LentTables → File → List ℕ
@@ -78,5 +76,5 @@ file_printed m t f = printed_for (file_answer t f) (plan_lines m t f)
 -- proofs/Whole.antt.
 abbrev pub ShortTables : Method → Type 0
 ShortTables m =
-    (t : LentTables) (s : List ℕ) (p : Plan) (f : File) → read_file s ≡ gives_plan p f → end_of f ≡ Taken → (lent_of t).rows < 2 ^ p.n
+    (t : LentTables) (s : List ℕ) (p : Plan) (f : File) → read_file s ≡ gives_plan p f → end_of f ≡ taken → (lent_of t).rows < 2 ^ p.n
     → (file_printed m t (read_file s) ≡ refusal_line 7 0) × ((file_left m t (read_file s)).tables ≡ t)

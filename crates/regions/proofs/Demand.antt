@@ -8,10 +8,10 @@ use native.Mathlib.Omega.{arith}
 use lib.Pow.{pow_pos}
 use lib.ListN.{length, length-set}
 use borrow.Author.Tests.{eq-eqb, ne_eqb}
+use Rattle.std.specs.Prelude.{Ok, Err}
 use Rattle.heads.specs.Pair.{meets_of}
 use Rattle.masks.specs.Mask.{in_set}
-use Rattle.plan.specs.declared.Answer.{Answer}
-use Rattle.plan.specs.declared.Answer.TheVariants.{Taken, Refused}
+use Rattle.plan.specs.Table.{Answered, taken}
 use Rattle.plan.specs.declared.Edit.{Edit}
 use Rattle.plan.specs.declared.Gradients.TheVariants.{None}
 use Rattle.plan.specs.declared.Plan.{Plan}
@@ -41,17 +41,17 @@ left_afresh m s S h = overlaid_below (2 ^ s.plan.n) (afresh m s.plan) s.rows S h
 
 pub afresh_works : (m : Method) → AfreshWorks m
 unfolding afresh_step
-afresh_works m s lent = record { taken = taken; refused = go (call_answer s.plan None lent) }
+afresh_works m s lent = record { taken = works; refused = go (call_answer s.plan None lent) }
   where
     left : PlanTable
     left = settled m (2 ^ s.plan.n) s.plan (afresh m s.plan) s
 
-    taken : call_answer s.plan None lent ≡ Taken
+    works : call_answer s.plan None lent ≡ taken
         → ((leaves (call_answer s.plan None lent) s left).plan ≡ s.plan)
         × AfreshRows m s.plan (leaves (call_answer s.plan None lent) s left).rows
         × ExclusivesOf m s.plan.n (afresh m s.plan) (leaves (call_answer s.plan None lent) s left).exclusives
         × BeyondStays (2 ^ s.plan.n) s (leaves (call_answer s.plan None lent) s left)
-    taken q =
+    works q =
         rw q (
           refl,
           left_afresh m s,
@@ -60,9 +60,9 @@ afresh_works m s lent = record { taken = taken; refused = go (call_answer s.plan
           settled_beyond m (2 ^ s.plan.n) s.plan (afresh m s.plan) s,
         )
 
-    go : (a : Answer) → (a ≡ Taken → ⊥) → leaves a s left ≡ s
-    go Taken n = absurd (n refl)
-    go (Refused r at) n = refl
+    go : (a : Answered) → (a ≡ taken → ⊥) → leaves a s left ≡ s
+    go (Ok done) n = absurd (n refl)
+    go (Err r) n = refl
 
 -- ---- a taken edit of afresh rows
 
@@ -91,7 +91,7 @@ edit_afresh m s e ten ok oke fresh S h_s = left_below m s e S h_s ∙ edited_afr
 
 -- a step's answer and what it leaves, by the answer
 module _ (m : Method) where
-  step_left : (s : PlanTable) (e : Entry) (a : Answer) → (table_step m s e).answer ≡ a → (table_step m s e).left ≡ leaves a s (left m s e.edit)
+  step_left : (s : PlanTable) (e : Entry) (a : Answered) → (table_step m s e).answer ≡ a → (table_step m s e).left ≡ leaves a s (left m s e.edit)
   unfolding table_step
   step_left s e a q = ap (λ b. leaves b s (left m s e.edit)) q
 
@@ -99,9 +99,9 @@ module _ (m : Method) where
 pub refused_leaves_all : (m : Method) → RefusedLeavesAll m
 refused_leaves_all m s e n = go (table_step m s e).answer refl
   where
-    go : (a : Answer) → (table_step m s e).answer ≡ a → (table_step m s e).left ≡ s
-    go Taken q = absurd (n q)
-    go (Refused r at) q = step_left m s e (Refused r at) q
+    go : (a : Answered) → (table_step m s e).answer ≡ a → (table_step m s e).left ≡ s
+    go (Ok done) q = absurd (n q)
+    go (Err r) q = step_left m s e (Err r) q
 
 -- ---- the list
 
@@ -116,9 +116,9 @@ record KeepsTo (m : Method) (start s : PlanTable) (p : Plan) : Type 0 where
 
 module _ (m : Method) (start : PlanTable) where
   -- one edit of a table that keeps to its own plan
-  left_keeps : (s : PlanTable) (e : Entry) → KeepsTo m start s s.plan → (a : Answer) → edit_answer s.plan e.edit e.lent ≡ a
+  left_keeps : (s : PlanTable) (e : Entry) → KeepsTo m start s s.plan → (a : Answered) → edit_answer s.plan e.edit e.lent ≡ a
       → KeepsTo m start (leaves a s (left m s e.edit)) (leaves a s.plan (applied s.plan e.edit))
-  left_keeps s e k Taken q =
+  left_keeps s e k (Ok done) q =
       let parts = (edit_taken s.plan e.edit e.lent k.ten).0 q in
       record {
         plan = refl;
@@ -131,7 +131,7 @@ module _ (m : Method) (start : PlanTable) where
             let so_far = k.beyond S h in
             (now.0 ∙ so_far.0, now.1 ∙ so_far.1);
       }
-  left_keeps s e k (Refused r at) q = k
+  left_keeps s e k (Err r) q = k
 
   -- one edit: the table answers as the book and keeps to it
   step_keeps : (s : PlanTable) (p : Plan) (e : Entry) → KeepsTo m start s p
@@ -147,15 +147,15 @@ module _ (m : Method) (start : PlanTable) where
   abbrev Settled : PlanTable → Type 0
   Settled s = ExclusivesOf m s.plan.n s.rows s.exclusives
 
-  taken_settled : (s : PlanTable) (e : Entry) → (table_step m s e).answer ≡ Taken → Settled (table_step m s e).left
-  taken_settled s e q = subst Settled (sym (step_left m s e Taken q)) (left_exclusives m s e.edit)
+  taken_settled : (s : PlanTable) (e : Entry) → (table_step m s e).answer ≡ taken → Settled (table_step m s e).left
+  taken_settled s e q = subst Settled (sym (step_left m s e taken q)) (left_exclusives m s e.edit)
 
   stays_settled : (s : PlanTable) (e : Entry) → Settled s → Settled (table_step m s e).left
   stays_settled s e k = go (table_step m s e).answer refl
     where
-      go : (a : Answer) → (table_step m s e).answer ≡ a → Settled (table_step m s e).left
-      go Taken q = taken_settled s e q
-      go (Refused r at) q = subst Settled (sym (step_left m s e (Refused r at) q)) k
+      go : (a : Answered) → (table_step m s e).answer ≡ a → Settled (table_step m s e).left
+      go (Ok done) q = taken_settled s e q
+      go (Err r) q = subst Settled (sym (step_left m s e (Err r) q)) k
 
 -- demand 3, first half
 pub list_ends_afresh : (m : Method) → ListEndsAfresh m
@@ -286,7 +286,7 @@ pub edit_reworks_exactly : (m : Method) → EditReworksExactly m
 edit_reworks_exactly m s e q =
     subst (λ t. (t.plan ≡ applied s.plan e.edit) × Reworks m s.plan e.edit s.rows t.rows
     × ExclusivesOf m s.plan.n t.rows t.exclusives × BeyondStays (2 ^ s.plan.n) s t)
-    (sym (step_left m s e Taken q))
+    (sym (step_left m s e taken q))
     (refl, edited_reworks m s e.edit, left_exclusives m s e.edit, left_beyond m s e.edit)
 
 pub demand_three : (m : Method) → DemandThree m

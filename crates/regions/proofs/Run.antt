@@ -6,17 +6,16 @@ use native.Mathlib.Nat.{le_refl}
 use native.Mathlib.Numerals.{add-one}
 use lib.ListN.{length, get_or, set, drop, length-map, length-set}
 use lib.Seq.{drop-cons, set_at}
+use Rattle.std.specs.Prelude.{Ok, Err}
 use Rattle.lists.specs.Run as Run
 use Rattle.lists.specs.Run.{Step}
 use Rattle.lists.specs.Written.{tab}
 use Rattle.lists.proofs.Writing.{length_tab, length_written, drop_written}
-use Rattle.plan.specs.declared.Answer.{Answer}
-use Rattle.plan.specs.declared.Answer.TheVariants.{Taken, Refused}
 use Rattle.plan.specs.declared.Edit.{Edit}
 use Rattle.plan.specs.declared.Gradients.TheVariants.{None}
 use Rattle.plan.specs.Book.{AnyTaken, head_of, leaves}
 use Rattle.plan.specs.Checks.{plan_answer, call_answer}
-use Rattle.plan.specs.Table.{answer_number}
+use Rattle.plan.specs.Table.{Answered, taken, answer_number}
 use Rattle.plan.proofs.Exactly.{plan_taken, call_taken}
 use Rattle.regions.specs.Edit.{Row}
 use Rattle.regions.specs.Demand.{AfreshRows, ExclusivesOf, Fresh, Ends, Reworks}
@@ -55,7 +54,7 @@ module _ (m : Method) (start : PlanSlices) (f : ℕ → Edit) (i : ℕ) where
   tab_next = rw (add-one i)
 
   -- what one more edit leaves
-  pub slices_next : (d left : PlanSlices) (e : Edit) (a : Answer) → d ≡ slices_after m start (tab f i) → e ≡ f i → step_of left a ≡ edit_slices m d e
+  pub slices_next : (d left : PlanSlices) (e : Edit) (a : Answered) → d ≡ slices_after m start (tab f i) → e ≡ f i → step_of left a ≡ edit_slices m d e
       → left ≡ slices_after m start (tab f (i + 1))
   slices_next d left e a h k s =
       ap (λ t. t.left) s ∙ ap₂ (λ x y. (edit_slices m x y).left) h k ∙ sym (ap (slices_after m start) tab_next ∙ after_more (edit_slices m) start (tab f i) (f i))
@@ -64,7 +63,7 @@ module _ (m : Method) (start : PlanSlices) (f : ℕ → Edit) (i : ℕ) where
   numbers_so_far = map answer_number (answers_after m start (tab f i))
 
   -- its answer's number
-  number_next : (d left : PlanSlices) (e : Edit) (a : Answer) → d ≡ slices_after m start (tab f i) → e ≡ f i → step_of left a ≡ edit_slices m d e
+  number_next : (d left : PlanSlices) (e : Edit) (a : Answered) → d ≡ slices_after m start (tab f i) → e ≡ f i → step_of left a ≡ edit_slices m d e
       → map answer_number (answers_after m start (tab f (i + 1))) ≡ numbers_so_far ++ (answer_number a ∷ [])
   unfolding numbers_so_far
   number_next d left e a h k s =
@@ -78,7 +77,7 @@ module _ (m : Method) (start : PlanSlices) (f : ℕ → Edit) (i : ℕ) where
   many = length-map (answers_after m start (tab f i)) answer_number ∙ answers_length (edit_slices m) start (tab f i) ∙ length_tab f i
 
   -- the numbers written, one more
-  pub answers_next : (d left : PlanSlices) (e : Edit) (a : Answer) → d ≡ slices_after m start (tab f i) → e ≡ f i → step_of left a ≡ edit_slices m d e
+  pub answers_next : (d left : PlanSlices) (e : Edit) (a : Answered) → d ≡ slices_after m start (tab f i) → e ≡ f i → step_of left a ≡ edit_slices m d e
       → (out so_far : List ℕ) (v : ℕ) → so_far ≡ answers_written m start (tab f i) out → i < length out → v ≡ answer_number a
       → set so_far i v ≡ answers_written m start (tab f (i + 1)) out
   unfolding numbers_so_far
@@ -119,7 +118,7 @@ module _ (m : Method) (start : PlanSlices) where
     count : d.plan.n ≡ start.plan.n
     stay : BytesStay (2 ^ start.plan.n) start.tables d.tables
 
-  edited_kept : (d : PlanSlices) (e : Edit) → Kept d → slice_answer d e ≡ Taken → Kept (edited_left m d e)
+  edited_kept : (d : PlanSlices) (e : Edit) → Kept d → slice_answer d e ≡ taken → Kept (edited_left m d e)
   edited_kept d e k q =
       subst Kept (sym (edited-left m d e))
       (record {
@@ -131,9 +130,9 @@ module _ (m : Method) (start : PlanSlices) where
             (settled_stays m d.plan.n (edited m d.plan e (row_at d.tables.rows)) d.tables (edit_room d e k.ten q).0));
       })
 
-  left_kept : (d : PlanSlices) (e : Edit) → Kept d → (a : Answer) → slice_answer d e ≡ a → Kept (leaves a d (edited_left m d e))
-  left_kept d e k Taken q = edited_kept d e k q
-  left_kept d e k (Refused r at) q = k
+  left_kept : (d : PlanSlices) (e : Edit) → Kept d → (a : Answered) → slice_answer d e ≡ a → Kept (leaves a d (edited_left m d e))
+  left_kept d e k (Ok done) q = edited_kept d e k q
+  left_kept d e k (Err r) q = k
 
   step_kept : (d : PlanSlices) (e : Edit) → Kept d → Kept (edit_slices m d e).left
   unfolding edit_slices
@@ -172,13 +171,13 @@ module _ (m : Method) (start : PlanSlices) where
       ap₂ ◌∷◌ (step_answer d e k)
       (answers_table es (edit_slices m d e).left (step_kept d e k) ∙ ap (λ s. Run.answers (table_step m) s (entries_of start es)) (step_table d e k))
 
-refused_slices : (m : Method) (d : PlanSlices) (e : Edit) → ((edit_slices m d e).answer ≡ Taken → ⊥) → (edit_slices m d e).left ≡ d
+refused_slices : (m : Method) (d : PlanSlices) (e : Edit) → ((edit_slices m d e).answer ≡ taken → ⊥) → (edit_slices m d e).left ≡ d
 unfolding edit_slices
 refused_slices m d e n = go (slice_answer d e) n
   where
-    go : (a : Answer) → (a ≡ Taken → ⊥) → leaves a d (edited_left m d e) ≡ d
-    go Taken n = absurd (n refl)
-    go (Refused r at) n = refl
+    go : (a : Answered) → (a ≡ taken → ⊥) → leaves a d (edited_left m d e) ≡ d
+    go (Ok done) n = absurd (n refl)
+    go (Err r) n = refl
 
 -- ---- demand 3, of the slices
 

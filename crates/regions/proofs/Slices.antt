@@ -10,12 +10,12 @@ use lib.Ieee.{Float, nan}
 use lib.ListN.{length}
 use lib.Seq.{ext_get_or}
 use borrow.Author.Tests.{ltb-true, ltb-false}
+use Rattle.std.specs.Prelude.{Ok, Err}
 use Rattle.lists.proofs.Writing.{length_written, written_before, written_past}
-use Rattle.plan.specs.declared.Answer.{Answer}
-use Rattle.plan.specs.declared.Answer.TheVariants.{Taken, Refused}
+use Rattle.plan.specs.Table.{Answered, taken}
 use Rattle.plan.specs.declared.Edit.{Edit}
 use Rattle.plan.specs.declared.Plan.{Plan}
-use Rattle.plan.specs.declared.Refusal.{Refusal}
+use Rattle.plan.specs.declared.Refused.{Refused}
 use Rattle.plan.specs.Book.{applied, leaves}
 use Rattle.plan.proofs.Exactly.{call_taken, edit_taken}
 use Rattle.regions.specs.Edit.{Row}
@@ -66,9 +66,9 @@ module _ (m : Method) where
       (rows_written (m.exclusives.of p.n (row_at (with_rows rows count d.tables.rows))) count t
       ∙ ap (λ r. overlaid count (m.exclusives.of p.n r) (row_at t)) written)
 
-  left_table : (d left : PlanSlices) (end : PlanTable) → plan_table left ≡ end → (a : Answer) → plan_table (leaves a d left) ≡ leaves a (plan_table d) end
-  left_table d left end e Taken = e
-  left_table d left end e (Refused r at) = refl
+  left_table : (d left : PlanSlices) (end : PlanTable) → plan_table left ≡ end → (a : Answered) → plan_table (leaves a d left) ≡ leaves a (plan_table d) end
+  left_table d left end e (Ok done) = e
+  left_table d left end e (Err r) = refl
 
   pub slices_are_tables : SlicesAreTables m
   unfolding afresh_slices edit_slices afresh_step table_step
@@ -94,12 +94,12 @@ pub record Room (n : ℕ) (t : LentTables) : Type 0 where
 room : (n : ℕ) (t : LentTables) → n ≤ 10 → 2 ^ n ≤ (lent_of t).rows → Room n t
 room n t h g = record { count = h; bytes = omega arith; numbers = omega arith; others = omega arith; areas = omega arith }
 
-pub afresh_room : (d : PlanSlices) → length d.plan.heads ≡ 10 → afresh_answer d ≡ Taken → Room d.plan.n d.tables
+pub afresh_room : (d : PlanSlices) → length d.plan.heads ≡ 10 → afresh_answer d ≡ taken → Room d.plan.n d.tables
 afresh_room d ten a =
     let ok = (call_taken d.plan _ (lent_of d.tables) ten).0 a in
     room d.plan.n d.tables ok.0.count ok.1.0
 
-pub edit_room : (d : PlanSlices) (e : Edit) → length d.plan.heads ≡ 10 → slice_answer d e ≡ Taken → Room d.plan.n d.tables × (e.head < d.plan.n)
+pub edit_room : (d : PlanSlices) (e : Edit) → length d.plan.heads ≡ 10 → slice_answer d e ≡ taken → Room d.plan.n d.tables × (e.head < d.plan.n)
 edit_room d e ten a =
     let ok = (edit_taken d.plan e (lent_of d.tables) ten).0 a in
     (room d.plan.n d.tables ok.0.count ok.2, ok.1.head)
@@ -136,14 +136,14 @@ settled_of m n F t a b c d =
     (d ∙ ap₂ (λ x y. written_numbers (m.exclusives.of n (row_at (slices_of x y))) (2 ^ n) t.exclusives.numbers) a b)
 
 module _ (m : Method) (d : PlanSlices) where
-  pub afresh_taken : (t : LentTables) → afresh_answer d ≡ Taken → t ≡ settled_tables m (2 ^ d.plan.n) d.plan.n (afresh m d.plan) d.tables
-      → step_of (record { plan = d.plan; tables = t }) Taken ≡ afresh_slices m d
+  pub afresh_taken : (t : LentTables) → afresh_answer d ≡ taken → t ≡ settled_tables m (2 ^ d.plan.n) d.plan.n (afresh m d.plan) d.tables
+      → step_of (record { plan = d.plan; tables = t }) taken ≡ afresh_slices m d
   unfolding afresh_slices
   afresh_taken t q e = rw (q, e)
 
-  pub afresh_refused : (r : Refusal) (at : ℕ) → afresh_answer d ≡ Refused r at → step_of d (Refused r at) ≡ afresh_slices m d
+  pub afresh_refused : (r : Refused) → afresh_answer d ≡ Err r → step_of d (Err r) ≡ afresh_slices m d
   unfolding afresh_slices
-  afresh_refused r at q = rw q
+  afresh_refused r q = rw q
 
   -- a taken edit, with its 2^n rows
   pub edited-left : (e : Edit)
@@ -159,12 +159,12 @@ module _ (m : Method) (d : PlanSlices) where
       })
       (rows-over d.plan e)
 
-  pub edit_step_taken : (e : Edit) (p : Plan) (t : LentTables) → slice_answer d e ≡ Taken → p ≡ applied d.plan e
+  pub edit_step_taken : (e : Edit) (p : Plan) (t : LentTables) → slice_answer d e ≡ taken → p ≡ applied d.plan e
       → t ≡ settled_tables m (2 ^ d.plan.n) d.plan.n (edited m d.plan e (row_at d.tables.rows)) d.tables
-      → step_of (record { plan = p; tables = t }) Taken ≡ edit_slices m d e
+      → step_of (record { plan = p; tables = t }) taken ≡ edit_slices m d e
   unfolding edit_slices
-  edit_step_taken e p t q f g = rw q (ap (λ left. step_of left Taken) (slices-of f g ∙ sym (edited-left e)))
+  edit_step_taken e p t q f g = rw q (ap (λ left. step_of left taken) (slices-of f g ∙ sym (edited-left e)))
 
-  pub edit_step_refused : (e : Edit) (r : Refusal) (at : ℕ) → slice_answer d e ≡ Refused r at → step_of d (Refused r at) ≡ edit_slices m d e
+  pub edit_step_refused : (e : Edit) (r : Refused) → slice_answer d e ≡ Err r → step_of d (Err r) ≡ edit_slices m d e
   unfolding edit_slices
-  edit_step_refused e r at q = rw q
+  edit_step_refused e r q = rw q

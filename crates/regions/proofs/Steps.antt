@@ -5,12 +5,12 @@ use mathlib.Core.List.{List, [], ◌∷◌}
 use native.Mathlib.Nat.{le_refl, lt_of_lt_of_le, max-eq_left}
 use native.Mathlib.Omega.{arith}
 use borrow.Author.Tests.{lt-ltb, le-ltb}
+use Rattle.std.specs.Prelude.{Ok, Err}
 use Rattle.lists.specs.Run.{Step, after, answers}
-use Rattle.plan.specs.declared.Answer.{Answer}
-use Rattle.plan.specs.declared.Answer.TheVariants.{Taken, Refused}
+use Rattle.plan.specs.Table.{Answered, taken}
 use Rattle.plan.specs.declared.Edit.{Edit}
 use Rattle.plan.specs.declared.Plan.{Plan}
-use Rattle.plan.specs.declared.Refusal.{Refusal}
+use Rattle.plan.specs.declared.Refused.{Refused}
 use Rattle.plan.specs.Book.{AnyTaken}
 use Rattle.regions.specs.Edit.{Row}
 use Rattle.regions.specs.Table.{Method, PlanTable, overlaid, settled, rows_over}
@@ -42,11 +42,11 @@ module _ (m : Method) (count : ℕ) (p : Plan) (rows : ℕ → Row) (s : PlanTab
 
 -- ---- a list in which some step is taken, or none
 
-refused_not_taken : (r : Refusal) (at : ℕ) → Refused r at ≡ Taken → ⊥
-refused_not_taken r at q = let z : ◌≡◌ {A = ℕ} 0 1 = cc q in omega arith
+refused_not_taken : (r : Refused) → Err r ≡ taken → ⊥
+refused_not_taken r q = let z : ◌≡◌ {A = ℕ} 0 1 = cc q in omega arith
 
-module _ {State Entry : Type 0} (step : State → Entry → Step State Answer) where
-  module _ (Q : State → Type 0) (set : (s : State) (e : Entry) → (step s e).answer ≡ Taken → Q (step s e).left)
+module _ {State Entry : Type 0} (step : State → Entry → Step State Answered) where
+  module _ (Q : State → Type 0) (set : (s : State) (e : Entry) → (step s e).answer ≡ taken → Q (step s e).left)
       (keep : (s : State) (e : Entry) → Q s → Q (step s e).left) where
     -- what every step keeps holds after a list
     pub after_keeps : (es : List Entry) (s : State) → Q s → Q (after step s es)
@@ -54,10 +54,10 @@ module _ {State Entry : Type 0} (step : State → Entry → Step State Answer) w
     after_keeps [] s k = k
     after_keeps (e ∷ es) s k = after_keeps es (step s e).left (keep s e k)
 
-    any_first : (s : State) (e : Entry) (es : List Entry) (rest : List Answer) → (AnyTaken rest → Q (after step (step s e).left es))
-        → (a : Answer) → (step s e).answer ≡ a → AnyTaken (a ∷ rest) → Q (after step (step s e).left es)
-    any_first s e es rest next Taken q t = after_keeps es (step s e).left (set s e q)
-    any_first s e es rest next (Refused r at) q t = next t
+    any_first : (s : State) (e : Entry) (es : List Entry) (rest : List Answered) → (AnyTaken rest → Q (after step (step s e).left es))
+        → (a : Answered) → (step s e).answer ≡ a → AnyTaken (a ∷ rest) → Q (after step (step s e).left es)
+    any_first s e es rest next (Ok done) q t = after_keeps es (step s e).left (set s e q)
+    any_first s e es rest next (Err r) q t = next t
 
     -- what a taken step brings about and every step keeps holds after a list in which one was taken
     pub any_taken : (es : List Entry) (s : State) → AnyTaken (answers step s es) → Q (after step s es)
@@ -65,12 +65,12 @@ module _ {State Entry : Type 0} (step : State → Entry → Step State Answer) w
     any_taken [] s t = absurd t
     any_taken (e ∷ es) s t = any_first s e es (answers step (step s e).left es) (any_taken es (step s e).left) (step s e).answer refl t
 
-  module _ (same : (s : State) (e : Entry) → ((step s e).answer ≡ Taken → ⊥) → (step s e).left ≡ s) where
-    none_first : (s : State) (e : Entry) (es : List Entry) (rest : List Answer)
+  module _ (same : (s : State) (e : Entry) → ((step s e).answer ≡ taken → ⊥) → (step s e).left ≡ s) where
+    none_first : (s : State) (e : Entry) (es : List Entry) (rest : List Answered)
         → ((AnyTaken rest → ⊥) → after step (step s e).left es ≡ (step s e).left)
-        → (a : Answer) → (step s e).answer ≡ a → (AnyTaken (a ∷ rest) → ⊥) → after step (step s e).left es ≡ s
-    none_first s e es rest next Taken q t = absurd (t tt)
-    none_first s e es rest next (Refused r at) q t = next t ∙ same s e (λ k. refused_not_taken r at (sym q ∙ k))
+        → (a : Answered) → (step s e).answer ≡ a → (AnyTaken (a ∷ rest) → ⊥) → after step (step s e).left es ≡ s
+    none_first s e es rest next (Ok done) q t = absurd (t tt)
+    none_first s e es rest next (Err r) q t = next t ∙ same s e (λ k. refused_not_taken r (sym q ∙ k))
 
     -- a list in which no step is taken leaves all
     pub none_taken : (es : List Entry) (s : State) → (AnyTaken (answers step s es) → ⊥) → after step s es ≡ s

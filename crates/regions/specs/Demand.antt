@@ -3,8 +3,8 @@
 use Rattle.std.specs.Prelude.{ℕ, ◌≤◌, ◌<◌, ◌^◌, ◌≡◌, true, false, List, ◌⊎◌, length}
 use Rattle.heads.specs.Pair.{meets_of}
 use Rattle.masks.specs.Mask.{in_set}
-use Rattle.plan.specs.declared.Answer.{Answer}
-use Rattle.plan.specs.declared.Answer.TheVariants.{Taken}
+use Rattle.plan.specs.Table as Table
+use Rattle.plan.specs.Table.{Answered}
 use Rattle.plan.specs.declared.Edit.{Edit}
 use Rattle.plan.specs.declared.Lent.{Lent}
 use Rattle.plan.specs.declared.Plan.{Plan}
@@ -30,19 +30,19 @@ BeyondStays count s left = (S : ℕ) → count ≤ S → (left.rows S ≡ s.rows
 -- a plan that the checks take, with its afresh rows
 pub record Fresh (m : Method) (s : PlanTable) : Type 0 where
   pub room : length s.plan.heads ≡ 10
-  pub taken : plan_answer s.plan ≡ Taken
+  pub taken : plan_answer s.plan ≡ Table.taken
   pub fresh : AfreshRows m s.plan s.rows
 
 -- ---- the afresh call
 
 -- Taken, it leaves the plan with its afresh rows and their exclusives, and what stands beyond; refused, all is as it was.
 pub record WorksAfresh (m : Method) (s : PlanTable) (lent : Lent) : Type 0 where
-  pub taken : (afresh_step m s lent).answer ≡ Taken
+  pub taken : (afresh_step m s lent).answer ≡ Table.taken
       → ((afresh_step m s lent).left.plan ≡ s.plan)
       × AfreshRows m s.plan (afresh_step m s lent).left.rows
       × ExclusivesOf m s.plan.n (afresh m s.plan) (afresh_step m s lent).left.exclusives
       × BeyondStays (2 ^ s.plan.n) s (afresh_step m s lent).left
-  pub refused : ((afresh_step m s lent).answer ≡ Taken → ⊥) → (afresh_step m s lent).left ≡ s
+  pub refused : ((afresh_step m s lent).answer ≡ Table.taken → ⊥) → (afresh_step m s lent).left ≡ s
 
 abbrev pub AfreshWorks : Method → Type 0
 AfreshWorks m = (s : PlanTable) (lent : Lent) → WorksAfresh m s lent
@@ -52,7 +52,7 @@ AfreshWorks m = (s : PlanTable) (lent : Lent) → WorksAfresh m s lent
 -- What a list of edits of s leaves: each answer is the one the checks give on the book, the plan left is the book's, the rows are the book's
 -- afresh rows. The exclusives are those of the afresh rows if an edit was taken; if none was, nothing has changed. So where both tables were the
 -- plan's afresh ones, both are the book's. What stands beyond is as it was handed in.
-pub record Ends (m : Method) (s : PlanTable) (es : List Entry) (left : PlanTable) (given : List Answer) : Type 0 where
+pub record Ends (m : Method) (s : PlanTable) (es : List Entry) (left : PlanTable) (given : List Answered) : Type 0 where
   pub answered : given ≡ answers s.plan es
   pub planned : left.plan ≡ book s.plan es
   pub fresh : AfreshRows m (book s.plan es) left.rows
@@ -100,7 +100,7 @@ pub record Reworks (m : Method) (p : Plan) (e : Edit) (rows rows' : ℕ → Row)
 -- number it was handed; the exclusives are worked out from the rows that it leaves. It is about the same step as the first half, at any table.
 abbrev pub EditReworksExactly : Method → Type 0
 EditReworksExactly m =
-    (s : PlanTable) (e : Entry) → (table_step m s e).answer ≡ Taken
+    (s : PlanTable) (e : Entry) → (table_step m s e).answer ≡ Table.taken
     → ((table_step m s e).left.plan ≡ applied s.plan e.edit)
     × Reworks m s.plan e.edit s.rows (table_step m s e).left.rows
     × ExclusivesOf m s.plan.n (table_step m s e).left.rows (table_step m s e).left.exclusives
@@ -108,7 +108,7 @@ EditReworksExactly m =
 
 -- A refused edit leaves plan and tables as they were.
 abbrev pub RefusedLeavesAll : Method → Type 0
-RefusedLeavesAll m = (s : PlanTable) (e : Entry) → ((table_step m s e).answer ≡ Taken → ⊥) → (table_step m s e).left ≡ s
+RefusedLeavesAll m = (s : PlanTable) (e : Entry) → ((table_step m s e).answer ≡ Table.taken → ⊥) → (table_step m s e).left ≡ s
 
 -- Demand 3 whole, of one way to work out a table. Every way has it: `demand_three` of proofs/Demand.antt.
 pub record DemandThree (m : Method) : Type 0 where

@@ -4,14 +4,13 @@ use Rattle.std.specs.Prelude.{ℕ, ◌^◌, ◌≡◌, cond, List, [], ◌∷◌
 use Rattle.std.specs.Float.{nan}
 use Rattle.lists.specs.Run.{Step}
 use Rattle.lists.specs.Written.{written}
-use Rattle.plan.specs.declared.Answer.{Answer}
 use Rattle.plan.specs.declared.Edit.{Edit}
 use Rattle.plan.specs.declared.Gradients.TheVariants.{None}
 use Rattle.plan.specs.declared.Lent.{Lent}
 use Rattle.plan.specs.declared.Plan.{Plan}
 use Rattle.plan.specs.Book.{Entry, applied, leaves}
 use Rattle.plan.specs.Checks.{call_answer, edit_answer}
-use Rattle.plan.specs.Table.{lent_by}
+use Rattle.plan.specs.Table.{Answered, lent_by}
 use Rattle.regions.specs.Edit.{Row}
 use Rattle.regions.specs.Table.{Method, PlanTable, afresh, edited, rows_over, afresh_step, table_step}
 
@@ -80,10 +79,10 @@ settled_tables m count n rows t = record {
 }
 
 -- what a call leaves and answers, from its parts
-abbrev pub step_of : PlanSlices → Answer → Step PlanSlices Answer
+abbrev pub step_of : PlanSlices → Answered → Step PlanSlices Answered
 step_of left answer = record { left = left; answer = answer }
 
-abbrev pub afresh_answer : PlanSlices → Answer
+abbrev pub afresh_answer : PlanSlices → Answered
 afresh_answer d = call_answer d.plan None (lent_of d.tables)
 
 -- a taken afresh call: rows 0 to 2^n - 1 of both tables
@@ -91,10 +90,10 @@ abbrev pub afresh_left : Method → PlanSlices → PlanSlices
 afresh_left m d = record { plan = d.plan; tables = settled_tables m (2 ^ d.plan.n) d.plan.n (afresh m d.plan) d.tables }
 
 -- the afresh call
-unfoldable pub afresh_slices : Method → PlanSlices → Step PlanSlices Answer
+unfoldable pub afresh_slices : Method → PlanSlices → Step PlanSlices Answered
 afresh_slices m d = step_of (leaves (afresh_answer d) d (afresh_left m d)) (afresh_answer d)
 
-abbrev pub slice_answer : PlanSlices → Edit → Answer
+abbrev pub slice_answer : PlanSlices → Edit → Answered
 slice_answer d e = edit_answer d.plan e (lent_of d.tables)
 
 -- a taken edit
@@ -105,7 +104,7 @@ edited_left m d e = record {
 }
 
 -- one edit
-unfoldable pub edit_slices : Method → PlanSlices → Edit → Step PlanSlices Answer
+unfoldable pub edit_slices : Method → PlanSlices → Edit → Step PlanSlices Answered
 edit_slices m d e = step_of (leaves (slice_answer d e) d (edited_left m d e)) (slice_answer d e)
 
 -- ---- slices are tables

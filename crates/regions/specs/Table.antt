@@ -2,7 +2,6 @@
 -- lends its first rows, so lengths enter by the checks alone.
 use Rattle.std.specs.Prelude.{ℕ, ◌^◌, ◌<◌, ◌≡◌, Bool, cond, List, [], ◌∷◌, ltb, Float, get_or}
 use Rattle.heads.specs.declared.Head.{Head}
-use Rattle.plan.specs.declared.Answer.{Answer}
 use Rattle.plan.specs.declared.Edit.{Edit}
 use Rattle.plan.specs.declared.Gradients.TheVariants.{None}
 use Rattle.plan.specs.declared.Ground.{Ground}
@@ -11,7 +10,7 @@ use Rattle.plan.specs.declared.Plan.{Plan}
 use Rattle.plan.specs.Book.{Entry, head_of, applied, leaves}
 use Rattle.plan.specs.Checks.{call_answer, edit_answer}
 use Rattle.plan.specs.Limits.{no_head}
-use Rattle.plan.specs.Table.{heads_over}
+use Rattle.plan.specs.Table.{Answered, heads_over}
 use Rattle.geometry.specs.declared.point.Point.{Point}
 use Rattle.geometry.specs.declared.circle.Circle.{Circle}
 use Rattle.drawn.specs.Drawn.{plan_circles}
@@ -84,7 +83,7 @@ settled m count p rows s = record {
 }
 
 -- The afresh call on a plan, over whatever its tables hold: refused, all is as it was; taken, rows 0 to 2^n - 1 are the plan's and the exclusives theirs.
-unfoldable pub afresh_step : Method → PlanTable → Lent → Step PlanTable Answer
+unfoldable pub afresh_step : Method → PlanTable → Lent → Step PlanTable Answered
 afresh_step m s lent =
     let answer = call_answer s.plan None lent in
     record { left = leaves answer s (settled m (2 ^ s.plan.n) s.plan (afresh m s.plan) s); answer = answer }
@@ -94,7 +93,7 @@ abbrev pub rows_over : Plan → Edit → ℕ
 rows_over p e = 2 ^ heads_over p e
 
 -- One edit of a plan's table. The decision looks at the plan, the edit and the lengths, and the rows follow it.
-unfoldable pub table_step : Method → PlanTable → Entry → Step PlanTable Answer
+unfoldable pub table_step : Method → PlanTable → Entry → Step PlanTable Answered
 table_step m s e =
     let answer = edit_answer s.plan e.edit e.lent in
     record {

@@ -6,7 +6,7 @@
 //   L  of a set (1) that area, summed together with its gradient (2), and the gradient onto zeros, by
 //      head numbers and then the box's four entries (from 3 on)
 // The areas and the gradient we work out from the arcs and straight from the members.
-use crate::numbers::{float, same, same_all};
+use crate::numbers::{float, same_all};
 use boundary::arcs::Arcs;
 use clip::gradient::{area_and_gradient_from_clipped_arcs, clipped_region_area_and_gradient};
 use geometry::bounds::Bounds;
@@ -14,6 +14,7 @@ use geometry::circle::Circle;
 use inside::span::{Span, horizontal_edge_inside_interval, vertical_edge_inside_interval};
 use intersections::members::Members;
 use intersections::points::Intersections;
+use stored::numbers::same;
 
 fn span_of(edge: u64, b: Bounds, set: Members) -> Span {
     match edge {
@@ -27,24 +28,21 @@ fn span_of(edge: u64, b: Bounds, set: Members) -> Span {
 
 pub(crate) fn same_span(words: &[u64; 40], bounds: Bounds, set: Members) -> bool {
     let edge = words[2];
-    let span = span_of(edge, bounds, set);
-    match span {
-        Span::None => edge < 4 && same_all(&[0.0, 0.0, 0.0], words, 3),
-        Span::Ends(lo, hi) => same_all(&[float(1), lo, hi], words, 3),
+    match span_of(edge, bounds, set) {
+        Span::None => edge < 4 && same_all(&[0.0, 0.0, 0.0], &words[3..]),
+        Span::Ends(lo, hi) => same_all(&[float(1), lo, hi], &words[3..]),
     }
 }
 
 // A gradient that is by position in a set, by head numbers of a plan of n: heads that are not in the
 // set have +0, and the others' entries and the box's follow one another.
 fn by_heads(from: [f64; 34], mask: usize, n: usize) -> [f64; 34] {
-    let mut to = [0.0f64; 34];
+    let mut to = [0.0; 34];
     let mut next: usize = 0;
-    for i in 0..34usize {
-        if n <= i / 3 || mask >> (i / 3) & 1 == 1 {
-            if next < 34 {
-                to[i] = from[next];
-                next += 1;
-            }
+    for i in 0..34 {
+        if next < 34 && (n <= i / 3 || mask >> (i / 3) & 1 == 1) {
+            to[i] = from[next];
+            next += 1;
         }
     }
     to
@@ -59,9 +57,9 @@ pub(crate) fn same_from_arcs(
     mask: usize,
     n: usize,
 ) -> bool {
-    let mut grad = [0.0f64; 34];
+    let mut grad = [0.0; 34];
     let area = area_and_gradient_from_clipped_arcs(arcs, circles, bounds, mask, n, &mut grad);
-    same(area, words[2]) && same_all(&grad, words, 3)
+    same(area, words[2]) && same_all(&grad, &words[3..])
 }
 
 // Straight from the members.
@@ -73,7 +71,7 @@ pub(crate) fn same_straight(
     n: usize,
     bounds: Bounds,
 ) -> bool {
-    let mut grad = [0.0f64; 34];
+    let mut grad = [0.0; 34];
     let area = clipped_region_area_and_gradient(mask, circles, points, n, bounds, &mut grad);
-    same(area, words[2]) && same_all(&by_heads(grad, mask, n), words, 3)
+    same(area, words[2]) && same_all(&by_heads(grad, mask, n), &words[3..])
 }

@@ -1,9 +1,6 @@
 // Numbers as the list has them: whole ones, and finite f64s by their bits. Where both stand on a line,
 // a whole number of ours goes as the f64 that has its bits, so that one loop compares all.
-
-pub(crate) fn whole(word: u64) -> usize {
-    word as usize
-}
+use stored::numbers::same;
 
 // The finite f64 with these bits. The list has no other.
 pub(crate) fn float(bits: u64) -> f64 {
@@ -13,24 +10,7 @@ pub(crate) fn float(bits: u64) -> f64 {
     0.0
 }
 
-// Whether x has these bits.
-pub(crate) fn same(x: f64, bits: u64) -> bool {
-    if x == x {
-        return f64::to_bits(x) == bits;
-    }
-    false
-}
-
-// Whether a line has these from the place `first` on. Beyond its last number it has +0.
-pub(crate) fn same_all(ours: &[f64], words: &[u64; 40], first: usize) -> bool {
-    for i in 0..ours.len() {
-        let at = std::num::wrapping_add_usize(first, i);
-        if 40 <= at {
-            return false;
-        }
-        if !same(ours[i], words[at]) {
-            return false;
-        }
-    }
-    true
+// Whether a line has our numbers first in these. Beyond its last number it has +0.
+pub(crate) fn same_all(ours: &[f64], words: &[u64]) -> bool {
+    ours.len() <= words.len() && ours.iter().zip(words).all(|(x, bits)| same(*x, *bits))
 }

@@ -8,29 +8,23 @@ use boundary::arcs::Arcs;
 use geometry::circle::Circle;
 use outline::gradient::accumulate_region_overlap_gradient;
 
-pub(crate) fn same_arc(words: &[u64; 40], k: usize, arcs: Arcs) -> bool {
-    if k < arcs.n {
-        if k < 180 {
-            let arc = arcs.all[k];
-            let ours = [
-                float(arc.circle as u64),
-                arc.phi_start,
-                arc.phi_end,
-                arc.delta_phi,
-            ];
-            return same_all(&ours, words, 3);
-        }
+// Whether the k-th arc has these numbers.
+pub(crate) fn same_arc(words: &[u64], k: usize, arcs: Arcs) -> bool {
+    if k < arcs.n && k < 180 {
+        let arc = arcs.all[k];
+        let ours = [
+            float(arc.circle as u64),
+            arc.phi_start,
+            arc.phi_end,
+            arc.delta_phi,
+        ];
+        return same_all(&ours, words);
     }
     false
 }
 
-pub(crate) fn same_gradient(
-    words: &[u64; 40],
-    arcs: Arcs,
-    circles: [Circle; 10],
-    n: usize,
-) -> bool {
-    let mut grad = [0.0f64; 34];
+pub(crate) fn same_gradient(words: &[u64], arcs: Arcs, circles: [Circle; 10], n: usize) -> bool {
+    let mut grad = [0.0; 34];
     accumulate_region_overlap_gradient(arcs, circles, n, &mut grad);
-    same_all(&grad, words, 2)
+    same_all(&grad, words)
 }

@@ -24,7 +24,7 @@ fn yes(answer: bool) -> f64 {
 }
 
 // Whether the places 7 to 13 are ours.
-fn same_measures(a: Circle, b: Circle, words: &[u64; 40]) -> bool {
+fn same_measures(a: Circle, b: Circle, words: &[u64]) -> bool {
     let around = Rectangle::new(a.center, a.radius, b.radius);
     let bounds = around.bounds();
     let ours = [
@@ -36,7 +36,7 @@ fn same_measures(a: Circle, b: Circle, words: &[u64; 40]) -> bool {
         bounds.y_min,
         bounds.y_max,
     ];
-    same_all(&ours, words, 7)
+    same_all(&ours, words)
 }
 
 pub(crate) fn agrees(words: &[u64; 40]) -> bool {
@@ -48,7 +48,7 @@ pub(crate) fn agrees(words: &[u64; 40]) -> bool {
         yes(a.intersects(b)),
         a.intersection_area(b),
     ];
-    same_measures(a, b, words)
-        && same_all(&met(a.intersection_points(b)), words, 14)
-        && same_all(&ours, words, 19)
+    same_measures(a, b, &words[7..])
+        && same_all(&met(a.intersection_points(b)), &words[14..])
+        && same_all(&ours, &words[19..])
 }

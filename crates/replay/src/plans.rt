@@ -3,12 +3,13 @@
 // box: x_min, x_max, y_min, y_max (1 to 4).
 ghost use Rattle.std.specs.Prelude.{◌<◌};
 
-use crate::numbers::{float, whole};
+use crate::numbers::float;
 use geometry::bounds::Bounds;
 use geometry::circle::Circle;
 use geometry::point::Point;
 use intersections::collect::collect_intersections;
 use intersections::points::Intersections;
+use stored::line::Line;
 
 // The first n circles, their meeting points, and the box, where it is given. Of no plan n is 0.
 #[derive(Clone, Copy)]
@@ -16,8 +17,7 @@ pub struct Plan {
     pub n: usize,
     pub circles: [Circle; 10],
     pub points: Intersections,
-    pub has_box: bool,
-    pub bounds: Bounds,
+    pub bounds: Option<Bounds>,
 }
 
 // The circle whose x stands at this place.
@@ -30,14 +30,14 @@ pub(crate) fn circle_at(words: &[u64; 40], at: usize) -> Circle
 
 // The plan that a line H begins, with no box: no plan, if the line is malformed. Circles that the line
 // does not have are of no plan.
-pub(crate) fn begun(words: &[u64; 40], last: usize) -> Plan {
-    let given = whole(words[1]);
-    let mut n: usize = 0;
-    if given <= 10 {
-        if last == 1 + given * 3 {
-            n = given;
-        }
-    }
+pub(crate) fn begun(line: &Line) -> Plan {
+    let words = &line.words;
+    let given = words[1] as usize;
+    let n = if given <= 10 && line.last == 1 + given * 3 {
+        given
+    } else {
+        0
+    };
     let circles = [
         circle_at(words, 2),
         circle_at(words, 5),
@@ -50,31 +50,28 @@ pub(crate) fn begun(words: &[u64; 40], last: usize) -> Plan {
         circle_at(words, 26),
         circle_at(words, 29),
     ];
-    let points = collect_intersections(circles, n);
-    let bounds = Bounds::new(0.0, 0.0, 0.0, 0.0);
     Plan {
-        n: n,
-        circles: circles,
-        points: points,
-        has_box: false,
-        bounds: bounds,
+        n,
+        circles,
+        points: collect_intersections(circles, n),
+        bounds: None,
     }
 }
 
-// The plan after a line. One X puts it in a box: in none, if the line is malformed.
-pub(crate) fn after(letter: u8, words: &[u64; 40], last: usize, plan: Plan) -> Plan {
-    if letter == b'H' {
-        return begun(words, last);
+// The box of a line X: none, if the line is malformed.
+fn bounds_of(line: &Line) -> Option<Bounds> {
+    let [_, x_min, x_max, y_min, y_max, ..] = line.words;
+    (line.last == 4).then_some(Bounds::new(float(x_min), float(x_max), float(y_min), float(y_max)))
+}
+
+// The plan after a line. One X puts it in a box.
+pub(crate) fn after(line: &Line, plan: Plan) -> Plan {
+    match line.letter() {
+        b'H' => begun(line),
+        b'X' => Plan {
+            bounds: bounds_of(line),
+            ..plan
+        },
+        _ => plan,
     }
-    let mut next = plan;
-    if letter == b'X' {
-        next.has_box = last == 4;
-        next.bounds = Bounds::new(
-            float(words[1]),
-            float(words[2]),
-            float(words[3]),
-            float(words[4]),
-        );
-    }
-    next
 }

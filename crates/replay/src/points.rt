@@ -4,19 +4,18 @@
 use crate::numbers::{float, same_all};
 use intersections::points::Intersections;
 
-pub(crate) fn same_point(words: &[u64; 40], k: usize, points: Intersections) -> bool {
-    if k < points.n {
-        if k < 90 {
-            let q = points.all[k];
-            let ours = [
-                q.point.x,
-                q.point.y,
-                float(q.first as u64),
-                float(q.second as u64),
-                float(q.adopters as u64),
-            ];
-            return same_all(&ours, words, 2);
-        }
+// Whether the k-th meeting point has these numbers.
+pub(crate) fn same_point(words: &[u64], k: usize, points: Intersections) -> bool {
+    if k < points.n && k < 90 {
+        let q = points.all[k];
+        let ours = [
+            q.point.x,
+            q.point.y,
+            float(q.first as u64),
+            float(q.second as u64),
+            float(q.adopters as u64),
+        ];
+        return same_all(&ours, words);
     }
     false
 }

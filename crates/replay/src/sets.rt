@@ -1,29 +1,58 @@
 // Which lines are about a set of a plan's heads, and what we hold against each.
 use crate::clipped::{same_from_arcs, same_span, same_straight};
-use crate::numbers::{same, whole};
 use crate::outlines::{same_arc, same_gradient};
 use crate::plans::Plan;
 use clip::area::{area_from_clipped_arcs, clipped_region_area};
+use geometry::bounds::Bounds;
 use intersections::members::members_of;
 use outline::area::{area_from_boundary_arcs, region_area};
 use outline::outline::region_boundary_arcs;
+use stored::numbers::same;
 
 // Whether both areas have these bits.
 fn same_areas(from_arcs: f64, straight: f64, bits: u64) -> bool {
     same(from_arcs, bits) && same(straight, bits)
 }
 
+// Whether the answers on a line about the set in the box are ours.
+fn agrees_in_box(letter: u8, words: &[u64; 40], mask: usize, plan: Plan, b: Bounds) -> bool {
+    let Plan {
+        n,
+        circles,
+        points,
+        ..
+    } = plan;
+    let arcs = region_boundary_arcs(mask, circles, points, n);
+    match letter {
+        b'S' => same_span(words, b, members_of(mask, circles, n)),
+        b'K' => {
+            same_areas(
+                area_from_clipped_arcs(arcs, circles, b, mask, n),
+                clipped_region_area(mask, circles, points, n, b),
+                words[2],
+            )
+        }
+        b'L' => {
+            same_from_arcs(words, arcs, circles, b, mask, n)
+                && same_straight(words, mask, circles, points, n, b)
+        }
+        _ => false,
+    }
+}
+
 // Whether the answers on a line about the set are ours.
 pub(crate) fn agrees(letter: u8, words: &[u64; 40], mask: usize, plan: Plan) -> bool {
-    let n = plan.n;
-    let circles = plan.circles;
-    let points = plan.points;
-    let b = plan.bounds;
+    let Plan {
+        n,
+        circles,
+        points,
+        bounds,
+    } = plan;
     let arcs = region_boundary_arcs(mask, circles, points, n);
     let answer = words[2];
     match letter {
-        b'N' => arcs.n == whole(answer),
-        b'T' => same_arc(words, whole(answer), arcs),
+        b'N' => arcs.n == answer as usize,
+        b'T' => same_arc(&words[3..], answer as usize, arcs),
         b'R' => {
             same_areas(
                 area_from_boundary_arcs(arcs, circles, n),
@@ -31,21 +60,12 @@ pub(crate) fn agrees(letter: u8, words: &[u64; 40], mask: usize, plan: Plan) -> 
                 answer,
             )
         }
-        b'G' => same_gradient(words, arcs, circles, n),
-        b'S' => plan.has_box && same_span(words, b, members_of(mask, circles, n)),
-        b'K' => {
-            plan.has_box
-                && same_areas(
-                    area_from_clipped_arcs(arcs, circles, b, mask, n),
-                    clipped_region_area(mask, circles, points, n, b),
-                    answer,
-                )
+        b'G' => same_gradient(&words[2..], arcs, circles, n),
+        _ => {
+            match bounds {
+                Some(b) => agrees_in_box(letter, words, mask, plan, b),
+                None => false,
+            }
         }
-        b'L' => {
-            plan.has_box
-                && same_from_arcs(words, arcs, circles, b, mask, n)
-                && same_straight(words, mask, circles, points, n, b)
-        }
-        _ => false,
     }
 }

@@ -1,6 +1,6 @@
 -- The parts of an input, one after another.
 use Rattle.std.proofs.Common.{◌≡◌, ℕ, List, [], None, Some, Result, Ok, Err, OnOk, ◌++◌, length, take, IfSome, subst, sym, ap, ap₂, ◌∙◌, drop, ◌≤◌, take_at, arith}
-use Rattle.std.proofs.KnownBytes.{Consumes-nil, Consumes-trans, Consumes-whole}
+use Rattle.std.proofs.KnownBytes.{Consumes-nil, Consumes-trans}
 use Rattle.std.specs.declared.option.Option.{Option}
 use Rattle.std.specs.Io.KnownBytes.{Appends, Consumes}
 use Rattle.regions.specs.Slices.{LentTables}
@@ -14,9 +14,7 @@ use Rattle.file.specs.File.{read_file}
 use Rattle.reading.specs.Whole.{over, no_plan, file_printed}
 use Rattle.reading.specs.Reading.{State, state_of, AfterBytes}
 use Rattle.reading.proofs.Bytes.{begun_reads}
-use Rattle.rows.specs.declared.Input.{Input}
-use Rattle.rows.specs.declared.Input.TheVariants.{Open, Ended, Failed}
-use Rattle.rows.specs.Program.{PartRead, zero_tables, printed}
+use Rattle.rows.specs.Program.{zero_tables, printed}
 
 -- the bytes so far, and the state after them
 abbrev pub SoFar : Option (List ℕ) → Option (List ℕ) → LentTables → State → Type 0
@@ -28,21 +26,10 @@ none_yet first t r p e =
     ([], Consumes-nil first, subst (AfterBytes clipped_table t []) (sym (ap₂ (λ r p. state_of r (over t p)) e.0 e.1)) (begun_reads clipped_table t))
 
 -- one part more
-pub one_more : (first old new : Option (List ℕ)) (t : LentTables) (before after : State) (i : Input)
-    → i ≡ Open → SoFar first old t before → PartRead i old new before after → SoFar first new t after
-one_more first old new t before after Open e so part =
-    (so.0 ++ part.0, Consumes-trans first old new so.0 part.0 so.1 part.1, part.2 t so.0 so.2)
-one_more first old new t before after Ended e so part = cc
-one_more first old new t before after Failed e so part = cc
-
--- no part more: all is read
-pub no_more : (first old new : Option (List ℕ)) (t : LentTables) (before after : State) (i : Input)
-    → i ≡ Ended → SoFar first old t before → PartRead i old new before after → IfSome first (λ xs. AfterBytes clipped_table t xs after)
-no_more first old new t before after Ended e so part =
-    Consumes-whole first old so.0 (λ xs. AfterBytes clipped_table t xs after) so.1 part.0
-    (subst (λ s. AfterBytes clipped_table t so.0 s) (sym part.1) so.2)
-no_more first old new t before after Open e so part = cc
-no_more first old new t before after Failed e so part = cc
+pub one_more : (first old new : Option (List ℕ)) (t : LentTables) (bs : List ℕ) (before after : State)
+    → SoFar first old t before → Consumes old new bs → ((s : List ℕ) → AfterBytes clipped_table t s before → AfterBytes clipped_table t (s ++ bs) after)
+    → SoFar first new t after
+one_more first old new t bs before after so took fed = (so.0 ++ bs, Consumes-trans first old new so.0 bs so.1 took, fed so.0 so.2)
 
 -- a text that was put together at the front of a buffer with room for it
 pub text_at_front : (text out left : List ℕ) (n : ℕ) → n ≤ length out → Printed text out left n → take n left ≡ text
@@ -50,11 +37,11 @@ text_at_front text out left n h p =
     let fits : length text ≤ length out = omega (arith, h, p.counted) in
     ap (take n) (p.bytes ∙ put_fits out text fits) ∙ take_at text (drop (length text) out) n (sym p.counted)
 
--- An input that was read to its end is printed as a whole file.
-pub all_printed : {E : Type 0} (r : Result (Unit {0}) E) (known old new : Option (List ℕ)) (done : Type 0) (state : State)
-    → OnOk r done → (done → IfSome known (λ xs. AfterBytes clipped_table zero_tables xs state))
+-- an input that was read to its end is printed as a whole file
+pub all_printed : {E : Type 0} (r : Result (Unit {0}) E) (known old new : Option (List ℕ)) (state : State)
+    → IfSome known (λ xs. AfterBytes clipped_table zero_tables xs state)
     → OnOk r ((t : LentTables) (s : List ℕ) → AfterBytes clipped_table t s state → Appends old new (file_printed clipped_table t (read_file s)))
     → OnOk r (IfSome known (λ xs. Appends old new (printed xs)))
-all_printed (Ok u) None old new done state o i p = tt
-all_printed (Ok u) (Some xs) old new done state o i p = p zero_tables xs (i o)
-all_printed (Err e) known old new done state o i p = tt
+all_printed (Ok u) None old new state i p = tt
+all_printed (Ok u) (Some xs) old new state i p = p zero_tables xs i
+all_printed (Err e) known old new state i p = tt

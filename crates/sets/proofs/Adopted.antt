@@ -4,7 +4,7 @@ use mathlib.Core.Bool.{Bool, true, false, not, ◌&&◌, ◌||◌, or-false}
 use mathlib.Core.List.{List}
 use Prim.Native.Nat.{ℕ, ◌+◌, ◌^◌, ◌≤◌, ◌<◌}
 use native.Mathlib.Omega.{arith}
-use borrow.Author.Tests.{ltb-true, ltb-false, ne_eqb}
+use borrow.Author.Tests.{ltb-true, ltb-false, ne_eqb, le-leb}
 use lib.Count.{ones}
 use lib.Dec.{eqb, leb, ltb}
 use lib.ListN.{length, take, get_or, set}
@@ -53,6 +53,9 @@ module _ (n v : ℕ) (l : List ℕ) where
       go : (S : ℕ) (b : Bool) → ltb S (2 ^ n) ≡ b → (b && with_parts n (λ T. eqb T v) S) ≡ false
       go S true e = let below = ltb-true S (2 ^ n) e in ap₂ ◌||◌ (ne_eqb S v (λ f. omega arith)) (part_past n S v h)
       go S false e = refl
+
+-- three heads or more
+pub ruleset of_many = (one_many, le-leb)
 
 -- ---- no point, and one point more
 

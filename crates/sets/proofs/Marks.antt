@@ -142,6 +142,20 @@ module _ (v : ℕ → ℕ) (test : ℕ → Bool) (j : ℕ) (l : List ℕ) where
       ∙ marked_same (λ S. some j (λ k. eqb S (v k) && test k) || (eqb S (v j) && test j))
       (λ S. some (j + 1) (λ k. eqb S (v k) && test k)) l (λ S h. sym (some_next j (λ k. eqb S (v k) && test k)))
 
+-- without a test
+pub mark_each : (v : ℕ → ℕ) (j : ℕ) (l : List ℕ)
+    → set (marked (λ S. some j (λ k. eqb S (v k))) l) (v j) 1 ≡ marked (λ S. some (j + 1) (λ k. eqb S (v k))) l
+mark_each v j l =
+    mark_next (λ S. some j (λ k. eqb S (v k))) l (v j)
+    ∙ marked_same (λ S. some j (λ k. eqb S (v k)) || eqb S (v j)) (λ S. some (j + 1) (λ k. eqb S (v k))) l
+    (λ S h. sym (some_next j (λ k. eqb S (v k))))
+
+-- the marks of one turn more
+pub marks_next : (p : ℕ → ℕ → Bool) (j : ℕ) (l : List ℕ) → marked (λ S. p S j) (marked (λ S. some j (p S)) l) ≡ marked (λ S. some (j + 1) (p S)) l
+marks_next p j l =
+    marked_again (λ S. some j (p S)) (λ S. p S j) l
+    ∙ marked_same (λ S. some j (p S) || p S j) (λ S. some (j + 1) (p S)) l (λ S h. sym (some_next j (p S)))
+
 -- ---- marks on no bytes
 
 abbrev pub zeros : ℕ → List ℕ

@@ -5,11 +5,11 @@ use Prim.Native.Nat.{ℕ, suc, ◌^◌, ◌≤◌, ◌<◌}
 use lib.Count.{ones}
 use native.Mathlib.Nat.{lt_of_lt_of_le}
 use native.Mathlib.Omega.{arith}
-use lib.Bits.{bit_and, bit_or}
+use lib.Bits.{bit_and, bit_or, or_zero_l}
 use lib.Dec.{eqb}
 use lib.Pow.{pow_mono}
 use Rattle.masks.specs.Mask.{in_set, single, with_head, without_head, shifted, complement}
-use Rattle.masks.specs.Operations.{shifted_is, shifted_lt, in_minus, in_shifted, in_of_zero, in_of_one, zero_by_mask, one_by_mask, without_below, one_of_in, zero_of_in}
+use Rattle.masks.specs.Operations.{shifted_is, shifted_lt, in_minus, in_shifted, in_of_zero, in_of_one, zero_by_mask, one_by_mask, in_by_mask, without_below, one_of_in, zero_of_in, with_below}
 use Rattle.masks.specs.Size.{ones_with, ones_without}
 use Rattle.masks.specs.Subset.{without_lt}
 use Rattle.sets.specs.Sets.{pair}
@@ -43,18 +43,32 @@ lacks_at S i h e = in_of_zero S i (zero_by_mask 64 S i h e)
 pub has_at : (S i : ℕ) → i < 64 → (bit_and S (shifted 64 i) ≡ 0 → ⊥) → in_set S i ≡ true
 has_at S i h e = in_of_one S i (one_by_mask 64 S i h e)
 
--- a mask of n heads is below 1024
-pub row_lt : (n S : ℕ) → n ≤ 10 → S < 2 ^ n → S < 1024
-row_lt n S h k = lt_of_lt_of_le k (pow_mono {i = n} {j = 10} (omega arith))
+-- `S & 1 << i != 0`
+pub bit_at : (S i : ℕ) → i < 64 → not (eqb (bit_and S (shifted 64 i)) 0) ≡ in_set S i
+bit_at S i h = in_by_mask 64 S i h
 
-pub single_lt : (n i : ℕ) → n ≤ 10 → i < n → shifted 64 i < 1024
-single_lt n i h k = subst (λ (m : ℕ). m < 1024) (sym (single_at n i h k)) (row_lt n (single n i) h (gather_lt n (λ j. eqb j i)))
+-- for tests of a mask
+pub ruleset bits = (lacks_at, has_at, bit_at)
 
-pub with_lt : (n S i : ℕ) → n ≤ 10 → S < 2 ^ n → i < n → bit_or S (shifted 64 i) < 1024
-with_lt n S i h hs k = subst (λ (m : ℕ). m < 1024) (sym (with_at n S i h hs k)) (row_lt n (with_head n S i) h (gather_lt n _))
+-- `1 << n`, the number of masks
+pub count_at : (n : ℕ) → n ≤ 10 → shifted 64 n ≡ 2 ^ n
+count_at n h = shifted_is 64 n (omega arith)
 
-pub without_row : (n S i : ℕ) → n ≤ 10 → S < 2 ^ n → bit_and S (complement 64 (shifted 64 i)) < 1024
-without_row n S i h hs = row_lt n (bit_and S (complement 64 (shifted 64 i))) h (without_below n S (complement 64 (shifted 64 i)) hs)
+pub count_most : (n : ℕ) → n ≤ 10 → 2 ^ n ≤ 1024
+count_most n h = pow_mono {i = n} {j = 10} h
+
+-- masks of ten heads have a place
+pub with_row : (S i : ℕ) → S < 1024 → i < 10 → bit_or S (shifted 64 i) < 1024
+with_row S i h k = with_below 64 10 S i (omega arith) h k
+
+pub single_row : (i : ℕ) → i < 10 → shifted 64 i < 1024
+single_row i h = subst (λ (m : ℕ). m < 1024) (or_zero_l (shifted 64 i)) (with_row 0 i (omega arith) h)
+
+pub part_row : (S U : ℕ) → S < 1024 → bit_and S U < 1024
+part_row S U h = without_below 10 S U h
+
+-- for masks of the heads below n as indices, and compared with their number
+pub ruleset rows = (count_at, count_most, with_row, single_row, part_row)
 
 -- S without one of its heads: one head fewer, and a smaller number
 pub ones_less : (n S i : ℕ) → S < 2 ^ n → i < n → in_set S i ≡ true → suc (ones (without_head n S i)) ≡ ones S
@@ -71,6 +85,3 @@ ones_more n S i hs h e = ap ones (sym (or_with_head n S i hs h)) ∙ ones_with n
 pub pair_at : (n i j : ℕ) → n ≤ 10 → i < n → j < n → bit_or (shifted 64 i) (shifted 64 j) ≡ pair n i j
 pair_at n i j h k l =
     ap (λ (m : ℕ). bit_or m (shifted 64 j)) (single_at n i h k) ∙ with_at n (single n i) j h (gather_lt n (λ m. eqb m i)) l
-
-pub pair_lt : (n i j : ℕ) → n ≤ 10 → i < n → j < n → bit_or (shifted 64 i) (shifted 64 j) < 1024
-pair_lt n i j h k l = subst (λ (m : ℕ). m < 1024) (sym (pair_at n i j h k l)) (row_lt n (pair n i j) h (gather_lt n _))

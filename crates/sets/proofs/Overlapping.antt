@@ -2,11 +2,13 @@
 -- of overlapping heads are the masks of two heads that are found.
 use mathlib.Core.Path.{◌≡◌, refl, sym, ap, ap₂, ◌∙◌}
 use mathlib.Core.Bool.{Bool, true, false, not, ◌&&◌, ◌||◌, or-false, false≢true}
+use mathlib.Core.List.{List}
 use Prim.Native.Nat.{ℕ, suc, ◌^◌, ◌≤◌, ◌<◌}
 use native.Mathlib.Omega.{arith}
 use borrow.Author.Tests.{eqb-true, eqb-false, eq-eqb, ne_eqb, leb-true, leb-false, ltb-true, ltb-false}
 use lib.Count.{ones}
 use lib.Dec.{eqb, leb, ltb}
+use lib.ListN.{get_or, replicate}
 use Rattle.masks.specs.Mask.{in_set, single, with_head, without_head, subset}
 use Rattle.masks.specs.Operations.{bit_of_zero, in_of_zero, in_beyond, in_ext}
 use Rattle.masks.specs.Gather.{gather_lt, in_gather, gather_unique}
@@ -14,8 +16,11 @@ use Rattle.masks.specs.Size.{ones_of_zero, ones_subset_eq}
 use Rattle.masks.specs.Subset.{and_both, every_below, every_of, subset_by_heads}
 use Rattle.intersections.proofs.Masks.{head_below}
 use Rattle.lists.specs.Some.{some}
+use Rattle.lists.specs.Written.{written}
+use Rattle.lists.proofs.Writing.{written_before}
 use Rattle.lists.proofs.Somes.{some_of}
 use Rattle.sets.specs.Sets.{pair, paired, pairs_of, is_pair, overlapping, all_pairs, one_in_all, joined}
+use Rattle.sets.specs.Steps.{mask_of}
 use Rattle.sets.proofs.Masks.{ones_less, ones_more}
 use Rattle.sets.proofs.Singles.{ones_single}
 use Rattle.sets.proofs.Taken.{same_truth, some_then, not_yes, has}
@@ -105,6 +110,11 @@ module _ (n : ℕ) (o : ℕ → ℕ) (turned : (a b : ℕ) → a < n → b < n �
   pairs_with = same_truth (subset n s (o i)) (all_pairs n o t) from_sub to_sub
 
 -- ---- the heads whose pairs are found
+
+-- as an array holds them
+pub over_is : (n : ℕ) (found : ℕ → Bool) (masks : List ℕ) → masks ≡ written (overlapping n found) n (replicate 10 0)
+    → (i : ℕ) → i < n → mask_of masks i ≡ overlapping n found i
+over_is n found masks e i h = ap (λ (l : List ℕ). get_or l i 0) e ∙ written_before (overlapping n found) n i (replicate 10 0) 0 h
 
 module _ (n : ℕ) (found : ℕ → Bool) (o : ℕ → ℕ) (over : (i : ℕ) → i < n → o i ≡ overlapping n found i) where
   in_over : (a b : ℕ) → a < n → b < n → in_set (o a) b ≡ found (pair n a b)

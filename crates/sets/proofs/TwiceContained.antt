@@ -12,7 +12,7 @@ use Rattle.masks.specs.Mask.{in_set, without_head, subset, Subset}
 use Rattle.masks.specs.Operations.{bit_of_zero, in_of_zero, in_and}
 use Rattle.masks.specs.Gather.{gather_lt, in_gather}
 use Rattle.masks.specs.Size.{ones_subset}
-use Rattle.masks.specs.Subset.{and_both, subset_by_heads, subset_head, subset_yes}
+use Rattle.masks.specs.Subset.{and_test, and_both, subset_by_heads, subset_head, subset_yes}
 use Rattle.intersections.proofs.Masks.{head_below}
 use Rattle.lists.specs.Some.{some}
 use Rattle.lists.proofs.Somes.{some_none}
@@ -57,6 +57,9 @@ module _ (n : ℕ) (containing : ℕ → ℕ) (S : ℕ) (hs : S < 2 ^ n) (many :
           ∙ in_of_zero 0 i (bit_of_zero i)
       at i h true false e f = refl
       at i h false b e f = refl
+
+-- for the tests of a mask that may join
+pub ruleset joining = (and_test, one_in_all_not)
 
 -- no head is contained twice: the levels add nothing
 pub nothing_joins : (n : ℕ) (found : ℕ → Bool) (overlapping containing : ℕ → ℕ) (S : ℕ) → S < 2 ^ n → twice_contained n containing ≡ 0

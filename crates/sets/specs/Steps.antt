@@ -6,9 +6,13 @@ use Rattle.lists.specs.Some.{some}
 use Rattle.masks.specs.Mask.{in_set, gather, with_head, without_head}
 use Rattle.sets.specs.Sets.{with_parts, all_pairs, one_in_all, joined}
 
--- head j is in the mask of head i, of a list of one mask a head
+-- the mask of head i, of a list of one mask a head
+abbrev pub mask_of : List ℕ → ℕ → ℕ
+mask_of masks i = get_or masks i 0
+
+-- head j is in it
 abbrev pub in_mask_of : List ℕ → ℕ → ℕ → Bool
-in_mask_of masks i j = in_set (get_or masks i 0) j
+in_mask_of masks i j = in_set (mask_of masks i) j
 
 -- S is M without one of its heads
 abbrev pub part_of : ℕ → ℕ → ℕ → Bool

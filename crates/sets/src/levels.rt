@@ -1,50 +1,19 @@
-// Masks found level by level, each from one of the level below and one head more. Rests on `in_level` of specs/Sets.antt and on specs/Steps.antt.
-ghost use Rattle.std.specs.Prelude.{◌≡◌, true, not, ◌&&◌, ℕ, ◌≤◌, ◌<◌, ◌^◌, get_or, replicate, take};
+// Masks found level by level, each from one of the level below and one head more. Rests on `in_level` of
+// specs/Sets.antt and on specs/Steps.antt.
+ghost use Rattle.std.specs.Prelude.{◌≡◌, true, not, ◌&&◌, ℕ, ◌≤◌, ◌<◌, ◌^◌, length, replicate};
 ghost use Rattle.std.specs.Int.Count.{ones};
 ghost use Rattle.geometry.specs.Circle as spec;
 ghost use Rattle.masks.specs.Mask.{in_set, without_head, subset};
 ghost use Rattle.masks.specs.Presence.{stands};
-ghost use Rattle.lists.specs.Some.{some};
 ghost use Rattle.lists.specs.Written.{written};
 ghost use Rattle.sets.specs.Sets as rule;
-ghost use Rattle.sets.specs.Sets.{overlapping, containing, all_pairs, one_in_all};
+ghost use Rattle.sets.specs.Sets.{containing, all_pairs, one_in_all};
 ghost use Rattle.sets.specs.Regions.{contains_at};
 ghost use Rattle.sets.specs.Marked.{marked};
-ghost use Rattle.sets.specs.Steps.{in_mask_of, twice_contained, joining_of, joined_below};
+ghost use Rattle.sets.specs.Steps.{mask_of, in_mask_of, twice_contained, joining_of, joined_below};
 
-use crate::witnessed::add_pairs;
+use crate::heads::Heads;
 use geometry::circle::Circle;
-
-// The heads whose pair with head i is found.
-fn overlapping_head(found: &[u8; 1024], i: usize, n: usize) -> usize
-    requires { (n ≤ 10) × (i < n) }
-    ensures { result ≡ overlapping n (stands found.now) i }
-{
-    let mut mask: usize = 0;
-    let mut j: usize = 0;
-    while j < n {
-        if found[1 << i | 1 << j] == 1 {
-            mask = mask | 1 << j;
-        }
-        j += 1;
-    }
-    mask
-}
-
-// For each head the heads whose pair with it is found.
-pub(crate) fn overlapping_heads(found: &[u8; 1024], n: usize) -> [usize; 10]
-    requires { n ≤ 10 }
-    ensures { result ≡ written (overlapping n (stands found.now)) n (replicate 10 0) }
-{
-    let mut heads = [0usize; 10];
-    let mut i: usize = 0;
-    while i < n {
-        let mask = overlapping_head(found, i, n);
-        heads[i] = mask;
-        i += 1;
-    }
-    heads
-}
 
 // Whether the circle contains the other. A smaller one does not, and needs no distance.
 fn contains(circle: Circle, other: Circle) -> bool
@@ -56,153 +25,160 @@ fn contains(circle: Circle, other: Circle) -> bool
     circle.contains(other)
 }
 
-// For each head the heads that contain it.
-pub(crate) fn containing_heads(circles: [Circle; 10], n: usize) -> [usize; 10]
-    requires { n ≤ 10 }
-    ensures { result ≡ written (containing n (contains_at (take n circles))) n (replicate 10 0) }
-{
-    let mut heads = [0usize; 10];
-    let mut k: usize = 0;
-    while k < n {
-        let mut mask: usize = 0;
-        let mut j: usize = 0;
-        while j < n {
-            if contains(circles[j], circles[k]) {
-                mask = mask | 1 << j;
+impl Heads {
+    // The heads whose pair with head i is found.
+    #[tactic(auto, using(intersections::proofs::Adopting::gathered, crate::proofs::Masks::rows))]
+    fn overlapping_head(self, found: &[u8; 1024], i: usize) -> usize
+        requires { i < self.n }
+        ensures { result ≡ rule.overlapping self.n (stands found.now) i }
+    {
+        let mut mask = 0usize;
+        for j in 0..self.n {
+            if found[1 << i | 1 << j] == 1 {
+                mask |= 1 << j;
             }
-            j += 1;
         }
-        heads[k] = mask;
-        k += 1;
+        mask
     }
-    heads
-}
 
-// The heads that two others or more contain. A mask of three heads or more has one of them if one of its heads is contained in all others.
-pub(crate) fn twice_contained(containing: &[usize; 10], n: usize) -> usize
-    requires { (n ≤ 10) × ((i : ℕ) → i < n → get_or containing.now i 0 < 2 ^ n) }
-    ensures { result ≡ twice_contained n (λ i. get_or containing.now i 0) }
-{
-    let mut mask: usize = 0;
-    let mut i: usize = 0;
-    while i < n {
-        if 1 < usize::count_ones(containing[i] & !(1 << i)) {
-            mask = mask | 1 << i;
+    // For each head the heads whose pair with it is found.
+    pub(crate) fn overlapping_heads(self, found: &[u8; 1024]) -> [usize; 10]
+        ensures { result ≡ written (rule.overlapping self.n (stands found.now)) self.n (replicate 10 0) }
+    {
+        let mut heads = [0usize; 10];
+        for i in 0..self.n {
+            heads[i] = self.overlapping_head(found, i);
         }
-        i += 1;
+        heads
     }
-    mask
-}
 
-// Whether head i is a head of s, and the other heads of s are all in `heads`.
-fn others_in(s: usize, i: usize, heads: usize, n: usize) -> bool
-    requires { (n ≤ 10) × ((s < 2 ^ n) × (i < n)) }
-    ensures { result ≡ (in_set s i && subset n (without_head n s i) heads) }
-{
-    if s & 1 << i == 0 {
-        return false;
-    }
-    let others = s & !(1 << i);
-    others & heads == others
-}
-
-// Whether one head of s is contained in all others.
-fn one_in_all(containing: &[usize; 10], s: usize, n: usize) -> bool
-    requires { (n ≤ 10) × (s < 2 ^ n) }
-    ensures { result ≡ some n (λ i. in_set s i && subset n (without_head n s i) (get_or containing.now i 0)) }
-{
-    let mut i: usize = 0;
-    while i < n {
-        if others_in(s, i, containing[i], n) {
-            return true;
+    // The heads that contain head k.
+    #[tactic(auto, using(intersections::proofs::Adopting::gathered))]
+    fn containing_head(self, circles: &[Circle], k: usize) -> usize
+        requires { (length circles.now ≡ self.n) × (k < self.n) }
+        ensures { result ≡ containing self.n (contains_at circles.now) k }
+    {
+        let mut mask = 0usize;
+        for j in 0..self.n {
+            if contains(circles[j], circles[k]) {
+                mask |= 1 << j;
+            }
         }
-        i += 1;
+        mask
     }
-    false
+
+    // For each head the heads that contain it.
+    pub(crate) fn containing_heads(self, circles: &[Circle]) -> [usize; 10]
+        requires { length circles.now ≡ self.n }
+        ensures { result ≡ written (containing self.n (contains_at circles.now)) self.n (replicate 10 0) }
+    {
+        let mut heads = [0usize; 10];
+        for k in 0..self.n {
+            heads[k] = self.containing_head(circles, k);
+        }
+        heads
+    }
+
+    // The heads that two others or more contain. A mask of three heads or more has one of them if one of its heads
+    // is contained in all others.
+    #[tactic(auto, using(intersections::proofs::Adopting::gathered))]
+    pub(crate) fn twice_contained(self, containing: &[usize; 10]) -> usize
+        requires { (i : ℕ) → i < self.n → mask_of containing.now i < 2 ^ self.n }
+        ensures { result ≡ twice_contained self.n (mask_of containing.now) }
+    {
+        let mut mask = 0usize;
+        for i in 0..self.n {
+            let others = containing[i] & !(1 << i);
+            if others.count_ones() > 1 {
+                mask |= 1 << i;
+            }
+        }
+        mask
+    }
+
+    // Whether head i is a head of s, and the other heads of s are all in `heads`.
+    #[tactic(auto, using(crate::proofs::Masks::bits))]
+    fn others_in(self, s: usize, i: usize, heads: usize) -> bool
+        requires { (s < 2 ^ self.n) × (i < self.n) }
+        ensures { result ≡ (in_set s i && subset self.n (without_head self.n s i) heads) }
+    {
+        let others = s & !(1 << i);
+        s & 1 << i != 0 && others & heads == others
+    }
 }
 
-// Whether t joins the next level: s, a mask of its level, with one head more, which overlaps `heads`. In s each head overlaps all others, so that
-// in t this is asked of that head alone.
-fn joins(
-    found: &[u8; 1024],
-    heads: usize,
-    containing: &[usize; 10],
-    twice: usize,
-    s: usize,
-    t: usize,
-    n: usize,
-) -> bool
-    requires { (n ≤ 10) × (s < 2 ^ n) × (t < 2 ^ n) × (3 ≤ ones t) × (twice ≡ twice_contained n (λ i. get_or containing.now i 0)) }
-    ensures { result ≡ (not (stands found.now t) && (subset n s heads && one_in_all n (λ i. get_or containing.now i 0) t)) }
-{
-    if found[t] == 1 {
-        return false;
-    }
-    // Most masks end here, without a look at each head.
-    if t & twice == 0 {
-        return false;
-    }
-    if s & heads != s {
-        return false;
-    }
-    one_in_all(containing, t, n)
+// What the levels are found by: for each head the heads whose pair with it is found and those that contain it, and
+// the heads that two others or more contain.
+#[derive(Clone, Copy)]
+pub(crate) struct Levels<'a> {
+    pub heads: Heads,
+    pub overlapping: &'a [usize; 10],
+    pub containing: &'a [usize; 10],
+    pub twice: usize,
+    ghost twice_is: { twice ≡ twice_contained heads.n (mask_of containing.now) },
+    ghost turned: { (i j : ℕ) → i < heads.n → j < heads.n
+        → in_mask_of overlapping.now i j ≡ in_mask_of overlapping.now j i },
 }
 
-// The masks of the next level that are s, a mask of its level, and one head more.
-fn add_joining(
-    level: &mut [u8; 1024],
-    found: &[u8; 1024],
-    overlapping: &[usize; 10],
-    containing: &[usize; 10],
-    twice: usize,
-    s: usize,
-    n: usize,
-)
-    requires { (n ≤ 10) × (s < 2 ^ n) × (2 ≤ ones s) × (twice ≡ twice_contained n (λ i. get_or containing.now i 0))
-        × (all_pairs n (λ i. get_or overlapping.now i 0) s ≡ true)
-        × ((i j : ℕ) → i < n → j < n → in_mask_of overlapping.now i j ≡ in_mask_of overlapping.now j i) }
-    ensures { level.new ≡ marked (joining_of n (stands found.now) (λ i. get_or overlapping.now i 0)
-        (λ i. get_or containing.now i 0) s) level.old }
-{
-    let mut i: usize = 0;
-    while i < n {
-        if s & 1 << i == 0 {
+impl Levels<'_> {
+    // Whether one head of s is contained in all others.
+    #[tactic(auto, unfolding(crate::specs::Sets::one_in_all))]
+    fn one_in_all(&self, s: usize) -> bool
+        requires { s < 2 ^ self.now.heads.n }
+        ensures { result ≡ one_in_all self.now.heads.n (mask_of self.now.containing.now) s }
+    {
+        (0..self.heads.n).any(|i| self.heads.others_in(s, i, self.containing[i]))
+    }
+
+    // Whether t joins the next level: s, a mask of its level, with one head more, head i. In s each head overlaps all
+    // others, so that in t this is asked of that head alone.
+    #[tactic(auto, using(crate::proofs::TwiceContained::joining, crate::proofs::Masks::rows))]
+    fn joins(&self, found: &[u8; 1024], s: usize, i: usize, t: usize) -> bool
+        requires { (s < 2 ^ self.now.heads.n) × (i < self.now.heads.n)
+            × (t < 2 ^ self.now.heads.n) × (3 ≤ ones t) }
+        ensures { result ≡ (not (stands found.now t) && (subset self.now.heads.n s (mask_of self.now.overlapping.now i)
+            && one_in_all self.now.heads.n (mask_of self.now.containing.now) t)) }
+    {
+        // Most masks end at the second test, without a look at each head.
+        found[t] != 1 && t & self.twice != 0 && s & self.overlapping[i] == s && self.one_in_all(t)
+    }
+
+    // The masks of the next level that are s, a mask of its level, and one head more.
+    #[tactic(auto, using(crate::proofs::Masks::rows))]
+    fn add_joining(&self, level: &mut [u8; 1024], found: &[u8; 1024], s: usize)
+        requires { (s < 2 ^ self.now.heads.n) × (2 ≤ ones s)
+            × (all_pairs self.now.heads.n (mask_of self.now.overlapping.now) s ≡ true) }
+        ensures { level.new ≡ marked (joining_of self.now.heads.n (stands found.now) (mask_of self.now.overlapping.now)
+            (mask_of self.now.containing.now) s) level.old }
+    {
+        for i in 0..self.heads.n {
             let t = s | 1 << i;
             // It is reached from each of the masks with one head less; once it has joined it is not asked again.
-            if level[t] != 1 {
-                if joins(found, overlapping[i], containing, twice, s, t, n) {
-                    level[t] = 1;
-                }
+            if s & 1 << i == 0 && level[t] != 1 && self.joins(found, s, i, t) {
+                level[t] = 1;
             }
         }
-        i += 1;
     }
-}
 
-// 5. Level by level, in one pass from the first mask on: a mask with one head more is a larger number, and is looked at later. A mask of a
-// level is marked as found when the pass gets there, so that the masks yet to come are as they were found.
-pub(crate) fn add_levels(
-    found: &mut [u8; 1024],
-    overlapping: &[usize; 10],
-    containing: &[usize; 10],
-    twice: usize,
-    n: usize,
-)
-    requires { (n ≤ 10) × (twice ≡ twice_contained n (λ i. get_or containing.now i 0))
-        × (overlapping.now ≡ written (rule.overlapping n (stands found.old)) n (replicate 10 0)) }
-    ensures { found.new ≡ marked (joined_below n (stands found.old) (λ i. get_or overlapping.now i 0)
-        (λ i. get_or containing.now i 0) (2 ^ n)) found.old }
-{
-    let mut level = [0u8; 1024];
-    // The first level: the pairs found.
-    add_pairs(&mut level, overlapping, overlapping, n);
-    let masks = 1usize << n;
-    let mut s: usize = 0;
-    while s < masks {
-        if level[s] == 1 {
-            found[s] = 1;
-            add_joining(&mut level, found, overlapping, containing, twice, s, n);
+    // 5. Level by level, in one pass from the first mask on: a mask with one head more is a larger number, and is
+    // looked at later. A mask of a level is marked as found when the pass gets there, so that the masks yet to come
+    // are as they were found.
+    #[tactic(auto, using(crate::proofs::Masks::rows))]
+    pub(crate) fn add(&self, found: &mut [u8; 1024])
+        requires { self.now.overlapping.now ≡
+            written (rule.overlapping self.now.heads.n (stands found.old)) self.now.heads.n (replicate 10 0) }
+        ensures { found.new ≡ marked (joined_below self.now.heads.n (stands found.old)
+            (mask_of self.now.overlapping.now) (mask_of self.now.containing.now) (2 ^ self.now.heads.n)) found.old }
+    {
+        let mut level = [0u8; 1024];
+        // The first level: the pairs found.
+        self.heads
+            .add_pairs(&mut level, self.overlapping, self.overlapping);
+        for s in 0..1 << self.heads.n {
+            if level[s] == 1 {
+                found[s] = 1;
+                self.add_joining(&mut level, found, s);
+            }
         }
-        s += 1;
     }
 }

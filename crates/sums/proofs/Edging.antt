@@ -10,12 +10,13 @@ use Rattle.geometry.specs.declared.circle.Circle.{Circle}
 use Rattle.intersections.specs.Members.{heads_of, circle_at}
 use Rattle.clip.specs.Area.{add_edges}
 use Rattle.clip.specs.Gradient.{WithGradient, add_edges_with_gradient}
+use Rattle.chords.specs.declared.fill.Chords.{Chords}
 use Rattle.chords.specs.Chords.{Chorded}
 use Rattle.chords.proofs.Spanning as spans
 use Rattle.sums.specs.Edges.{edges_from, edges_with_gradient_from}
 
-module _ (box : Bounds) (circles : List Circle) (n S : ℕ) (reach : List ℕ) (low high : List Float)
-    (many : length circles ≡ n) (few : n ≤ 10) (below : S < 2 ^ n) (held : Chorded box circles S reach low high) where
+module _ (box : Bounds) (circles : List Circle) (n S : ℕ) (chords : Chords)
+    (many : length circles ≡ n) (few : n ≤ 10) (below : S < 2 ^ n) (held : Chorded box circles S chords) where
   abbrev own : List Circle
   own = map (circle_at circles) (heads_of (length circles) S)
 
@@ -24,25 +25,25 @@ module _ (box : Bounds) (circles : List Circle) (n S : ℕ) (reach : List ℕ) (
   count = omega (arith, many, few)
 
   -- the four spans added one after another, and with a gradient
-  pub edges_are : (total : Float) → edges_from box (min n 10) reach low high S total ≡ add_edges box own total
+  pub edges_are : (total : Float) → edges_from box (min n 10) chords S total ≡ add_edges box own total
   unfolding edges_from add_edges
   edges_are total =
       rw (
         count,
-        spans.bottom box circles n S reach low high many few below held,
-        spans.right box circles n S reach low high many few below held,
-        spans.top box circles n S reach low high many few below held,
-        spans.left box circles n S reach low high many few below held,
+        spans.bottom box circles n S chords many few below held,
+        spans.right box circles n S chords many few below held,
+        spans.top box circles n S chords many few below held,
+        spans.left box circles n S chords many few below held,
       )
 
-  pub edges_with_are : (s : WithGradient) → edges_with_gradient_from box (min n 10) reach low high S s ≡ add_edges_with_gradient box own (n * 3) s
+  pub edges_with_are : (s : WithGradient) → edges_with_gradient_from box (min n 10) chords S s ≡ add_edges_with_gradient box own (n * 3) s
   unfolding edges_with_gradient_from add_edges_with_gradient
   edges_with_are s =
       rw (
         count,
-        spans.bottom box circles n S reach low high many few below held,
-        spans.right box circles n S reach low high many few below held,
-        spans.top box circles n S reach low high many few below held,
-        spans.left box circles n S reach low high many few below held,
+        spans.bottom box circles n S chords many few below held,
+        spans.right box circles n S chords many few below held,
+        spans.top box circles n S chords many few below held,
+        spans.left box circles n S chords many few below held,
         sym many,
       )

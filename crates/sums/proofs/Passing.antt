@@ -1,53 +1,23 @@
--- All rows of a pass: three numbers a circle, the heads of the wanted rows, and what is held for these serves each such row.
+-- All rows of a pass: the heads of the wanted rows, and what is held for these serves each such row.
 use mathlib.Core.Path.{◌≡◌, sym, ap, ◌∙◌}
 use mathlib.Core.Bool.{Bool, true, false, true≢false}
-use mathlib.Core.List.{List, map-id}
+use mathlib.Core.List.{List}
 use mathlib.Core.Logic.{⊎_elim}
-use Prim.Native.Nat.{ℕ, ◌+◌, ◌*◌, ◌/◌, ◌%◌, ◌^◌, ◌≤◌, ◌<◌}
+use Prim.Native.Nat.{ℕ, ◌+◌, ◌^◌, ◌<◌}
 use native.Mathlib.Nat.{eq-or-lt_of_le, le_of_suc-le-suc}
 use native.Mathlib.Numerals.{add-one}
 use native.Mathlib.Omega.{arith}
 use lib.Bits.{bit_or}
-use lib.ListN.{length, get_or, take}
-use lib.Ieee.{Float, nan}
+use lib.Ieee.{Float}
 use Rattle.lists.specs.Written.{written}
-use Rattle.lists.proofs.Writing.{tab_map, tab_cong}
 use Rattle.masks.specs.Mask.{Subset}
 use Rattle.masks.specs.Operations.{bit-or, bit_beyond, below_pow}
 use Rattle.masks.specs.Presence.{stands}
 use Rattle.masks.specs.Subset.{subset_head, subset_trans, or_subset_left, or_subset_right}
-use Rattle.geometry.specs.declared.bounds.Bounds.{Bounds}
 use Rattle.geometry.specs.declared.circle.Circle.{Circle}
-use Rattle.intersections.specs.Members.{no_circle}
-use Rattle.gaps.specs.Gaps.{circle_in, circles_in}
 use Rattle.sums.specs.Walk.{Ready}
 use Rattle.sums.specs.Rows.{number_at}
-use Rattle.sums.specs.Fast.{number_of, OfWanted, Worth}
-use Rattle.sums.proofs.Filling.{HeldTo}
-use Rattle.chords.proofs.Spanning.{chorded_less}
-use Rattle.sums.proofs.Valuing.{valued_less, three_less}
-
--- ---- three numbers a circle
-
-module _ (c : List Float) (circles : List Circle) (held : HeldTo (λ p. Unit) (λ p. number_of (get_or circles (p / 3) no_circle) (p % 3)) nan c 30) where
-  number-at : (i k : ℕ) → i < 10 → k < 3 → get_or c (i * 3 + k) nan ≡ number_of (get_or circles i no_circle) k
-  number-at i k h l =
-      let e : (i * 3 + k) / 3 ≡ i = omega arith in
-      let f : (i * 3 + k) % 3 ≡ k = omega arith in
-      rw (e, f) at (held.at (i * 3 + k) (omega arith) tt)
-
-  circle_is : (i : ℕ) → i < 10 → circle_in c i ≡ get_or circles i no_circle
-  unfolding number_of
-  circle_is i h =
-      let zero_more : i * 3 + 0 ≡ i * 3 = omega arith in
-      let first = rw zero_more at (number-at i 0 h (omega arith)) in
-      rw (first, number-at i 1 h (omega arith), number-at i 2 h (omega arith))
-
-  pub numbers_are : (n : ℕ) → n ≤ 10 → length circles ≡ 10 → circles_in c n ≡ take n circles
-  unfolding circles_in
-  numbers_are n h e =
-      tab_cong (circle_in c) (λ i. get_or circles i no_circle) n (λ i k. circle_is i (omega arith))
-      ∙ tab_map (λ q. q) circles no_circle n (omega arith) ∙ map-id (take n circles)
+use Rattle.sums.specs.Fast.{OfWanted}
 
 -- ---- the heads of the wanted rows
 
@@ -77,15 +47,6 @@ or_below n S T h k = below_pow n (bit_or S T) (λ i l. omega (arith, bit-or S T 
 pub ready_less : (circles : List Circle) (needed : ℕ) (counts owners : List ℕ) (phi : List Float) (lets : List ℕ) (S : ℕ) → Subset S needed
     → Ready circles needed counts owners phi lets → Ready circles S counts owners phi lets
 ready_less circles needed counts owners phi lets S within held j h i = held j h (subset_head S needed within j i)
-
-pub worth_less : {clipped : Bool} {box : Bounds} {circles : List Circle} {needed : ℕ} {counts : List ℕ} {phi xs ys rs : List Float} {reach : List ℕ} {low high : List Float}
-    (S : ℕ) → Subset S needed → Worth clipped box circles needed counts phi xs ys rs reach low high → Worth clipped box circles S counts phi xs ys rs reach low high
-worth_less S within held =
-    record {
-      integrals = λ e. valued_less S within (held.integrals e);
-      chords = λ e. chorded_less S within (held.chords e);
-      terms = λ e. three_less S within (held.terms e);
-    }
 
 -- ---- what is left, by equal circles and an equal count
 

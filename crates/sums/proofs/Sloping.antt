@@ -3,14 +3,14 @@ use mathlib.Core.Path.{◌≡◌, refl, sym, ap, ◌∙◌}
 use mathlib.Core.Bool.{Bool, true, false}
 use mathlib.Core.List.{List, [], ◌∷◌, map, foldl}
 use mathlib.Core.Logic.{⊎_elim}
-use Prim.Native.Nat.{ℕ, zero, suc, min, ◌+◌, ◌-◌, ◌*◌, ◌≤◌, ◌<◌, ◌^◌}
+use Prim.Native.Nat.{ℕ, zero, suc, ◌+◌, ◌-◌, ◌*◌, ◌≤◌, ◌<◌, ◌^◌}
 use native.Mathlib.Nat.{eq-or-lt_of_le, le_of_suc-le-suc}
 use native.Mathlib.Numerals.{add-one}
 use native.Mathlib.Omega.{arith}
 use borrow.Author.Tests.{lt-ltb, ltb-true, ltb-false}
 use lib.Dec.{ltb}
 use lib.ListN.{length, get_or, set, take, drop, length-take, length-set}
-use lib.Seq.{get_or-take, get_or-set_same, get_or-set_other, take-take, take_all}
+use lib.Seq.{get_or-take, get_or-set_same, get_or-set_other}
 use lib.Ieee.{Float, nan}
 use Rattle.masks.specs.Mask.{Subset}
 use Rattle.lists.specs.Every.{Every, every_map, every_take}
@@ -22,7 +22,7 @@ use Rattle.binary64.specs.Floats.{◌+ᶠ◌, ◌-ᶠ◌, ◌*ᶠ◌}
 use Rattle.geometry.specs.declared.bounds.Bounds.{Bounds}
 use Rattle.geometry.specs.declared.circle.Circle.{Circle}
 use Rattle.intersections.specs.declared.points.IntersectionPoint.{IntersectionPoint}
-use Rattle.intersections.specs.Members.{circle_at}
+use Rattle.intersections.specs.Members.{circle_at, no_circle}
 use Rattle.boundary.specs.declared.arcs.BoundaryArc.{BoundaryArc}
 use Rattle.boundary.specs.declared.sort.Angles.{Angles}
 use Rattle.boundary.specs.Counted.{angle_list}
@@ -33,14 +33,10 @@ use Rattle.clip.specs.Area.{empty_box}
 use Rattle.clip.specs.Arc.{head_arc_integral_with_gradient}
 use Rattle.clip.specs.Gradient.{WithGradient, with_gradient, onto, sub_arc_by_differences, part_slopes, sub_arc_with_gradient, add_part_with_gradient, clipped_arc_integral_with_gradient, add_clipped_arc_with_gradient, add_clipped_arcs_with_gradient, add_edges_with_gradient, clipped_with_gradient}
 use Rattle.clip.proofs.Rows.{gradient_by_sum}
-use Rattle.gaps.specs.Gaps.{circle_in, circles_in}
-use Rattle.gaps.proofs.Circles.{circles_many, circle-of}
 use Rattle.sums.specs.Walk.{marks_in, arc_at, Few, arcs_by, Listing}
 use Rattle.sums.specs.Values.{head_of, term_of, add_terms, Roomy, standing, MarksOf}
 use Rattle.sums.specs.Slopes.{add_three_at, slope_x, slope_y, slope_r, add_slopes_at, add_parts_at, shares_from, PartsHeld, PartsValued, PartsKnown}
-use Rattle.sums.specs.Gradients.{WorthWith}
-use Rattle.chords.proofs.Spanning.{chorded_less}
-use Rattle.sums.proofs.Valuing.{arc_head, head_placed, placed_readable, placed_standing, standing_more, three_less, sum_by_arcs, sum_open, said, heads-in}
+use Rattle.sums.proofs.Valuing.{arc_head, head_placed, placed_readable, placed_standing, standing_more, sum_by_arcs, sum_open, first_many, said, heads-in}
 
 -- ---- sums over numbers are sums over their arcs
 
@@ -352,14 +348,14 @@ head_arc : (box : Bounds) (c : Circle) (arc : BoundaryArc) (g : List Float) → 
 unfolding head_arc_integral_with_gradient
 head_arc box c arc g h = rw (lt-ltb arc.circle 10 h)
 
-module _ (box : Bounds) (c : List Float) (n : ℕ) (counts : List ℕ) (phi : List Float) (p : ℕ) {circle : Circle} {arc : BoundaryArc} (below : head_of p < n)
-    (ec : circle ≡ circle_in c (head_of p)) (ea : (circles : List Circle) → arc ≡ arc_at circles counts phi p) where
+module _ (box : Bounds) (c : List Circle) (n : ℕ) (counts : List ℕ) (phi : List Float) (p : ℕ) {circle : Circle} {arc : BoundaryArc} (below : head_of p < n)
+    (ec : circle ≡ get_or c (head_of p) no_circle) (ea : (circles : List Circle) → arc ≡ arc_at circles counts phi p) where
   abbrev all : List Circle
-  all = circles_in c n
+  all = take n c
 
   integral_is : (g : List Float)
       → clipped_arc_integral_with_gradient box circle arc g ≡ clipped_arc_integral_with_gradient box (circle_at all (head_of p)) (arc_at all counts phi p) g
-  integral_is g = rw (ea all, ec, circle-of c n (head_of p) below)
+  integral_is g = rw (ea all, ec, sym (get_or-take n c (head_of p) no_circle below))
 
   -- its parts, put
   pub put_is : (xs ys rs : List Float) (used m : ℕ) (sum : Float)
@@ -389,65 +385,39 @@ held_is held total g eg = rw eg (ap (onto total) (held.here g))
 
 -- ---- the row of a set whose arcs the walk has listed: of them the first 180
 
-module _ (c : List Float) (n : ℕ) (points : List IntersectionPoint) (S : ℕ) (counts : List ℕ) (phi : List Float) (adopters : List ℕ)
-    (most : n ≤ 10) (below : S < 2 ^ n) (few : Few (circles_in c n) points) (marks : MarksOf (circles_in c n) points S counts phi adopters) {k : ℕ} {list : List ℕ}
-    (listing : Listing (circles_in c n) counts phi n S (arcs_by (circles_in c n) (marks_in counts phi adopters) S) k list) (g : List Float) {m : ℕ} (em : m ≡ min k arcs_held) where
+module _ (c : List Circle) (n : ℕ) (points : List IntersectionPoint) (S : ℕ) (counts : List ℕ) (phi : List Float) (adopters : List ℕ)
+    (ten : length c ≡ 10) (most : n ≤ 10) (below : S < 2 ^ n) (few : Few (take n c) points) (marks : MarksOf (take n c) points S counts phi adopters) {k : ℕ} {list : List ℕ}
+    (listing : Listing (take n c) counts phi n S (arcs_by (take n c) (marks_in counts phi adopters) S) k list) (g : List Float) where
   abbrev cs : List Circle
-  cs = circles_in c n
+  cs = take n c
 
   take_mapped : {A B : Type 0} (f : A → B) (j : ℕ) (l : List A) → take j (map f l) ≡ map f (take j l)
   take_mapped f zero l = refl
   take_mapped f (suc j) [] = refl
   take_mapped f (suc j) (x ∷ l) = ap (λ t. f x ∷ t) (take_mapped f j l)
 
-  first_of : take m list ≡ take arcs_held (take k list)
-  first_of = by (ltb k arcs_held) refl
-    where
-      by : (b : Bool) → ltb k arcs_held ≡ b → take m list ≡ take arcs_held (take k list)
-      by true e =
-          let h = ltb-true k arcs_held e in
-          let same : m ≡ k = omega (arith, em, h) in
-          ap (λ (j : ℕ). take j list) same ∙ sym (take_all arcs_held (take k list) (omega (arith, h, length-take k list)))
-      by false e =
-          let h = ltb-false k arcs_held e in
-          let same : m ≡ arcs_held = omega (arith, em, h) in
-          ap (λ (j : ℕ). take j list) same ∙ sym (take-take arcs_held k list h)
+  abbrev listed : List ℕ
+  listed = take arcs_held (take k list)
 
-  arcs_are : map (arc_at cs counts phi) (take m list) ≡ region_arcs cs points S
+  arcs_are : map (arc_at cs counts phi) listed ≡ region_arcs cs points S
   unfolding region_arcs
   arcs_are =
-      ap (map (arc_at cs counts phi)) first_of ∙ sym (take_mapped (arc_at cs counts phi) arcs_held (take k list))
-      ∙ ap (take arcs_held) (said c n points S counts phi adopters most below few marks listing)
+      sym (take_mapped (arc_at cs counts phi) arcs_held (take k list))
+      ∙ ap (take arcs_held) (said c n points S counts phi adopters ten most below few marks listing)
 
-  heads : Every (λ p. head_of p < length cs) (take m list)
-  heads = rw first_of (every_take (λ p. head_of p < length cs) arcs_held (take k list) (heads-in c n points S counts phi adopters most below few marks listing))
+  heads : Every (λ p. head_of p < length cs) listed
+  heads = (every_take (λ p. head_of p < length cs) arcs_held (take k list) (heads-in c n points S counts phi adopters ten most below few marks listing))
 
-  pub row_open_with : {sum : Float} {grad : List Float} → sum ≡ foldl (add_terms cs counts phi) zero64 (take m list) → grad ≡ foldl (add_slopes_at cs counts phi) g (take m list)
+  pub row_open_with : {sum : Float} {grad : List Float} → sum ≡ foldl (add_terms cs counts phi) zero64 listed → grad ≡ foldl (add_slopes_at cs counts phi) g listed
       → with_gradient (half64 *ᶠ sum) grad ≡ with_gradient (area_of cs (region_arcs cs points S)) (add_gradient cs g (region_arcs cs points S))
   unfolding area_of
   row_open_with es eg =
-      rw (es, eg, sum_open cs counts phi (take m list) heads zero64, slopes_sum cs counts phi (take m list) heads g, arcs_are)
+      rw (es, eg, sum_open cs counts phi listed heads zero64, slopes_sum cs counts phi listed heads g, arcs_are)
 
   pub row_in_box_with : (box : Bounds) (own : List Circle) {total sum : Float} {grad grad' : List Float} → empty_box box ≡ false
-      → with_gradient total grad ≡ foldl (add_parts_at box cs counts phi) (with_gradient zero64 g) (take m list)
+      → with_gradient total grad ≡ foldl (add_parts_at box cs counts phi) (with_gradient zero64 g) listed
       → with_gradient sum grad' ≡ add_edges_with_gradient box own (n * 3) (with_gradient total grad)
       → with_gradient (half64 *ᶠ sum) grad' ≡ clipped_with_gradient box cs own (region_arcs cs points S) g
   row_in_box_with box own {sum = sum} {grad' = grad'} open-box ea ee =
       gradient_by_sum box cs own (region_arcs cs points S) g (with_gradient sum grad') open-box
-      (ee ∙ rw (circles_many c n, ea, parts_sum cs counts phi box (take m list) heads (with_gradient zero64 g), arcs_are))
-
--- the first 180 of a list of which so much holds
-pub every_first : (P : ℕ → Type 0) (k m : ℕ) (list : List ℕ) → m ≡ min k arcs_held → Every P (take k list) → Every P (take m list)
-every_first P k m list em h = rw (sym (take-take m k list (omega (arith, em)))) (every_take P m (take k list) h)
-
--- what is held for more heads serves fewer
-pub worth_with_less : {clipped : Bool} {box : Bounds} {circles : List Circle} {needed : ℕ} {counts : List ℕ} {phi xs ys rs us vs ws : List Float} {first many : List ℕ} {stop : ℕ}
-    {reach : List ℕ} {low high : List Float} (S : ℕ) → Subset S needed → WorthWith clipped box circles needed counts phi xs ys rs us vs ws first many stop reach low high
-    → WorthWith clipped box circles S counts phi xs ys rs us vs ws first many stop reach low high
-worth_with_less S within held =
-    record {
-      parts = λ e. parts_less S within (held.parts e);
-      chords = λ e. chorded_less S within (held.chords e);
-      terms = λ e. three_less S within (held.terms e);
-      slopes = λ e. three_less S within (held.slopes e);
-    }
+      (ee ∙ rw (first_many c n ten most, ea, parts_sum cs counts phi box listed heads (with_gradient zero64 g), arcs_are))

@@ -11,14 +11,14 @@ use lib.Seq.{get_or-take}
 use lib.Ieee.{Float, nan}
 use Rattle.masks.specs.Mask.{in_set, Subset}
 use Rattle.masks.specs.Subset.{and_both, subset_head}
-use Rattle.lists.specs.Every.{Every, every_map, every_at}
+use Rattle.lists.specs.Every.{Every, every_map}
 use Rattle.lists.proofs.Folds.{fold_related}
 use Rattle.binary64.specs.Constants.{zero64, half64}
 use Rattle.binary64.specs.Floats.{◌+ᶠ◌, ◌*ᶠ◌}
 use Rattle.geometry.specs.declared.bounds.Bounds.{Bounds}
 use Rattle.geometry.specs.declared.circle.Circle.{Circle}
 use Rattle.intersections.specs.declared.points.IntersectionPoint.{IntersectionPoint}
-use Rattle.intersections.specs.Members.{heads_of, circle_at, members_of}
+use Rattle.intersections.specs.Members.{heads_of, circle_at, members_of, no_circle}
 use Rattle.intersections.specs.Counts.{heads_below}
 use Rattle.intersections.proofs.Masks.{head_below}
 use Rattle.boundary.specs.declared.arcs.BoundaryArc.{BoundaryArc}
@@ -30,8 +30,6 @@ use Rattle.outline.proofs.Walking.{circles_of_members, members_many}
 use Rattle.clip.specs.Area.{empty_box, add_clipped_arc, add_clipped_arcs, add_edges, clipped_area_of, clipped_area}
 use Rattle.clip.proofs.Naming.{Below, outline_named}
 use Rattle.clip.proofs.Summing.{arcs-sum, clipped_sum}
-use Rattle.gaps.specs.Gaps.{circle_in, circles_in}
-use Rattle.gaps.proofs.Circles.{circles_many, circle-of}
 use Rattle.sums.specs.Walk.{marks_in, Few, arcs_by, next_place, gap_arc, arc_at, Placed, Listing, Ready}
 use Rattle.sums.proofs.Members.{marks_of, arcs_are, arcs_same}
 use Rattle.outline.specs.Terms.{term_x, term_y, term_r}
@@ -92,12 +90,16 @@ arc_head circles counts phi p = by (ltb p 320) (ltb p 330)
     by false true = refl
     by false false = refl
 
+-- of ten circles the first n
+pub first_many : (c : List Circle) (n : ℕ) → length c ≡ 10 → n ≤ 10 → length (take n c) ≡ n
+first_many c n ten most = omega (arith, length-take n c, ten, most)
+
 -- a term of it, as code finds its circle and the arc
-pub term_is : (term : Circle → BoundaryArc → Float) (c : List Float) (n : ℕ) (counts : List ℕ) (phi : List Float) (p : ℕ) {circle : Circle} {arc : BoundaryArc}
-    → head_of p < n → circle ≡ circle_in c (head_of p) → ((circles : List Circle) → arc ≡ arc_at circles counts phi p)
-    → term circle arc ≡ term_of term (circles_in c n) counts phi p
+pub term_is : (term : Circle → BoundaryArc → Float) (c : List Circle) (n : ℕ) (counts : List ℕ) (phi : List Float) (p : ℕ) {circle : Circle} {arc : BoundaryArc}
+    → head_of p < n → circle ≡ get_or c (head_of p) no_circle → ((circles : List Circle) → arc ≡ arc_at circles counts phi p)
+    → term circle arc ≡ term_of term (take n c) counts phi p
 unfolding term_of
-term_is term c n counts phi p h ec ea = rw (ea (circles_in c n), ec, sym (circle-of c n (head_of p) h))
+term_is term c n counts phi p h ec ea = rw (ea (take n c), ec, sym (get_or-take n c (head_of p) no_circle h))
 
 -- ---- which arcs are held
 
@@ -179,11 +181,11 @@ module _ {term_a term_b term_c : Circle → BoundaryArc → Float} {places neede
       }
 
   -- those of one more arc, as code finds its circle and the arc
-  pub three_put : (c : List Float) (n : ℕ) {p : ℕ} → ThreeTo term_a term_b term_c places needed (circles_in c n) counts phi xs ys rs p
-      → 330 ≤ places → p < 330 → head_of p < n → {circle : Circle} {arc : BoundaryArc} → circle ≡ circle_in c (head_of p)
+  pub three_put : (c : List Circle) (n : ℕ) {p : ℕ} → ThreeTo term_a term_b term_c places needed (take n c) counts phi xs ys rs p
+      → 330 ≤ places → p < 330 → head_of p < n → {circle : Circle} {arc : BoundaryArc} → circle ≡ get_or c (head_of p) no_circle
       → ((circles : List Circle) → arc ≡ arc_at circles counts phi p) → {x y r : Float} → x ≡ term_a circle arc → y ≡ term_b circle arc
       → r ≡ term_c circle arc
-      → ThreeTo term_a term_b term_c places needed (circles_in c n) counts phi (set xs p x) (set ys p y) (set rs p r) (p + 1)
+      → ThreeTo term_a term_b term_c places needed (take n c) counts phi (set xs p x) (set ys p y) (set rs p r) (p + 1)
   three_put c n {p} so_far room low head ec ea ex ey er =
       record {
         x_long = length-set xs p _ ∙ so_far.x_long;
@@ -205,11 +207,6 @@ module _ {term_a term_b term_c : Circle → BoundaryArc → Float} {places neede
       }
 
 -- ---- the arcs of a set are known
-
--- what is known of the first k of a list is known of each
-pub every_listed : (P : ℕ → Type 0) (k : ℕ) (list : List ℕ) (i : ℕ) → i < k → k ≤ length list → Every P (take k list) → P (get_or list i 0)
-every_listed P k list i h long every =
-    rw (get_or-take k list i 0 h) at (every_at P (take k list) i 0 (omega (arith, length-take k list)) every)
 
 -- every arc of a set is one of a head of the set
 pub head_placed : (n S : ℕ) (counts : List ℕ) (p : ℕ) → Placed n S counts p → head_of p < n
@@ -370,22 +367,22 @@ area_of_none box circles points S e = rw e
 -- ---- the area of a set whose arcs the walk has listed
 
 -- the arrays are ready for the heads of S, so the angles of these have places
-pub ready_roomy : (c : List Float) (n S : ℕ) (counts owners : List ℕ) (phi : List Float) (lets : List ℕ) → Ready (circles_in c n) S counts owners phi lets → Roomy n S counts
-ready_roomy c n S counts owners phi lets ready j h i = (ready j (rw (circles_many c n) h) i).few
+pub ready_roomy : (c : List Circle) (n S : ℕ) → length c ≡ 10 → n ≤ 10 → (counts owners : List ℕ) (phi : List Float) (lets : List ℕ) → Ready (take n c) S counts owners phi lets → Roomy n S counts
+ready_roomy c n S ten most counts owners phi lets ready j h i = (ready j (rw (first_many c n ten most) h) i).few
 
-module _ (c : List Float) (n : ℕ) (points : List IntersectionPoint) (S : ℕ) (counts : List ℕ) (phi : List Float) (adopters : List ℕ)
-    (most : n ≤ 10) (below : S < 2 ^ n) (few : Few (circles_in c n) points) (marks : MarksOf (circles_in c n) points S counts phi adopters) {k : ℕ} {list : List ℕ}
-    (listing : Listing (circles_in c n) counts phi n S (arcs_by (circles_in c n) (marks_in counts phi adopters) S) k list) where
+module _ (c : List Circle) (n : ℕ) (points : List IntersectionPoint) (S : ℕ) (counts : List ℕ) (phi : List Float) (adopters : List ℕ)
+    (ten : length c ≡ 10) (most : n ≤ 10) (below : S < 2 ^ n) (few : Few (take n c) points) (marks : MarksOf (take n c) points S counts phi adopters) {k : ℕ} {list : List ℕ}
+    (listing : Listing (take n c) counts phi n S (arcs_by (take n c) (marks_in counts phi adopters) S) k list) where
   abbrev pub cs : List Circle
-  cs = circles_in c n
+  cs = take n c
 
   pub said : map (arc_at cs counts phi) (take k list) ≡ map (numbered (heads_of (length cs) S)) (outline (members_of cs points S))
   said =
       listing.said ∙ arcs_same cs (marks_in counts phi adopters) (marks_of cs points) S marks
-      ∙ arcs_are cs points S (rw (circles_many c n) below) few (omega (arith, circles_many c n))
+      ∙ arcs_are cs points S (rw (first_many c n ten most) below) few (omega (arith, first_many c n ten most))
 
   pub heads-in : Every (λ p. head_of p < length cs) (take k list)
-  heads-in = every_map (take k list) (λ p h. omega (arith, h, circles_many c n)) (heads_placed n S counts (take k list) listing.placed)
+  heads-in = every_map (take k list) (λ p h. omega (arith, h, first_many c n ten most)) (heads_placed n S counts (take k list) listing.placed)
 
   pub row_in_box : (box : Bounds) {sum edges : Float} → empty_box box ≡ false
       → sum ≡ foldl (add_one (term_of (clipped_arc_integral box) cs counts phi)) zero64 (take k list)

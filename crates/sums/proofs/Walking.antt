@@ -8,6 +8,7 @@ use native.Mathlib.Nat.{le_trans, le_of_eq}
 use native.Mathlib.Numerals.{add-one}
 use native.Mathlib.Omega.{arith}
 use borrow.Author.Tests.{ltb-true, ltb-false, lt-ltb, le-ltb, eq-eqb, ne_eqb}
+use Rattle.std.specs.Prelude.{Option, None, Some}
 use lib.Bits.{bit_and}
 use lib.Count.{ones, count_trailing_zeros}
 use lib.Dec.{eqb, ltb}
@@ -28,8 +29,8 @@ use Rattle.intersections.specs.Members.{circle_at}
 use Rattle.boundary.specs.declared.arcs.BoundaryArc.{BoundaryArc}
 use Rattle.boundary.specs.Outline.{gap, between, full_circle, probe}
 use Rattle.boundary.specs.Marks.{Mark, mark, no_mark, marks_from}
-use Rattle.gaps.specs.Gaps.{owned_in, is_arc, next_of, no_arc, gap_number}
-use Rattle.gaps.proofs.Circles.{next_is}
+use Rattle.gaps.specs.Gaps.{owned_in, is_arc, next_of, gap_number}
+use Rattle.gaps.proofs.Next.{next_is}
 use Rattle.gaps.proofs.Numbering.{by_cases}
 use Rattle.gaps.proofs.Owning.{lt_or_eq}
 use Rattle.sums.specs.Marks.{adopted_by, angles_in}
@@ -173,19 +174,17 @@ module _ (circles : List Circle) (counts : List ℕ) (phi : List Float) (lets : 
   abbrev phi_b : Float
   phi_b = get_or phi (j * 32 + b) nan
 
-  -- the number p is no arc's and the list stays, or it is put on the list
-  abbrev Numbered : ℕ → Type 0
-  Numbered p =
-      (p ≡ no_arc → Listing circles counts phi n S (arcs ++ gap_in circles S j phi_a phi_b) k list)
-      × ((p ≡ no_arc → ⊥) → Listing circles counts phi n S (arcs ++ gap_in circles S j phi_a phi_b) (k + 1) (set list k p))
+  -- the gap has no number and the list stays, or its number is put on the list
+  abbrev pub Numbered : Option ℕ → Type 0
+  Numbered None = Listing circles counts phi n S (arcs ++ gap_in circles S j phi_a phi_b) k list
+  Numbered (Some p) = Listing circles counts phi n S (arcs ++ gap_in circles S j phi_a phi_b) (k + 1) (set list k p)
 
-  left_out : is_arc circles S j phi_a phi_b ≡ false → Numbered no_arc
-  left_out e = (λ _. list_same circles counts phi n S arcs k list l _ (gap_no circles S j phi_a phi_b e), λ f. absurd (f refl))
+  left_out : is_arc circles S j phi_a phi_b ≡ false → Numbered None
+  left_out e = list_same circles counts phi n S arcs k list l _ (gap_no circles S j phi_a phi_b e)
 
-  put_on : (p : ℕ) → p < no_arc → arc_at circles counts phi p ≡ between j (circle_at circles j) phi_a (gap phi_a phi_b) → Placed n S counts p
-      → is_arc circles S j phi_a phi_b ≡ true → Numbered p
-  put_on p h is placed e =
-      (λ f. absurd (omega (arith, f, h)), λ _. list_more circles counts phi n S arcs k list l p _ _ room is placed (gap_yes circles S j phi_a phi_b e))
+  put_on : (p : ℕ) → arc_at circles counts phi p ≡ between j (circle_at circles j) phi_a (gap phi_a phi_b) → Placed n S counts p
+      → is_arc circles S j phi_a phi_b ≡ true → Numbered (Some p)
+  put_on p is placed e = list_more circles counts phi n S arcs k list l p _ _ room is placed (gap_yes circles S j phi_a phi_b e)
 
   -- between neighbours, by who lets the head have it
   module _ (next : b ≡ next_of a (get_or counts j 0)) where
@@ -198,9 +197,9 @@ module _ (circles : List Circle) (counts : List ℕ) (phi : List Float) (lets : 
         ∙ ap (λ m. eqb (bit_and S m) S) held ∙ arc_by_mask circles S j (rw many below) in-S phi_a (get_or phi (j * 32 + (a + 1) % get_or counts j 0) nan)
         ∙ ap (λ m. is_arc circles S j phi_a (get_or phi (j * 32 + m) nan)) (sym after)
 
-    neighbour : (s : Bool) → subset 64 S (get_or lets (j * 32 + a) 0) ≡ s → Numbered (cond s (j * 32 + a) no_arc)
+    neighbour : (s : Bool) → subset 64 S (get_or lets (j * 32 + a) 0) ≡ s → Numbered (cond s (Some (j * 32 + a)) None)
     neighbour true e =
-        put_on (j * 32 + a) (omega (arith, most, head, few, ha))
+        put_on (j * 32 + a)
         (neighbour_arc circles counts phi j a (omega (arith, few, ha)) (omega (arith, most, head))
         ∙ ap (λ m. between j (circle_at circles j) phi_a (gap phi_a (get_or phi (j * 32 + m) nan))) (sym after))
         (neighbour_placed circles counts phi j a (omega (arith, few, ha)) n S most head in-S ha)
@@ -208,18 +207,16 @@ module _ (circles : List Circle) (counts : List ℕ) (phi : List Float) (lets : 
     neighbour false e = left_out (sym by_mask ∙ e)
 
   -- any other, worked out
-  other : (s : Bool) → is_arc circles S j phi_a phi_b ≡ s → Numbered (cond s (330 + (j * 32 + a) * 320 + (j * 32 + b)) no_arc)
+  other : (s : Bool) → is_arc circles S j phi_a phi_b ≡ s → Numbered (cond s (Some (330 + (j * 32 + a) * 320 + (j * 32 + b))) None)
   other true e =
-      put_on (330 + (j * 32 + a) * 320 + (j * 32 + b)) (omega (arith, most, head, few, ha, hb))
+      put_on (330 + (j * 32 + a) * 320 + (j * 32 + b))
       (other_arc circles counts phi j a (omega (arith, few, ha)) b (omega (arith, most, head)) (omega (arith, few, hb)))
       (other_placed counts n S j a b most head in-S few ha hb)
       e
   other false e = left_out e
 
   -- what the number says of the list
-  pub gap_listed : {p : ℕ} → p ≡ gap_number circles phi lets S j (get_or counts j 0) a b
-      → (p ≡ no_arc → Listing circles counts phi n S (arcs ++ gap_in circles S j (get_or phi (j * 32 + a) nan) (get_or phi (j * 32 + b) nan)) k list)
-      × ((p ≡ no_arc → ⊥) → Listing circles counts phi n S (arcs ++ gap_in circles S j (get_or phi (j * 32 + a) nan) (get_or phi (j * 32 + b) nan)) (k + 1) (set list k p))
+  pub gap_listed : {number : Option ℕ} → number ≡ gap_number circles phi lets S j (get_or counts j 0) a b → Numbered number
   gap_listed e =
       subst Numbered (sym e)
       (by_cases circles phi lets S j (get_or counts j 0) a b (omega (arith, many, head)) (omega (arith, few, ha)) (omega (arith, few, hb)) Numbered neighbour other)
@@ -277,14 +274,15 @@ module _ (S : ℕ) (phi : List Float) (adopters : List ℕ) (at n : ℕ) where
   no_angle first x h = skip 0 first x ∙ none_left first h
 
   -- the first angle, and any other with those after it
-  first_is : (first b : ℕ) → NextIn S adopters at 0 n first → first < n → NextIn S adopters at (first + 1) n b
-      → angles_in S (marks_from phi adopters at n) ≡ get_or phi (at + first) nan ∷ angles_beyond b
-  first_is first b x h y =
-      skip 0 first x ∙ adopted_here first h (x.here h) ∙ ap (λ l. get_or phi (at + first) nan ∷ l) (skip (suc first) b (rw (add-one first) at y))
+  first_is : (first : ℕ) → NextIn S adopters at 0 n first → first < n
+      → angles_in S (marks_from phi adopters at n) ≡ get_or phi (at + first) nan ∷ angles_beyond (first + 1)
+  first_is first x h = skip 0 first x ∙ adopted_here first h (x.here h) ∙ ap (λ m. get_or phi (at + first) nan ∷ angles_beyond m) (sym (add-one first))
 
-  next_angle : (b r : ℕ) → b < n → subset 64 S (get_or adopters (at + b) 0) ≡ true → NextIn S adopters at (b + 1) n r
-      → angles_beyond b ≡ get_or phi (at + b) nan ∷ angles_beyond r
-  next_angle b r h e x = adopted_here b h e ∙ ap (λ l. get_or phi (at + b) nan ∷ l) (skip (suc b) r (rw (add-one b) at x))
+  next_angle : (b : ℕ) → b < n → subset 64 S (get_or adopters (at + b) 0) ≡ true → angles_beyond b ≡ get_or phi (at + b) nan ∷ angles_beyond (b + 1)
+  next_angle b h e = adopted_here b h e ∙ ap (λ m. get_or phi (at + b) nan ∷ angles_beyond m) (sym (add-one b))
+
+  no_next : (b : ℕ) → b < n → subset 64 S (get_or adopters (at + b) 0) ≡ false → angles_beyond b ≡ angles_beyond (b + 1)
+  no_next b h e = skipped b h e ∙ ap angles_beyond (sym (add-one b))
 
 -- ---- the walk round one head
 
@@ -319,14 +317,12 @@ pub listing_self : (circles : List Circle) (counts : List ℕ) (phi : List Float
     → Listing circles counts phi n S arcs k list → Listing circles counts phi n S (arcs_of circles counts phi k list) k list
 listing_self circles counts phi n S arcs k list l = record { long = l.long; said = refl; placed = l.placed }
 
--- The gaps up to the angle `last` are listed, and those from it on give the rest; b is the next place that S adopts.
+-- The gaps up to the angle `last` are listed, and those from it on give the rest: S adopts no place after it and before b.
 pub record Round (circles : List Circle) (counts : List ℕ) (phi : List Float) (adopters : List ℕ) (n S j first : ℕ) (whole : List BoundaryArc)
     (list : List ℕ) (r last b : ℕ) : Type 0 where
   pub first_below : first < get_or counts j 0
   pub last_below : last < get_or counts j 0
-  pub within : b ≤ get_or counts j 0
   pub past : last < b
-  pub here : b < get_or counts j 0 → subset 64 S (get_or adopters (j * 32 + b) 0) ≡ true
   pub room : r ≤ j * 32 + last
   pub kept : Listing circles counts phi n S (arcs_of circles counts phi r list) r list
   pub rest :
@@ -359,48 +355,60 @@ module _ (circles : List Circle) (counts : List ℕ) (phi : List Float) (adopter
     whole_left s =
         rw no_angles (list_same circles counts phi n S (arcs_of circles counts phi k list) k list l (head_in circles S j []) (whole_no circles S j m below em s))
 
-  pub round_start : (first b k : ℕ) (list : List ℕ) → NextIn S adopters (j * 32) 0 (get_or counts j 0) first → first < get_or counts j 0
-      → NextIn S adopters (j * 32) (first + 1) (get_or counts j 0) b → k ≤ j * 32 → Listing circles counts phi n S (arcs_of circles counts phi k list) k list
-      → Round circles counts phi adopters n S j first (with_head k list) list k first b
-  round_start first b k list x h y room l =
+  pub round_start : (first k : ℕ) (list : List ℕ) → NextIn S adopters (j * 32) 0 (get_or counts j 0) first → first < get_or counts j 0
+      → k ≤ j * 32 → Listing circles counts phi n S (arcs_of circles counts phi k list) k list
+      → Round circles counts phi adopters n S j first (with_head k list) list k first (first + 1)
+  round_start first k list x h room l =
       record {
         first_below = h;
         last_below = h;
-        within = y.within;
-        past = omega (arith, y.past);
-        here = y.here;
+        past = omega arith;
         room = omega (arith, room);
         kept = l;
         rest =
             ap (λ t. arcs_of circles counts phi k list ++ t)
-            (sym (ap (head_in circles S j) (first_is S phi adopters (j * 32) (get_or counts j 0) first b x h y)
-            ∙ head_gaps circles S j (get_or phi (j * 32 + first) nan) (angles_beyond S phi adopters (j * 32) (get_or counts j 0) b)));
+            (sym (ap (head_in circles S j) (first_is S phi adopters (j * 32) (get_or counts j 0) first x h)
+            ∙ head_gaps circles S j (get_or phi (j * 32 + first) nan) (angles_beyond S phi adopters (j * 32) (get_or counts j 0) (first + 1))));
       }
 
   module _ (first : ℕ) (whole : List BoundaryArc) (list : List ℕ) (r last b : ℕ) (w : Round circles counts phi adopters n S j first whole list r last b) where
-    pub round_next : (list' : List ℕ) (r' b' : ℕ) → b < get_or counts j 0 → r' ≤ r + 1
+    -- S does not adopt b
+    pub round_skips : b < get_or counts j 0 → subset 64 S (get_or adopters (j * 32 + b) 0) ≡ false
+        → Round circles counts phi adopters n S j first whole list r last (b + 1)
+    round_skips few none =
+        record {
+          first_below = w.first_below;
+          last_below = w.last_below;
+          past = omega (arith, w.past);
+          room = w.room;
+          kept = w.kept;
+          rest =
+              ap (λ t. arcs_of circles counts phi r list ++ gaps_in circles S j (get_or phi (j * 32 + first) nan) (get_or phi (j * 32 + last) nan ∷ t))
+              (sym (no_next S phi adopters (j * 32) (get_or counts j 0) b few none))
+              ∙ w.rest;
+        }
+
+    -- it does
+    pub round_next : (list' : List ℕ) (r' : ℕ) → b < get_or counts j 0 → subset 64 S (get_or adopters (j * 32 + b) 0) ≡ true → r' ≤ r + 1
         → Listing circles counts phi n S (arcs_of circles counts phi r list ++ gap_in circles S j (get_or phi (j * 32 + last) nan) (get_or phi (j * 32 + b) nan)) r'
         list'
-        → NextIn S adopters (j * 32) (b + 1) (get_or counts j 0) b'
-        → Round circles counts phi adopters n S j first whole list' r' b b'
-    round_next list' r' b' h few l x =
+        → Round circles counts phi adopters n S j first whole list' r' b (b + 1)
+    round_next list' r' h here few l =
         let f = get_or phi (j * 32 + first) nan in
         let a = get_or phi (j * 32 + last) nan in
         let more = get_or phi (j * 32 + b) nan in
-        let rest = angles_beyond S phi adopters (j * 32) (get_or counts j 0) b' in
+        let rest = angles_beyond S phi adopters (j * 32) (get_or counts j 0) (b + 1) in
         record {
           first_below = w.first_below;
           last_below = h;
-          within = x.within;
-          past = omega (arith, x.past);
-          here = x.here;
+          past = omega arith;
           room = omega (arith, w.room, w.past, few);
           kept = listing_self circles counts phi n S _ r' list' l;
           rest =
               ap (λ t. t ++ gaps_in circles S j f (more ∷ rest)) l.said
               ∙ append_assoc (arcs_of circles counts phi r list) (gap_in circles S j a more) (gaps_in circles S j f (more ∷ rest))
               ∙ ap (λ t. arcs_of circles counts phi r list ++ t)
-              (sym (ap (λ t. gaps_in circles S j f (a ∷ t)) (next_angle S phi adopters (j * 32) (get_or counts j 0) b b' h (w.here h) x)
+              (sym (ap (λ t. gaps_in circles S j f (a ∷ t)) (next_angle S phi adopters (j * 32) (get_or counts j 0) b h here)
               ∙ gaps_step circles S j f a more rest))
               ∙ w.rest;
         }

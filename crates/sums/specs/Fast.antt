@@ -1,30 +1,38 @@
--- What is worked out once for all rows of a pass, and which rows it serves.
-use Rattle.std.specs.Prelude.{ℕ, ◌<◌, ◌≡◌, Bool, true, false, cond, List, eqb, Float}
+-- What is worked out once for all rows of a pass, and what the row of a set asks of it.
+use Rattle.std.specs.Prelude.{ℕ, ◌<◌, ◌≤◌, ◌^◌, ◌≡◌, true, List, length, take, Float}
 use Rattle.masks.specs.Presence.{stands}
 use Rattle.geometry.specs.declared.bounds.Bounds.{Bounds}
 use Rattle.geometry.specs.declared.circle.Circle.{Circle}
+use Rattle.intersections.specs.declared.points.IntersectionPoint.{IntersectionPoint}
 use Rattle.inside.specs.Parts.{clipped_arc_integral}
+use Rattle.chords.specs.declared.fill.Chords.{Chords}
 use Rattle.chords.specs.Chords.{Chorded}
-use Rattle.sums.specs.Values.{term_of, Valued, TermsValued}
-use Rattle.sums.specs.Walk.{Ready}
-
--- the centre and the radius of a circle, by number
-unfoldable pub number_of : Circle → ℕ → Float
-number_of c i = cond (eqb i 0) c.center.x (cond (eqb i 1) c.center.y c.radius)
+use Rattle.sums.specs.declared.fill.Marks.{Marks}
+use Rattle.sums.specs.declared.terms.Three.{Three}
+use Rattle.sums.specs.Values.{term_of, Valued, TermsValued, MarksOf}
+use Rattle.sums.specs.Walk.{Few, Ready}
 
 -- P holds of every row below count that is wanted
 abbrev pub OfWanted : List ℕ → ℕ → (ℕ → Type 0) → Type 0
 OfWanted wanted count P = (S : ℕ) → S < count → stands wanted S ≡ true → P S
 
--- what the arcs of the heads of S add, in the box with the chords of these heads
-pub record Worth (clipped : Bool) (box : Bounds) (circles : List Circle) (S : ℕ) (counts : List ℕ) (phi xs ys rs : List Float) (reach : List ℕ) (low high : List Float)
-    : Type 0 where
-  pub integrals : clipped ≡ true → Valued S counts (term_of (clipped_arc_integral box) circles counts phi) xs
-  pub chords : clipped ≡ true → Chorded box circles S reach low high
-  pub terms : clipped ≡ false → TermsValued S circles counts phi xs ys rs
+-- The marks of the heads of S are those of these points, of which no head has more than there are places.
+abbrev pub Told : List Circle → Marks → List IntersectionPoint → ℕ → Type 0
+Told circles marks points S = Few circles points × MarksOf circles points S marks.counts marks.phi marks.adopters
 
--- all that the row of S asks of the arrays
-pub record RowReady (clipped : Bool) (box : Bounds) (circles : List Circle) (S : ℕ) (counts owners : List ℕ) (phi : List Float) (lets : List ℕ) (xs ys rs : List Float)
-    (reach : List ℕ) (low high : List Float) : Type 0 where
-  pub ready : Ready circles S counts owners phi lets
-  pub worth : Worth clipped box circles S counts phi xs ys rs reach low high
+-- all that the row of S asks without a box: the marks of its heads, and the terms of their arcs
+pub record OpenReady (circles : List Circle) (n : ℕ) (marks : Marks) (terms : Three) (S : ℕ) : Type 0 where
+  pub ten : length circles ≡ 10
+  pub most : n ≤ 10
+  pub below : S < 2 ^ n
+  pub ready : Ready (take n circles) S marks.counts marks.owners marks.phi marks.lets
+  pub valued : TermsValued S (take n circles) marks.counts marks.phi terms.xs terms.ys terms.rs
+
+-- and in the box: the integrals of the arcs, and the chords of the heads
+pub record BoxReady (box : Bounds) (circles : List Circle) (n : ℕ) (marks : Marks) (value : List Float) (chords : Chords) (S : ℕ) : Type 0 where
+  pub ten : length circles ≡ 10
+  pub most : n ≤ 10
+  pub below : S < 2 ^ n
+  pub ready : Ready (take n circles) S marks.counts marks.owners marks.phi marks.lets
+  pub valued : Valued S marks.counts (term_of (clipped_arc_integral box) (take n circles) marks.counts marks.phi) value
+  pub chorded : Chorded box (take n circles) S chords

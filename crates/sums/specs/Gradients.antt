@@ -1,5 +1,5 @@
 -- The areas of the rows of a pass with their gradients, written in place: those that are wanted are worked out, every other number stays.
-use Rattle.std.specs.Prelude.{ℕ, min, ◌*◌, ◌/◌, ◌≡◌, Bool, true, false, cond, List, map, eqb, Float, length, replicate, take, drop}
+use Rattle.std.specs.Prelude.{ℕ, min, ◌*◌, ◌/◌, ◌^◌, ◌<◌, ◌≤◌, ◌≡◌, Bool, cond, List, map, eqb, Float, length, replicate, take, drop}
 use Rattle.std.specs.Float.{nan}
 use Rattle.lists.specs.Written.{written}
 use Rattle.binary64.specs.Constants.{zero64}
@@ -11,9 +11,13 @@ use Rattle.intersections.specs.Members.{heads_of, circle_at}
 use Rattle.boundary.specs.Set.{region_arcs}
 use Rattle.outline.specs.Area.{area_of, add_gradient}
 use Rattle.clip.specs.Gradient.{WithGradient, with_gradient, clipped_with_gradient}
+use Rattle.chords.specs.declared.fill.Chords.{Chords}
 use Rattle.chords.specs.Chords.{Chorded}
+use Rattle.sums.specs.declared.fill.Marks.{Marks}
+use Rattle.sums.specs.declared.terms.Three.{Three}
+use Rattle.sums.specs.declared.shares.Parts.{Parts}
 use Rattle.sums.specs.Rows.{rows_of, number_at}
-use Rattle.sums.specs.Values.{TermsValued}
+use Rattle.sums.specs.Fast.{OpenReady}
 use Rattle.sums.specs.Slopes.{SlopesValued, PartsValued}
 use Rattle.sums.specs.Walk.{Ready}
 
@@ -28,6 +32,9 @@ abbrev pub set_onto : Bool → Bounds → List Circle → List IntersectionPoint
 set_onto clipped box circles points S g = cond clipped (clipped_onto box circles points S g) (open_onto circles points S g)
 
 -- onto a row of +0
+abbrev pub row_anew : (ℕ → List Float → WithGradient) → ℕ → ℕ → WithGradient
+row_anew onto width S = onto S (replicate width zero64)
+
 abbrev pub row_with : Bool → Bounds → List Circle → List IntersectionPoint → ℕ → ℕ → WithGradient
 row_with clipped box circles points width S = set_onto clipped box circles points S (replicate width zero64)
 
@@ -58,16 +65,17 @@ rows_to wanted row width count gradients = written (by_row width nan (row_after 
 
 -- ---- what is worked out once for all rows
 
--- what the arcs of the heads of S add: in the box shares and integrals with the chords of these heads, without it slopes and terms
-pub record WorthWith (clipped : Bool) (box : Bounds) (circles : List Circle) (S : ℕ) (counts : List ℕ) (phi xs ys rs us vs ws : List Float) (first many : List ℕ) (stop : ℕ)
-    (reach : List ℕ) (low high : List Float) : Type 0 where
-  pub parts : clipped ≡ true → PartsValued box circles S counts phi first many xs us vs ws stop
-  pub chords : clipped ≡ true → Chorded box circles S reach low high
-  pub terms : clipped ≡ false → TermsValued S circles counts phi xs ys rs
-  pub slopes : clipped ≡ false → SlopesValued S circles counts phi us vs ws
+-- all that the row of S asks without a box: that of its area, and the slopes of the arcs
+pub record OpenReadyWith (circles : List Circle) (n : ℕ) (marks : Marks) (terms slopes : Three) (S : ℕ) : Type 0 where
+  pub open_ready : OpenReady circles n marks terms S
+  pub sloped : SlopesValued S (take n circles) marks.counts marks.phi slopes.xs slopes.ys slopes.rs
 
--- all that the row of S asks of the arrays
-pub record ReadyWith (clipped : Bool) (box : Bounds) (circles : List Circle) (S : ℕ) (counts owners : List ℕ) (phi : List Float) (lets : List ℕ) (xs ys rs us vs ws : List Float)
-    (first many : List ℕ) (stop : ℕ) (reach : List ℕ) (low high : List Float) : Type 0 where
-  pub ready : Ready circles S counts owners phi lets
-  pub worth : WorthWith clipped box circles S counts phi xs ys rs us vs ws first many stop reach low high
+-- and in the box: the shares of the parts of the arcs, and the chords of the heads
+pub record BoxReadyWith (box : Bounds) (circles : List Circle) (n : ℕ) (marks : Marks) (parts : Parts) (chords : Chords) (S : ℕ) : Type 0 where
+  pub ten : length circles ≡ 10
+  pub most : n ≤ 10
+  pub below : S < 2 ^ n
+  pub ready : Ready (take n circles) S marks.counts marks.owners marks.phi marks.lets
+  pub valued : PartsValued box (take n circles) S marks.counts marks.phi parts.first parts.many parts.sums
+      parts.shares.xs parts.shares.ys parts.shares.rs parts.stop
+  pub chorded : Chorded box (take n circles) S chords

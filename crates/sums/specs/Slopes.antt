@@ -12,7 +12,7 @@ use Rattle.boundary.specs.declared.arcs.BoundaryArc.{BoundaryArc}
 use Rattle.outline.specs.Area.{add_at, sub_at}
 use Rattle.clip.specs.Gradient.{WithGradient, with_gradient, onto, clipped_arc_integral_with_gradient}
 use Rattle.sums.specs.Walk.{arc_at}
-use Rattle.sums.specs.Values.{head_of, Readable, term_of, standing, ThreeValued, ThreeKnown}
+use Rattle.sums.specs.Values.{head_of, Readable, term_of, standing, ThreeValued}
 
 -- three numbers, in the entries of a head by x, y and radius
 unfoldable pub add_three_at : ℕ → Float → Float → Float → List Float → List Float
@@ -34,12 +34,9 @@ abbrev pub add_slopes_at : List Circle → List ℕ → List Float → List Floa
 add_slopes_at circles counts phi g p =
     add_three_at (head_of p * 3) (term_of slope_x circles counts phi p) (term_of slope_y circles counts phi p) (term_of slope_r circles counts phi p) g
 
--- what the arrays hold, and what is known of the arc of a number
+-- what the arrays hold
 abbrev pub SlopesValued : ℕ → List Circle → List ℕ → List Float → List Float → List Float → List Float → Type 0
 SlopesValued = ThreeValued slope_x slope_y slope_r
-
-abbrev pub SlopesKnown : ℕ → List Circle → List ℕ → List Float → List Float → List Float → List Float → ℕ → Type 0
-SlopesKnown = ThreeKnown slope_x slope_y slope_r
 
 -- ---- in the box
 

@@ -1,6 +1,6 @@
 -- What each arc adds to the sum of a set, by the arc's number: in the box one number, without it three. Those of an arc between
 -- neighbours and of a whole circle are the same for every set, and are held in arrays.
-use Rattle.std.specs.Prelude.{ℕ, ◌-◌, ◌/◌, ◌%◌, ◌<◌, ◌≤◌, ◌≡◌, Bool, true, ◌&&◌, cond, List, ltb, length, get_or, Float}
+use Rattle.std.specs.Prelude.{ℕ, ◌-◌, ◌/◌, ◌%◌, ◌<◌, ◌≤◌, ◌≡◌, Bool, true, false, ◌&&◌, cond, List, ltb, length, get_or, Float}
 use Rattle.std.specs.Float.{nan}
 use Rattle.masks.specs.Mask.{in_set}
 use Rattle.binary64.specs.Floats.{◌+ᶠ◌}
@@ -47,6 +47,13 @@ unfoldable pub standing : ℕ → List ℕ → ℕ → Bool
 standing needed counts p =
     cond (ltb p 320) (in_set needed (p / 32) && ltb (p % 32) (get_or counts (p / 32) 0)) (in_set needed (p - 320))
 
+-- q is the first such number from p on, or 330
+pub record NextStanding (needed : ℕ) (counts : List ℕ) (p q : ℕ) : Type 0 where
+  pub from : p ≤ q
+  pub within : q ≤ 330
+  pub none : (i : ℕ) → p ≤ i → i < q → standing needed counts i ≡ false
+  pub here : q < 330 → standing needed counts q ≡ true
+
 -- these are f of the numbers of all such arcs
 pub record Valued (needed : ℕ) (counts : List ℕ) (f : ℕ → Float) (value : List Float) : Type 0 where
   pub here : (p : ℕ) → p < 330 → standing needed counts p ≡ true → get_or value p nan ≡ f p
@@ -78,9 +85,6 @@ add_terms circles counts phi = add_three (term_of term_x circles counts phi) (te
 
 abbrev pub TermsValued : ℕ → List Circle → List ℕ → List Float → List Float → List Float → List Float → Type 0
 TermsValued = ThreeValued term_x term_y term_r
-
-abbrev pub TermsKnown : ℕ → List Circle → List ℕ → List Float → List Float → List Float → List Float → ℕ → Type 0
-TermsKnown = ThreeKnown term_x term_y term_r
 
 -- ---- what a row asks of the points
 

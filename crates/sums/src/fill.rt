@@ -1,151 +1,172 @@
 // What is worked out once a head, laid into arrays of 32 places a head. Rests on specs/Walk.antt.
-ghost use Rattle.std.specs.Prelude.{◌≡◌, true, false, ◌+◌, ◌*◌, ◌%◌, ◌<◌, ◌≤◌, min, length, get_or};
+ghost use Rattle.std.specs.Prelude.{◌≡◌, true, false, ◌+◌, ◌*◌, ◌%◌, ◌<◌, ◌≤◌, length, get_or, take};
 ghost use Rattle.std.specs.Float.{nan};
+ghost use Rattle.boundary.specs.Marks.{marks_from, Kept};
 ghost use Rattle.lists.specs.Lists.{keep};
-ghost use Rattle.intersections.specs.Counted.{point_list};
-ghost use Rattle.gaps.specs.Gaps.{circles_in};
-ghost use Rattle.sums.specs.Marks.{has_parent};
-ghost use Rattle.sums.specs.Walk.{letters, gap_letters, Few, few_points, Marked};
-ghost use Rattle.sums.specs.Filled.{Filled, Long};
+ghost use Rattle.sums.specs.Marks.{has_parent, marks_at};
+ghost use Rattle.sums.specs.Walk.{letters, gap_letters, Few, few_points};
+ghost use Rattle.sums.specs.Filled.{Filled};
+ghost use Rattle.sums.specs.Held.{AreMarked};
 
 use boundary::angles::{angle_about, collapsed, gap, point_at, probe};
 use boundary::ownership::lets;
 use boundary::sort::insert_marked;
-use gaps::places::{circle_at, next};
+use gaps::places::next;
 use geometry::circle::Circle;
 use geometry::point::Point;
-use intersections::points::{IntersectionPoint, Intersections};
+use intersections::points::IntersectionPoint;
+
+// What is worked out once a head: how many angles it has and who lets it have its probe; and with 32 places a head, its angles in order, who
+// adopts the point of each, and who lets the head have the gap from each to the next.
+#[derive(Clone, Copy)]
+pub(crate) struct Marks {
+    pub(crate) counts: [usize; 10],
+    pub(crate) owners: [usize; 10],
+    pub(crate) phi: [f64; 320],
+    pub(crate) adopters: [usize; 320],
+    pub(crate) lets: [usize; 320],
+}
+
+impl Marks {
+    // built where it is kept, and not copied there
+    #[inline(always)]
+    pub(crate) fn new() -> Marks {
+        Marks {
+            counts: [0; 10],
+            owners: [0; 10],
+            phi: [0.0; 320],
+            adopters: [0; 320],
+            lets: [0; 320],
+        }
+    }
+}
 
 // The heads that let head j have the point p of its edge.
-fn letters(c: &[f64; 30], n_sets: usize, j: usize, p: Point) -> usize
+fn letters(circles: &[Circle; 10], n_sets: usize, j: usize, p: Point) -> usize
     requires { n_sets ≤ 10 }
-    ensures { result ≡ letters (circles_in c.now n_sets) j p }
+    ensures { result ≡ letters (take n_sets circles.now) j p }
 {
     let mut mask: usize = 0;
-    let mut l: usize = 0;
-    while l < n_sets {
-        if lets(j, p, l, circle_at(c, l)) {
-            mask = mask | 1 << l;
+    for l in 0..n_sets {
+        if lets(j, p, l, circles[l]) {
+            mask |= 1 << l;
         }
-        l += 1;
     }
     mask
 }
 
 // The heads that let head j have the gap from one angle to another: nobody, where it is collapsed.
-fn gap_letters(c: &[f64; 30], n_sets: usize, j: usize, phi_a: f64, phi_b: f64) -> usize
+fn gap_letters(circles: &[Circle; 10], n_sets: usize, j: usize, phi_a: f64, phi_b: f64) -> usize
     requires { (n_sets ≤ 10) × (j < n_sets) }
-    ensures { result ≡ gap_letters (circles_in c.now n_sets) j phi_a phi_b }
+    ensures { result ≡ gap_letters (take n_sets circles.now) j phi_a phi_b }
 {
     let delta = gap(phi_a, phi_b);
     if collapsed(delta) {
         return 0;
     }
-    let circle = circle_at(c, j);
-    letters(c, n_sets, j, point_at(circle, phi_a + delta * 0.5))
+    letters(
+        circles,
+        n_sets,
+        j,
+        point_at(circles[j], phi_a + delta * 0.5),
+    )
 }
 
 fn has_parent(j: usize, q: IntersectionPoint) -> bool
     ensures { result ≡ has_parent j q }
 {
-    if q.first == j {
-        return true;
-    }
-    q.second == j
+    q.first == j || q.second == j
 }
 
-// How many the first n of ninety points are.
-fn at_most_ninety(n: usize) -> usize
-    ensures { result ≡ min n 90 }
+// How many points head j has.
+fn points_of(points: &[IntersectionPoint], j: usize) -> usize
+    ensures { result ≡ length (keep (has_parent j) points.now) }
 {
-    if n < 90 { n } else { 90 }
-}
-
-// Whether there are places for the meeting points of every head. The list stays where it is: handed on, it would be copied.
-pub(crate) fn few(points: Intersections, n_sets: usize) -> bool
-    ensures { result ≡ few_points n_sets (point_list points) }
-{
-    let n = at_most_ninety(points.n);
-    let mut j: usize = 0;
-    while j < n_sets {
-        let mut count: usize = 0;
-        let mut i: usize = 0;
-        while i < n {
-            if has_parent(j, points.all[i]) {
-                count += 1;
-            }
-            i += 1;
+    let mut count: usize = 0;
+    for q in points {
+        if has_parent(j, *q) {
+            count += 1;
         }
-        if 32 < count {
+    }
+    count
+}
+
+// Whether there are places for the meeting points of every head.
+pub(crate) fn few(points: &[IntersectionPoint], n_sets: usize) -> bool
+    ensures { result ≡ few_points n_sets points.now }
+{
+    for j in 0..n_sets {
+        if 32 < points_of(points, j) {
             return false;
         }
-        j += 1;
     }
     true
 }
 
 // Who lets head j have the gap from each of its n angles to the next.
 fn fill_lets(
-    c: &[f64; 30],
+    circles: &[Circle; 10],
     n_sets: usize,
     j: usize,
     n: usize,
     phi: &[f64; 320],
     lets: &mut [usize; 320],
 )
-    requires { (n_sets ≤ 10) × ((j < n_sets) × ((n ≤ 32) × (length lets.old ≡ 320))) }
+    requires { (n_sets ≤ 10) × ((j < n_sets) × (n ≤ 32)) }
     ensures { Filled (j * 32) n
-        (λ i. gap_letters (circles_in c.now n_sets) j (get_or phi.now (j * 32 + i) nan)
+        (λ i. gap_letters (take n_sets circles.now) j (get_or phi.now (j * 32 + i) nan)
         (get_or phi.now (j * 32 + (i + 1) % n) nan)) 0 lets.old lets.new }
 {
     let at = j * 32;
-    let mut i: usize = 0;
-    while i < n {
+    for i in 0..n {
         let to = at + next(i, n);
-        lets[at + i] = gap_letters(c, n_sets, j, phi[at + i], phi[to]);
-        i += 1;
+        lets[at + i] = gap_letters(circles, n_sets, j, phi[at + i], phi[to]);
     }
 }
 
-// The arrays of the heads of a set: the meeting points of each by angle, and who lets it have the gaps between them. The others have
-// no angle.
-pub(crate) fn fill_heads(
-    c: &[f64; 30],
-    n_sets: usize,
-    points: Intersections,
-    needed: usize,
-    counts: &mut [usize; 10],
-    owners: &mut [usize; 10],
+// The points of head j by angle, with their adopters, in its places; how many there are.
+fn lay_points(
+    circle: Circle,
+    j: usize,
+    points: &[IntersectionPoint],
     phi: &mut [f64; 320],
     adopters: &mut [usize; 320],
-    lets: &mut [usize; 320],
-)
-    requires n_sets_bound { (n_sets ≤ 10) × Few (circles_in c.now n_sets) (point_list points) }
-    requires long { Long counts.old owners.old phi.old adopters.old lets.old }
-    ensures long_2 { Long counts.new owners.new phi.new adopters.new lets.new }
-    ensures marked { Marked (circles_in c.now n_sets) (point_list points) needed n_sets counts.new owners.new
-        phi.new adopters.new lets.new }
+) -> usize
+    requires { (j < 10) × (length (keep (has_parent j) points.now) ≤ 32) }
+    ensures few { result ≤ 32 }
+    ensures laid { marks_from phi.new adopters.new (j * 32) result ≡ marks_at circle j points.now }
+    ensures kept { Kept (j * 32) nan phi.old phi.new × Kept (j * 32) 0 adopters.old adopters.new }
 {
-    let n = at_most_ninety(points.n);
-    let mut j: usize = 0;
-    while j < n_sets {
+    let mut count: usize = 0;
+    for q in points {
+        if has_parent(j, *q) {
+            let angle = angle_about(circle, q.point);
+            insert_marked(phi, adopters, j * 32, count, angle, q.adopters);
+            count += 1;
+        }
+    }
+    count
+}
+
+// The marks of the heads of a set: the meeting points of each by angle, and who lets it have the gaps between them. The others have no angle.
+pub(crate) fn fill_heads(
+    circles: &[Circle; 10],
+    n_sets: usize,
+    points: &[IntersectionPoint],
+    needed: usize,
+    marks: &mut Marks,
+)
+    requires n_sets_bound { (n_sets ≤ 10) × Few (take n_sets circles.now) points.now }
+    ensures { AreMarked (take n_sets circles.now) points.now needed n_sets marks.new }
+{
+    for j in 0..n_sets {
         let mut count: usize = 0;
         if needed >> j & 1 == 1 {
-            let circle = circle_at(c, j);
-            let mut i: usize = 0;
-            while i < n {
-                let q = points.all[i];
-                if has_parent(j, q) {
-                    let angle = angle_about(circle, q.point);
-                    insert_marked(phi, adopters, j * 32, count, angle, q.adopters);
-                    count += 1;
-                }
-                i += 1;
-            }
-            fill_lets(c, n_sets, j, count, phi, lets);
-            owners[j] = letters(c, n_sets, j, probe(circle));
+            let circle = circles[j];
+            count = lay_points(circle, j, points, &mut marks.phi, &mut marks.adopters);
+            fill_lets(circles, n_sets, j, count, &marks.phi, &mut marks.lets);
+            marks.owners[j] = letters(circles, n_sets, j, probe(circle));
         }
-        counts[j] = count;
-        j += 1;
+        marks.counts[j] = count;
     }
 }

@@ -12,10 +12,7 @@ pub fn row_byte(has_box: bool, is: u8, mask: usize) -> u8
     if mask == 0 {
         return if has_box { 1 } else { 0 };
     }
-    if is == 1 {
-        return 1;
-    }
-    0
+    if is == 1 { 1 } else { 0 }
 }
 
 // The presence bytes of the rows of n_sets circles.
@@ -23,10 +20,8 @@ pub fn write_presence(has_box: bool, n_sets: usize, sets: &[u8; 1024], presence:
     ensures { presence.new ≡ bytes_written n_sets (among has_box (stands sets.now)) presence.old }
 {
     let count = row_count(n_sets, presence.len());
-    let mut mask: usize = 0;
-    while mask < count {
+    for mask in 0..count {
         presence[mask] = row_byte(has_box, sets[mask], mask);
-        mask += 1;
     }
 }
 
@@ -35,11 +30,9 @@ pub fn clear_absent(has_box: bool, n_sets: usize, sets: &[u8; 1024], areas: &mut
     ensures { areas.new ≡ absent_cleared n_sets (among has_box (stands sets.now)) areas.old }
 {
     let count = row_count(n_sets, areas.len());
-    let mut mask: usize = 0;
-    while mask < count {
+    for mask in 0..count {
         if row_byte(has_box, sets[mask], mask) == 0 {
             areas[mask] = 0.0;
         }
-        mask += 1;
     }
 }

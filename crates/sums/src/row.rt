@@ -1,160 +1,180 @@
 // The area of a set, and with its gradient, from what is worked out once a head: its arcs listed, what each adds looked up, and in the box the
 // spans of the edges. Rests on specs/Gradients.antt.
-ghost use Rattle.std.specs.Prelude.{◌≡◌, List, ◌^◌, ◌<◌, ◌≤◌, min, length};
+ghost use Rattle.std.specs.Prelude.{◌≡◌, ℕ, List, Float, take};
 ghost use Rattle.intersections.specs.declared.points.IntersectionPoint.{IntersectionPoint};
 ghost use Rattle.intersections.specs.Members.{members_of};
-ghost use Rattle.inside.specs.Parts.{clipped_arc_integral};
 ghost use Rattle.outline.specs.Area.{open_area};
 ghost use Rattle.clip.specs.Area.{clipped_area};
-ghost use Rattle.gaps.specs.Gaps.{circles_in};
-ghost use Rattle.sums.specs.Walk.{Few, Ready};
-ghost use Rattle.chords.specs.Chords.{Chorded};
-ghost use Rattle.sums.specs.Values.{term_of, Valued, TermsValued, MarksOf};
-ghost use Rattle.boundary.specs.Set.{arcs_held};
-ghost use Rattle.clip.specs.Gradient.{with_gradient};
-ghost use Rattle.sums.specs.Slopes.{SlopesValued, PartsValued};
-ghost use Rattle.sums.specs.Gradients.{open_onto, clipped_onto};
+ghost use Rattle.clip.specs.Gradient.{WithGradient, with_gradient};
+ghost use Rattle.sums.specs.Fast.{OpenReady, BoxReady, Told};
+ghost use Rattle.sums.specs.Gradients.{open_onto, clipped_onto, OpenReadyWith, BoxReadyWith};
 
 use crate::edges::{add_edges, add_edges_with_gradient};
-use crate::shares::add_parts;
-use crate::terms::{add_slopes, add_terms};
+use crate::fill::Marks;
+use crate::shares::{Parts, add_parts};
+use crate::terms::{Three, add_slopes, add_terms};
 use crate::values::add_integrals;
-use crate::walk::walk;
+use crate::walk::{Listed, walk};
+use chords::fill::Chords;
 use clip::area::empty_box;
 use geometry::bounds::Bounds;
+use geometry::circle::Circle;
 
-// The area of a set in the box. Its arcs are listed in `list`.
-pub(crate) fn clipped_row(
-    mask: usize,
-    c: &[f64; 30],
-    n_sets: usize,
-    bounds: Bounds,
-    counts: &[usize; 10],
-    owners: &[usize; 10],
-    phi: &[f64; 320],
-    adopters: &[usize; 320],
-    lets: &[usize; 320],
-    value: &[f64; 330],
-    reach: &[usize; 4],
-    low: &[f64; 40],
-    high: &[f64; 40],
-    list: &mut [usize; 320],
-) -> f64
-    requires n_sets_bound { (n_sets ≤ 10) × ((mask < 2 ^ n_sets) × (length list.old ≡ 320)) }
-    requires ready { Ready (circles_in c.now n_sets) mask counts.now owners.now phi.now lets.now }
-    requires valued { Valued mask counts.now (term_of (clipped_arc_integral bounds) (circles_in c.now n_sets) counts.now phi.now) value.now }
-    requires chorded { Chorded bounds (circles_in c.now n_sets) mask reach.now low.now high.now }
-    ensures list_len { length list.new ≡ 320 }
-    ensures value { (points : List IntersectionPoint) → Few (circles_in c.now n_sets) points → MarksOf (circles_in c.now n_sets) points mask counts.now phi.now adopters.now → result ≡ clipped_area bounds (members_of (circles_in c.now n_sets) points mask) }
-{
-    if empty_box(bounds) {
-        return 0.0;
+// The rows of a pass, each with its area.
+pub(crate) trait Areas {
+    // what row S asks of what is held, and of the points, of which its area is the one given
+    ghost Ready: { Self → ℕ → Type 0 };
+
+    ghost Told: { Self → List IntersectionPoint → ℕ → Type 0 };
+
+    ghost given: { Self → List IntersectionPoint → ℕ → Float };
+
+    // The area of a set. Its arcs may be listed in `list`.
+    fn area(&self, mask: usize, list: &mut Listed) -> f64
+        requires { Ready self.now mask }
+        ensures { (points : List IntersectionPoint) → Told self.now points mask → result ≡ given self.now points mask };
+}
+
+// The rows of a pass, each with its area and its gradient.
+pub(crate) trait Gradients {
+    // as above; with the gradient, as it is added to one
+    ghost Ready: { Self → ℕ → Type 0 };
+
+    ghost Told: { Self → List IntersectionPoint → ℕ → Type 0 };
+
+    ghost given: { Self → List IntersectionPoint → ℕ → List Float → WithGradient };
+
+    // The area of a set, and its gradient, added to grad. Its arcs may be listed in `list`.
+    fn add(&self, mask: usize, grad: &mut [f64], list: &mut Listed) -> f64
+        requires { Ready self.now mask }
+        ensures { (points : List IntersectionPoint) → Told self.now points mask
+            → with_gradient result grad.new ≡ given self.now points mask grad.old };
+}
+
+// The rows without a box, from the terms of each arc, and with gradients from its slopes too; and in the box from its integral and the chords
+// of the heads, and with gradients from the shares of its parts.
+#[derive(Clone, Copy)]
+pub(crate) struct OpenRows<'a> {
+    pub(crate) circles: &'a [Circle; 10],
+    pub(crate) n_sets: usize,
+    pub(crate) marks: &'a Marks,
+    pub(crate) terms: &'a Three,
+}
+
+#[derive(Clone, Copy)]
+pub(crate) struct OpenRowsWithGradients<'a> {
+    pub(crate) open: OpenRows<'a>,
+    pub(crate) slopes: &'a Three,
+}
+
+#[derive(Clone, Copy)]
+pub(crate) struct BoxRows<'a> {
+    pub(crate) circles: &'a [Circle; 10],
+    pub(crate) n_sets: usize,
+    pub(crate) bounds: Bounds,
+    pub(crate) marks: &'a Marks,
+    pub(crate) value: &'a [f64; 330],
+    pub(crate) chords: &'a Chords,
+}
+
+#[derive(Clone, Copy)]
+pub(crate) struct BoxRowsWithGradients<'a> {
+    pub(crate) circles: &'a [Circle; 10],
+    pub(crate) n_sets: usize,
+    pub(crate) bounds: Bounds,
+    pub(crate) marks: &'a Marks,
+    pub(crate) parts: &'a Parts,
+    pub(crate) chords: &'a Chords,
+}
+
+impl<'a> Areas for OpenRows<'a> {
+    ghost Ready = { λ r S. OpenReady r.circles.now r.n_sets r.marks.now r.terms.now S };
+
+    ghost Told = { λ r points S. Told (take r.n_sets r.circles.now) r.marks.now points S };
+
+    ghost given = { λ r points S. open_area (members_of (take r.n_sets r.circles.now) points S) };
+
+    fn area(&self, mask: usize, list: &mut Listed) -> f64 {
+        walk(mask, self.circles, self.n_sets, self.marks, list);
+        0.5 * add_terms(
+            list.arcs(),
+            self.circles,
+            self.n_sets,
+            self.marks,
+            self.terms,
+        )
     }
-    let k = walk(mask, c, n_sets, counts, owners, phi, adopters, lets, list);
-    let total = add_integrals(list, k, c, n_sets, bounds, counts, phi, value);
-    0.5 * add_edges(total, bounds, mask, n_sets, reach, low, high)
 }
 
-// The area of a set without a box.
-pub(crate) fn open_row(
-    mask: usize,
-    c: &[f64; 30],
-    n_sets: usize,
-    counts: &[usize; 10],
-    owners: &[usize; 10],
-    phi: &[f64; 320],
-    adopters: &[usize; 320],
-    lets: &[usize; 320],
-    xs: &[f64; 330],
-    ys: &[f64; 330],
-    rs: &[f64; 330],
-    list: &mut [usize; 320],
-) -> f64
-    requires n_sets_bound { (n_sets ≤ 10) × ((mask < 2 ^ n_sets) × (length list.old ≡ 320)) }
-    requires ready { Ready (circles_in c.now n_sets) mask counts.now owners.now phi.now lets.now }
-    requires terms_valued { TermsValued mask (circles_in c.now n_sets) counts.now phi.now xs.now ys.now rs.now }
-    ensures list_len { length list.new ≡ 320 }
-    ensures value { (points : List IntersectionPoint) → Few (circles_in c.now n_sets) points → MarksOf (circles_in c.now n_sets) points mask counts.now phi.now adopters.now → result ≡ open_area (members_of (circles_in c.now n_sets) points mask) }
-{
-    let k = walk(mask, c, n_sets, counts, owners, phi, adopters, lets, list);
-    0.5 * add_terms(list, k, c, n_sets, counts, phi, xs, ys, rs)
-}
+impl<'a> Areas for BoxRows<'a> {
+    ghost Ready = { λ r S. BoxReady r.bounds r.circles.now r.n_sets r.marks.now r.value.now r.chords.now S };
 
-// How many arcs of a list are looked at: no set of collected points has more than 180.
-fn first_arcs(k: usize) -> usize
-    ensures { result ≡ min k arcs_held }
-{
-    if k < 180 { k } else { 180 }
-}
+    ghost Told = { λ r points S. Told (take r.n_sets r.circles.now) r.marks.now points S };
 
-// The area of a set in the box, and its gradient, added to grad. Its arcs are listed in `list`.
-pub(crate) fn clipped_row_with_gradient(
-    mask: usize,
-    grad: &mut [f64],
-    c: &[f64; 30],
-    n_sets: usize,
-    bounds: Bounds,
-    counts: &[usize; 10],
-    owners: &[usize; 10],
-    phi: &[f64; 320],
-    adopters: &[usize; 320],
-    lets: &[usize; 320],
-    stop: usize,
-    first: &[usize; 330],
-    many: &[usize; 330],
-    sums: &[f64; 330],
-    us: &[f64; 640],
-    vs: &[f64; 640],
-    ws: &[f64; 640],
-    reach: &[usize; 4],
-    low: &[f64; 40],
-    high: &[f64; 40],
-    list: &mut [usize; 320],
-) -> f64
-    requires n_sets_bound { (n_sets ≤ 10) × ((mask < 2 ^ n_sets) × (length list.old ≡ 320)) }
-    requires ready { Ready (circles_in c.now n_sets) mask counts.now owners.now phi.now lets.now }
-    requires parts_valued { PartsValued bounds (circles_in c.now n_sets) mask counts.now phi.now first.now many.now sums.now us.now vs.now ws.now stop }
-    requires chorded { Chorded bounds (circles_in c.now n_sets) mask reach.now low.now high.now }
-    ensures list_len { length list.new ≡ 320 }
-    ensures grad_after { (points : List IntersectionPoint) → Few (circles_in c.now n_sets) points → MarksOf (circles_in c.now n_sets) points mask counts.now phi.now adopters.now → with_gradient result grad.new ≡ clipped_onto bounds (circles_in c.now n_sets) points mask grad.old }
-{
-    if empty_box(bounds) {
-        return 0.0;
+    ghost given = { λ r points S. clipped_area r.bounds (members_of (take r.n_sets r.circles.now) points S) };
+
+    fn area(&self, mask: usize, list: &mut Listed) -> f64 {
+        if empty_box(self.bounds) {
+            return 0.0;
+        }
+        walk(mask, self.circles, self.n_sets, self.marks, list);
+        let total = add_integrals(
+            list.arcs(),
+            self.circles,
+            self.n_sets,
+            self.bounds,
+            self.marks,
+            self.value,
+        );
+        0.5 * add_edges(total, self.bounds, mask, self.n_sets, self.chords)
     }
-    let k = first_arcs(walk(mask, c, n_sets, counts, owners, phi, adopters, lets, list));
-    let total = add_parts(
-        grad, list, k, c, n_sets, bounds, counts, phi, stop, first, many, sums, us, vs, ws,
-    );
-    0.5 * add_edges_with_gradient(total, grad, bounds, mask, n_sets, reach, low, high)
 }
 
-// The area of a set without a box, and its gradient, added to grad.
-pub(crate) fn open_row_with_gradient(
-    mask: usize,
-    grad: &mut [f64],
-    c: &[f64; 30],
-    n_sets: usize,
-    counts: &[usize; 10],
-    owners: &[usize; 10],
-    phi: &[f64; 320],
-    adopters: &[usize; 320],
-    lets: &[usize; 320],
-    xs: &[f64; 330],
-    ys: &[f64; 330],
-    rs: &[f64; 330],
-    us: &[f64; 640],
-    vs: &[f64; 640],
-    ws: &[f64; 640],
-    list: &mut [usize; 320],
-) -> f64
-    requires n_sets_bound { (n_sets ≤ 10) × ((mask < 2 ^ n_sets) × (length list.old ≡ 320)) }
-    requires ready { Ready (circles_in c.now n_sets) mask counts.now owners.now phi.now lets.now }
-    requires terms_valued { TermsValued mask (circles_in c.now n_sets) counts.now phi.now xs.now ys.now rs.now }
-    requires slopes_valued { SlopesValued mask (circles_in c.now n_sets) counts.now phi.now us.now vs.now ws.now }
-    ensures list_len { length list.new ≡ 320 }
-    ensures grad_after { (points : List IntersectionPoint) → Few (circles_in c.now n_sets) points → MarksOf (circles_in c.now n_sets) points mask counts.now phi.now adopters.now → with_gradient result grad.new ≡ open_onto (circles_in c.now n_sets) points mask grad.old }
-{
-    let k = first_arcs(walk(mask, c, n_sets, counts, owners, phi, adopters, lets, list));
-    add_slopes(grad, list, k, c, n_sets, counts, phi, us, vs, ws);
-    0.5 * add_terms(list, k, c, n_sets, counts, phi, xs, ys, rs)
+impl<'a> Gradients for OpenRowsWithGradients<'a> {
+    ghost Ready = { λ r S. OpenReadyWith r.open.circles.now r.open.n_sets r.open.marks.now r.open.terms.now
+        r.slopes.now S };
+
+    ghost Told = { λ r points S. Told (take r.open.n_sets r.open.circles.now) r.open.marks.now points S };
+
+    ghost given = { λ r points S g. open_onto (take r.open.n_sets r.open.circles.now) points S g };
+
+    fn add(&self, mask: usize, grad: &mut [f64], list: &mut Listed) -> f64 {
+        let open = self.open;
+        walk(mask, open.circles, open.n_sets, open.marks, list);
+        let arcs = list.first_arcs();
+        add_slopes(
+            grad,
+            arcs,
+            open.circles,
+            open.n_sets,
+            open.marks,
+            self.slopes,
+        );
+        0.5 * add_terms(arcs, open.circles, open.n_sets, open.marks, open.terms)
+    }
+}
+
+impl<'a> Gradients for BoxRowsWithGradients<'a> {
+    ghost Ready = { λ r S. BoxReadyWith r.bounds r.circles.now r.n_sets r.marks.now r.parts.now r.chords.now S };
+
+    ghost Told = { λ r points S. Told (take r.n_sets r.circles.now) r.marks.now points S };
+
+    ghost given = { λ r points S g. clipped_onto r.bounds (take r.n_sets r.circles.now) points S g };
+
+    fn add(&self, mask: usize, grad: &mut [f64], list: &mut Listed) -> f64 {
+        if empty_box(self.bounds) {
+            return 0.0;
+        }
+        walk(mask, self.circles, self.n_sets, self.marks, list);
+        let total = add_parts(
+            grad,
+            list.first_arcs(),
+            self.circles,
+            self.n_sets,
+            self.bounds,
+            self.marks,
+            self.parts,
+        );
+        0.5 * add_edges_with_gradient(total, grad, self.bounds, mask, self.n_sets, self.chords)
+    }
 }

@@ -1,103 +1,43 @@
 // The three numbers that each arc adds for a set without a box, by the arc's number: terms of its area, slopes of its gradient. Rests on
 // specs/Values.antt and specs/Slopes.antt.
-ghost use Rattle.std.specs.Prelude.{◌≡◌, ◌^◌, ◌<◌, ◌≤◌, take, length};
+ghost use Rattle.std.specs.Prelude.{◌≡◌, ◌^◌, ◌<◌, ◌≤◌, take, Float};
 ghost use mathlib.Core.List.{foldl};
 ghost use Rattle.lists.specs.Every.{Every};
 ghost use Rattle.binary64.specs.Constants.{zero64};
-ghost use Rattle.gaps.specs.Gaps.{circles_in};
-ghost use Rattle.sums.specs.Values.{add_terms, Roomy, TermsValued, TermsKnown};
-ghost use Rattle.sums.specs.Slopes.{add_three_at, slope_x, slope_y, slope_r, add_slopes_at, SlopesValued, SlopesKnown};
+ghost use Rattle.geometry.specs.declared.circle.Circle.{Circle};
+ghost use Rattle.boundary.specs.declared.arcs.BoundaryArc.{BoundaryArc};
+ghost use Rattle.outline.specs.Terms.{term_x, term_y, term_r};
+ghost use Rattle.sums.specs.Values.{add_terms, Roomy};
+ghost use Rattle.sums.specs.Slopes.{add_three_at, slope_x, slope_y, slope_r, add_slopes_at};
+ghost use Rattle.sums.specs.Held.{held_term, ThreeHeld, ThreeIsKnown};
 
-use crate::values::{arc_at, head_of, is_standing, past};
+use crate::fill::Marks;
+use crate::values::{arc_at, head_of, next_standing};
 use binary64::{abs, signum};
 use boundary::arcs::BoundaryArc;
 use elementary::sine::{cos, sin};
-use gaps::places::circle_at;
 use geometry::circle::Circle;
 use outline::gradient::{add_at, sub_at};
 use outline::terms::{add_three, term_r, term_x, term_y};
 
-// The terms of all arcs between neighbours, and of the whole circles, of the heads of `needed`.
-pub(crate) fn fill_terms(
-    c: &[f64; 30],
-    n_sets: usize,
-    needed: usize,
-    counts: &[usize; 10],
-    phi: &[f64; 320],
-    xs: &mut [f64; 330],
-    ys: &mut [f64; 330],
-    rs: &mut [f64; 330],
-)
-    requires n_sets_bound { (n_sets ≤ 10) × ((needed < 2 ^ n_sets) × Roomy n_sets needed counts.now) }
-    requires xs_len { (length xs.old ≡ 330) × ((length ys.old ≡ 330) × (length rs.old ≡ 330)) }
-    ensures { TermsValued needed (circles_in c.now n_sets) counts.now phi.now xs.new ys.new rs.new }
-{
-    let mut p: usize = 0;
-    while p < 330 {
-        if is_standing(p, needed, counts) {
-            let circle = circle_at(c, head_of(p));
-            let arc = arc_at(p, circle, counts, phi);
-            xs[p] = term_x(circle, arc);
-            ys[p] = term_y(circle, arc);
-            rs[p] = term_r(circle, arc);
-            p += 1;
-        } else {
-            p = past(p);
+// Three numbers of each arc between neighbours, and of each whole circle, by the arc's number.
+#[derive(Clone, Copy)]
+pub(crate) struct Three {
+    pub(crate) xs: [f64; 330],
+    pub(crate) ys: [f64; 330],
+    pub(crate) rs: [f64; 330],
+}
+
+impl Three {
+    // built where it is kept, and not copied there
+    #[inline(always)]
+    pub(crate) fn new() -> Three {
+        Three {
+            xs: [0.0; 330],
+            ys: [0.0; 330],
+            rs: [0.0; 330],
         }
     }
-}
-
-// The three terms of the arc of a number, added: looked up, or worked out where its angles are no neighbours.
-fn add_arc(
-    total: f64,
-    place: usize,
-    c: &[f64; 30],
-    n_sets: usize,
-    counts: &[usize; 10],
-    phi: &[f64; 320],
-    xs: &[f64; 330],
-    ys: &[f64; 330],
-    rs: &[f64; 330],
-) -> f64
-    requires { (n_sets ≤ 10) × TermsKnown n_sets (circles_in c.now n_sets) counts.now phi.now xs.now ys.now rs.now place }
-    ensures { result ≡ add_terms (circles_in c.now n_sets) counts.now phi.now total place }
-{
-    if place < 330 {
-        return add_three(total, xs[place], ys[place], rs[place]);
-    }
-    let circle = circle_at(c, head_of(place));
-    let arc = arc_at(place, circle, counts, phi);
-    add_three(
-        total,
-        term_x(circle, arc),
-        term_y(circle, arc),
-        term_r(circle, arc),
-    )
-}
-
-// The terms of the first k arcs of a list, added up.
-pub(crate) fn add_terms(
-    list: &[usize; 320],
-    k: usize,
-    c: &[f64; 30],
-    n_sets: usize,
-    counts: &[usize; 10],
-    phi: &[f64; 320],
-    xs: &[f64; 330],
-    ys: &[f64; 330],
-    rs: &[f64; 330],
-) -> f64
-    requires n_sets_bound { (n_sets ≤ 10) × ((k ≤ 320) × (length list.now ≡ 320)) }
-    requires every { Every (TermsKnown n_sets (circles_in c.now n_sets) counts.now phi.now xs.now ys.now rs.now) (take k list.now) }
-    ensures { result ≡ foldl (add_terms (circles_in c.now n_sets) counts.now phi.now) zero64 (take k list.now) }
-{
-    let mut total = 0.0;
-    let mut i: usize = 0;
-    while i < k {
-        total = add_arc(total, list[i], c, n_sets, counts, phi, xs, ys, rs);
-        i += 1;
-    }
-    total
 }
 
 // Three numbers, in the entries of a head by x, y and radius.
@@ -128,87 +68,150 @@ fn slope_r(circle: Circle, arc: BoundaryArc) -> f64
     circle.radius * abs(arc.delta_phi)
 }
 
-// The slopes of all arcs between neighbours, and of the whole circles, of the heads of `needed`.
-pub(crate) fn fill_slopes(
-    c: &[f64; 30],
-    n_sets: usize,
-    needed: usize,
-    counts: &[usize; 10],
-    phi: &[f64; 320],
-    us: &mut [f64; 640],
-    vs: &mut [f64; 640],
-    ws: &mut [f64; 640],
-)
-    requires n_sets_bound { (n_sets ≤ 10) × ((needed < 2 ^ n_sets) × Roomy n_sets needed counts.now) }
-    requires us_len { (length us.old ≡ 640) × ((length vs.old ≡ 640) × (length ws.old ≡ 640)) }
-    ensures { SlopesValued needed (circles_in c.now n_sets) counts.now phi.now us.new vs.new ws.new }
-{
-    let mut p: usize = 0;
-    while p < 330 {
-        if is_standing(p, needed, counts) {
-            let circle = circle_at(c, head_of(p));
-            let arc = arc_at(p, circle, counts, phi);
-            us[p] = slope_x(circle, arc);
-            vs[p] = slope_y(circle, arc);
-            ws[p] = slope_r(circle, arc);
-            p += 1;
-        } else {
-            p = past(p);
+// Three numbers of one arc.
+#[derive(Clone, Copy)]
+pub(crate) struct Triple {
+    pub(crate) x: f64,
+    pub(crate) y: f64,
+    pub(crate) r: f64,
+}
+
+// Which three numbers of an arc.
+pub(crate) trait OfArc {
+    ghost x: { Circle → BoundaryArc → Float };
+
+    ghost y: { Circle → BoundaryArc → Float };
+
+    ghost r: { Circle → BoundaryArc → Float };
+
+    fn of(circle: Circle, arc: BoundaryArc) -> Triple
+        ensures x_is { result.x ≡ x circle arc }
+        ensures y_is { result.y ≡ y circle arc }
+        ensures r_is { result.r ≡ r circle arc };
+}
+
+// The terms that it adds to an area, and the slopes that it adds to a gradient.
+pub(crate) struct Terms;
+
+pub(crate) struct Slopes;
+
+impl OfArc for Terms {
+    ghost x = { term_x };
+
+    ghost y = { term_y };
+
+    ghost r = { term_r };
+
+    fn of(circle: Circle, arc: BoundaryArc) -> Triple {
+        Triple {
+            x: term_x(circle, arc),
+            y: term_y(circle, arc),
+            r: term_r(circle, arc),
         }
     }
 }
 
-// The slopes of the arc of a number, added: looked up, or worked out where its angles are no neighbours.
-fn add_slopes_at(
-    grad: &mut [f64],
-    place: usize,
-    c: &[f64; 30],
-    n_sets: usize,
-    counts: &[usize; 10],
-    phi: &[f64; 320],
-    us: &[f64; 640],
-    vs: &[f64; 640],
-    ws: &[f64; 640],
-)
-    requires { (n_sets ≤ 10) × SlopesKnown n_sets (circles_in c.now n_sets) counts.now phi.now us.now vs.now ws.now place }
-    ensures { grad.new ≡ add_slopes_at (circles_in c.now n_sets) counts.now phi.now grad.old place }
-{
-    let j = head_of(place);
-    if place < 330 {
-        add_three_at(grad, j * 3, us[place], vs[place], ws[place]);
-    } else {
-        let circle = circle_at(c, j);
-        let arc = arc_at(place, circle, counts, phi);
-        add_three_at(
-            grad,
-            j * 3,
-            slope_x(circle, arc),
-            slope_y(circle, arc),
-            slope_r(circle, arc),
-        );
+impl OfArc for Slopes {
+    ghost x = { slope_x };
+
+    ghost y = { slope_y };
+
+    ghost r = { slope_r };
+
+    fn of(circle: Circle, arc: BoundaryArc) -> Triple {
+        Triple {
+            x: slope_x(circle, arc),
+            y: slope_y(circle, arc),
+            r: slope_r(circle, arc),
+        }
     }
 }
 
-// The slopes of the first k arcs of a list, added to a gradient.
+// The numbers of all arcs between neighbours, and of the whole circles, of the heads of `needed`.
+pub(crate) fn fill_three<N: OfArc>(
+    circles: &[Circle; 10],
+    n_sets: usize,
+    needed: usize,
+    marks: &Marks,
+    three: &mut Three,
+)
+    requires { (n_sets ≤ 10) × ((needed < 2 ^ n_sets) × Roomy n_sets needed marks.now.counts) }
+    ensures { ThreeHeld N.x N.y N.r needed (take n_sets circles.now) marks.now three.new }
+{
+    let mut p = next_standing(0, needed, marks);
+    // a `while`, since p jumps
+    while p < 330 {
+        let circle = circles[head_of(p)];
+        let of = N::of(circle, arc_at(p, circle, marks));
+        three.xs[p] = of.x;
+        three.ys[p] = of.y;
+        three.rs[p] = of.r;
+        p = next_standing(p + 1, needed, marks);
+    }
+}
+
+// The numbers of the arc of a number: looked up, or worked out where its angles are no neighbours.
+fn three_at<N: OfArc>(
+    place: usize,
+    circles: &[Circle; 10],
+    n_sets: usize,
+    marks: &Marks,
+    three: &Three,
+) -> Triple
+    requires { (n_sets ≤ 10) × ThreeIsKnown N.x N.y N.r n_sets (take n_sets circles.now) marks.now three.now place }
+    ensures x_is { result.x ≡ held_term N.x (take n_sets circles.now) marks.now place }
+    ensures y_is { result.y ≡ held_term N.y (take n_sets circles.now) marks.now place }
+    ensures r_is { result.r ≡ held_term N.r (take n_sets circles.now) marks.now place }
+{
+    if place < 330 {
+        return Triple {
+            x: three.xs[place],
+            y: three.ys[place],
+            r: three.rs[place],
+        };
+    }
+    let circle = circles[head_of(place)];
+    N::of(circle, arc_at(place, circle, marks))
+}
+
+// The terms of the arcs of a list, added up.
+pub(crate) fn add_terms(
+    arcs: &[usize],
+    circles: &[Circle; 10],
+    n_sets: usize,
+    marks: &Marks,
+    terms: &Three,
+) -> f64
+    requires n_sets_bound { n_sets ≤ 10 }
+    requires every { Every
+        (ThreeIsKnown term_x term_y term_r n_sets (take n_sets circles.now) marks.now terms.now) arcs.now }
+    ensures { result ≡ foldl (add_terms (take n_sets circles.now) marks.now.counts marks.now.phi) zero64 arcs.now }
+{
+    let mut total = 0.0;
+    for place in arcs {
+        let of = three_at::<Terms>(*place, circles, n_sets, marks, terms);
+        total = add_three(total, of.x, of.y, of.r);
+    }
+    total
+}
+
+// The slopes of the arcs of a list, added to a gradient.
 pub(crate) fn add_slopes(
     grad: &mut [f64],
-    list: &[usize; 320],
-    k: usize,
-    c: &[f64; 30],
+    arcs: &[usize],
+    circles: &[Circle; 10],
     n_sets: usize,
-    counts: &[usize; 10],
-    phi: &[f64; 320],
-    us: &[f64; 640],
-    vs: &[f64; 640],
-    ws: &[f64; 640],
+    marks: &Marks,
+    slopes: &Three,
 )
-    requires n_sets_bound { (n_sets ≤ 10) × ((k ≤ 320) × (length list.now ≡ 320)) }
-    requires every { Every (SlopesKnown n_sets (circles_in c.now n_sets) counts.now phi.now us.now vs.now ws.now) (take k list.now) }
-    ensures { grad.new ≡ foldl (add_slopes_at (circles_in c.now n_sets) counts.now phi.now) grad.old (take k list.now) }
+    requires n_sets_bound { n_sets ≤ 10 }
+    requires every { Every
+        (ThreeIsKnown slope_x slope_y slope_r n_sets (take n_sets circles.now) marks.now slopes.now) arcs.now }
+    ensures { grad.new ≡ foldl (add_slopes_at (take n_sets circles.now) marks.now.counts marks.now.phi) grad.old
+        arcs.now }
 {
-    let mut i: usize = 0;
-    while i < k {
-        add_slopes_at(grad, list[i], c, n_sets, counts, phi, us, vs, ws);
-        i += 1;
+    for place in arcs {
+        let of = three_at::<Slopes>(*place, circles, n_sets, marks, slopes);
+        add_three_at(grad, head_of(*place) * 3, of.x, of.y, of.r);
     }
 }

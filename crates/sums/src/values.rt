@@ -1,17 +1,18 @@
 // What each arc adds to the sum of a set, by the arc's number. Rests on specs/Values.antt.
-ghost use Rattle.std.specs.Prelude.{◌≡◌, false, ℕ, ◌^◌, ◌<◌, ◌≤◌, take, length};
+ghost use Rattle.std.specs.Prelude.{◌≡◌, false, ℕ, ◌^◌, ◌<◌, ◌≤◌, take};
 ghost use mathlib.Core.List.{List, foldl};
 ghost use Rattle.lists.specs.Every.{Every};
 ghost use Rattle.binary64.specs.Constants.{zero64};
 ghost use Rattle.geometry.specs.declared.circle.Circle.{Circle};
 ghost use Rattle.inside.specs.Parts.{clipped_arc_integral};
-ghost use Rattle.gaps.specs.Gaps.{circles_in};
 ghost use Rattle.sums.specs.Walk.{arc_at};
-ghost use Rattle.sums.specs.Values.{head_of, Readable, term_of, add_one, Roomy, standing, Valued, Known};
+ghost use Rattle.sums.specs.Values.{head_of, Readable, add_one, Roomy, standing, NextStanding};
+ghost use Rattle.sums.specs.Held.{held_term, IntegralsHeld, IntegralKnown};
 
+use crate::fill::Marks;
 use boundary::angles::gap;
 use boundary::arcs::{BoundaryArc, between, full_circle};
-use gaps::places::{circle_at, next};
+use gaps::places::next;
 use geometry::bounds::Bounds;
 use geometry::circle::Circle;
 use inside::parts::clipped_arc_integral;
@@ -30,18 +31,14 @@ pub(crate) fn head_of(place: usize) -> usize
 }
 
 // The arc of a number, which belongs to the circle given.
-pub(crate) fn arc_at(
-    place: usize,
-    circle: Circle,
-    counts: &[usize; 10],
-    phi: &[f64; 320],
-) -> BoundaryArc
-    requires { Readable counts.now place }
-    ensures { (circles : List Circle) → result ≡ arc_at circles counts.now phi.now place }
+pub(crate) fn arc_at(place: usize, circle: Circle, marks: &Marks) -> BoundaryArc
+    requires { Readable marks.now.counts place }
+    ensures { (circles : List Circle) → result ≡ arc_at circles marks.now.counts marks.now.phi place }
 {
+    let phi = &marks.phi;
     if place < 320 {
         let j = place / 32;
-        let to = j * 32 + next(place % 32, counts[j]);
+        let to = j * 32 + next(place % 32, marks.counts[j]);
         return between(j, circle, phi[place], gap(phi[place], phi[to]));
     }
     if place < 330 {
@@ -53,112 +50,117 @@ pub(crate) fn arc_at(
 }
 
 // Whether a number below 330 is that of an arc of a head of `needed`.
-pub(crate) fn is_standing(place: usize, needed: usize, counts: &[usize; 10]) -> bool
+fn is_standing(place: usize, needed: usize, marks: &Marks) -> bool
     requires { place < 330 }
-    ensures { result ≡ standing needed counts.now place }
+    ensures { result ≡ standing needed marks.now.counts place }
 {
     if place < 320 {
         let j = place / 32;
-        if needed >> j & 1 == 1 {
-            return place % 32 < counts[j];
-        }
-        return false;
+        return needed >> j & 1 == 1 && place % 32 < marks.counts[j];
     }
     needed >> (place - 320) & 1 == 1
 }
 
-// The place from which to look on, where a place is not that of an arc: no later place of the same head is.
-pub(crate) fn past(place: usize) -> usize
+// The first number from p on of an arc of a head of `needed`, or 330.
+pub(crate) fn next_standing(p: usize, needed: usize, marks: &Marks) -> usize
+    requires { p ≤ 330 }
+    ensures { NextStanding needed marks.now.counts p result }
+{
+    let mut q = p;
+    // a `while`, since where a place is not that of an arc, no later place of the same head is
+    while q < 330 {
+        if is_standing(q, needed, marks) {
+            return q;
+        }
+        q = past(q);
+    }
+    q
+}
+
+// The place from which to look on, where a place is not that of an arc.
+fn past(place: usize) -> usize
     requires { place < 330 }
     ensures lower_bound { (place < result) × (result ≤ 330) }
-    ensures by_index { (needed : ℕ) (counts : List ℕ) → standing needed counts place ≡ false → (q : ℕ) → place ≤ q → q < result → standing needed counts q ≡ false }
+    ensures by_index { (needed : ℕ) (counts : List ℕ) → standing needed counts place ≡ false
+        → (q : ℕ) → place ≤ q → q < result → standing needed counts q ≡ false }
 {
     if place < 320 {
-        return (place / 32 + 1) * 32;
+        (place / 32 + 1) * 32
+    } else {
+        place + 1
     }
-    place + 1
 }
 
 // The integral in the box of the arc of a number, worked out.
 fn integral_of(
     place: usize,
-    c: &[f64; 30],
+    circles: &[Circle; 10],
     n_sets: usize,
     bounds: Bounds,
-    counts: &[usize; 10],
-    phi: &[f64; 320],
+    marks: &Marks,
 ) -> f64
-    requires { (n_sets ≤ 10) × ((head_of place < n_sets) × Readable counts.now place) }
-    ensures { result ≡ term_of (clipped_arc_integral bounds) (circles_in c.now n_sets) counts.now phi.now place }
+    requires { (n_sets ≤ 10) × ((head_of place < n_sets) × Readable marks.now.counts place) }
+    ensures { result ≡ held_term (clipped_arc_integral bounds) (take n_sets circles.now) marks.now place }
 {
-    let circle = circle_at(c, head_of(place));
-    clipped_arc_integral(arc_at(place, circle, counts, phi), circle, bounds)
+    let circle = circles[head_of(place)];
+    clipped_arc_integral(arc_at(place, circle, marks), circle, bounds)
 }
 
 // The integrals in the box of all arcs between neighbours, and of the whole circles, of the heads of `needed`.
 pub(crate) fn fill_integrals(
-    c: &[f64; 30],
+    circles: &[Circle; 10],
     n_sets: usize,
     bounds: Bounds,
     needed: usize,
-    counts: &[usize; 10],
-    phi: &[f64; 320],
+    marks: &Marks,
     value: &mut [f64; 330],
 )
-    requires n_sets_bound { (n_sets ≤ 10) × ((needed < 2 ^ n_sets) × Roomy n_sets needed counts.now) }
-    requires value_len { length value.old ≡ 330 }
-    ensures { Valued needed counts.now (term_of (clipped_arc_integral bounds) (circles_in c.now n_sets) counts.now phi.now) value.new }
+    requires n_sets_bound { (n_sets ≤ 10) × ((needed < 2 ^ n_sets) × Roomy n_sets needed marks.now.counts) }
+    ensures { IntegralsHeld bounds needed (take n_sets circles.now) marks.now value.new }
 {
-    let mut p: usize = 0;
+    let mut p = next_standing(0, needed, marks);
+    // a `while`, since p jumps
     while p < 330 {
-        if is_standing(p, needed, counts) {
-            value[p] = integral_of(p, c, n_sets, bounds, counts, phi);
-            p += 1;
-        } else {
-            p = past(p);
-        }
+        value[p] = integral_of(p, circles, n_sets, bounds, marks);
+        p = next_standing(p + 1, needed, marks);
     }
 }
 
 // The integral in the box of the arc of a number: looked up, or worked out where its angles are no neighbours.
 fn integral_at(
     place: usize,
-    c: &[f64; 30],
+    circles: &[Circle; 10],
     n_sets: usize,
     bounds: Bounds,
-    counts: &[usize; 10],
-    phi: &[f64; 320],
+    marks: &Marks,
     value: &[f64; 330],
 ) -> f64
-    requires { (n_sets ≤ 10) × Known n_sets counts.now (term_of (clipped_arc_integral bounds) (circles_in c.now n_sets) counts.now phi.now) value.now place }
-    ensures { result ≡ term_of (clipped_arc_integral bounds) (circles_in c.now n_sets) counts.now phi.now place }
+    requires { (n_sets ≤ 10) × IntegralKnown bounds n_sets (take n_sets circles.now) marks.now value.now place }
+    ensures { result ≡ held_term (clipped_arc_integral bounds) (take n_sets circles.now) marks.now place }
 {
     if place < 330 {
         return value[place];
     }
-    integral_of(place, c, n_sets, bounds, counts, phi)
+    integral_of(place, circles, n_sets, bounds, marks)
 }
 
-// The integrals in the box of the first k arcs of a list, added up.
+// The integrals in the box of the arcs of a list, added up.
 pub(crate) fn add_integrals(
-    list: &[usize; 320],
-    k: usize,
-    c: &[f64; 30],
+    arcs: &[usize],
+    circles: &[Circle; 10],
     n_sets: usize,
     bounds: Bounds,
-    counts: &[usize; 10],
-    phi: &[f64; 320],
+    marks: &Marks,
     value: &[f64; 330],
 ) -> f64
-    requires n_sets_bound { (n_sets ≤ 10) × ((k ≤ 320) × (length list.now ≡ 320)) }
-    requires every { Every (Known n_sets counts.now (term_of (clipped_arc_integral bounds) (circles_in c.now n_sets) counts.now phi.now) value.now) (take k list.now) }
-    ensures { result ≡ foldl (add_one (term_of (clipped_arc_integral bounds) (circles_in c.now n_sets) counts.now phi.now)) zero64 (take k list.now) }
+    requires n_sets_bound { n_sets ≤ 10 }
+    requires every { Every (IntegralKnown bounds n_sets (take n_sets circles.now) marks.now value.now) arcs.now }
+    ensures { result ≡ foldl (add_one
+        (held_term (clipped_arc_integral bounds) (take n_sets circles.now) marks.now)) zero64 arcs.now }
 {
     let mut total = 0.0;
-    let mut i: usize = 0;
-    while i < k {
-        total = total + integral_at(list[i], c, n_sets, bounds, counts, phi, value);
-        i += 1;
+    for place in arcs {
+        total += integral_at(*place, circles, n_sets, bounds, marks, value);
     }
     total
 }

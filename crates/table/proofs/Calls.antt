@@ -16,11 +16,10 @@ use mir.Syntax.{w32}
 use mir.Val.{SFits, to_z, of_z}
 use Rattle.lists.proofs.Writing.{written_before, written_cong}
 use Rattle.masks.specs.Presence.{byte, stands, byte_stands}
-use Rattle.plan.specs.declared.Answer.{Answer}
-use Rattle.plan.specs.declared.Answer.TheVariants.{Taken}
 use Rattle.plan.specs.declared.Edit.{Edit}
 use Rattle.plan.specs.declared.Plan.{Plan}
 use Rattle.plan.specs.Book.{applied}
+use Rattle.plan.specs.Table.{Answered, taken}
 use Rattle.geometry.specs.Rectangle as Rectangle
 use Rattle.intersections.specs.Points.{collected}
 use Rattle.sets.specs.Regions.{in_regions, set_bytes}
@@ -39,9 +38,23 @@ use Rattle.table.specs.declared.ready.Ready.{Ready}
 use Rattle.table.specs.Method.{method_over}
 use Rattle.table.specs.Ready.{area_of, Of, sets_written, sets_in}
 use Rattle.table.specs.Rows.{rows_written}
-use Rattle.table.specs.Tables.{edit_of, change_of, tables_written, afresh_over, edited_over}
+use Rattle.table.specs.declared.tables.Tables.{Tables}
+use Rattle.table.specs.Tables.{SameSlices, edit_of, change_of, tables_written, afresh_over, edited_over}
 use Rattle.table.proofs.Second.{rows_most}
 use Rattle.table.proofs.Writing.{row_cong, afresh_edited}
+
+-- ---- the slices of lent tables stay the same
+
+pub same_self : (t : Tables) → SameSlices t t
+same_self t = record { presence = refl; rows = refl; exclusive_presence = refl; exclusives = refl }
+
+pub same_then : {a b c : Tables} → SameSlices a b → SameSlices b c → SameSlices a c
+same_then first second = record {
+  presence = second.presence ∙ first.presence;
+  rows = second.rows ∙ first.rows;
+  exclusive_presence = second.exclusive_presence ∙ first.exclusive_presence;
+  exclusives = second.exclusives ∙ first.exclusives;
+}
 
 -- ---- a plan made ready
 
@@ -137,10 +150,10 @@ sets_of_method true sets = refl
 sets_of_method false sets = refl
 
 -- a taken afresh call, from what its pass wrote over bytes that say the plan's sets
-pub afresh-step : (has_box : Bool) (sets : Plan → ℕ → Bool) (d : PlanSlices) (bytes : List ℕ) (t : LentTables) → afresh_answer d ≡ Taken
+pub afresh-step : (has_box : Bool) (sets : Plan → ℕ → Bool) (d : PlanSlices) (bytes : List ℕ) (t : LentTables) → afresh_answer d ≡ taken
     → ((S : ℕ) → S < 2 ^ d.plan.n → stands bytes S ≡ sets d.plan S)
     → t ≡ tables_written d.plan.n (afresh_over (method_over has_box sets) d.plan bytes) d.tables
-    → step_of (record { plan = d.plan; tables = t }) Taken ≡ afresh_slices (method_over has_box sets) d
+    → step_of (record { plan = d.plan; tables = t }) taken ≡ afresh_slices (method_over has_box sets) d
 afresh-step has_box sets d bytes t q say e =
     let m = method_over has_box sets in
     let p = d.plan in
@@ -169,12 +182,12 @@ module _ (m : Method) (p : Plan) (e : Edit) (r : Ready) (s : Serves m (applied p
   edited_written n others areas = tables_cong n _ _ bytes numbers numbers others areas (λ S h. edited-row S) refl
 
 -- a taken edit, from what its pass wrote over bytes that say the sets of the plans before and after
-pub edit_step : (sets : Plan → ℕ → Bool) (d : PlanSlices) (e : Edit) (earlier later : List ℕ) (next : Plan) (t : LentTables) → slice_answer d e ≡ Taken
+pub edit_step : (sets : Plan → ℕ → Bool) (d : PlanSlices) (e : Edit) (earlier later : List ℕ) (next : Plan) (t : LentTables) → slice_answer d e ≡ taken
     → ((S : ℕ) → S < 2 ^ d.plan.n → stands earlier S ≡ sets d.plan S)
     → ((S : ℕ) → S < 2 ^ d.plan.n → stands later S ≡ sets (applied d.plan e) S)
     → next ≡ applied d.plan e
     → t ≡ tables_written d.plan.n (edited_over (method_over true sets) d.plan e earlier later (row_at d.tables.rows)) d.tables
-    → step_of (record { plan = next; tables = t }) Taken ≡ edit_slices (method_over true sets) d e
+    → step_of (record { plan = next; tables = t }) taken ≡ edit_slices (method_over true sets) d e
 unfolding edited
 edit_step sets d e earlier later next t q before after f g =
     let m = method_over true sets in
@@ -195,7 +208,7 @@ pub edit_kept : (head : ℕ) (x y radius : ℤ) → SFits w32 x → SFits w32 y 
 edit_kept head x y radius a b c = rw (to_z-of_z a, to_z-of_z b, to_z-of_z c)
 
 -- what a taken edit leaves is in demand 3's words what it reworked
-pub edit_reworks : (m : Method) (d left : PlanSlices) (e : Edit) (a : Answer) → step_of left a ≡ edit_slices m d e → a ≡ Taken
+pub edit_reworks : (m : Method) (d left : PlanSlices) (e : Edit) (a : Answered) → step_of left a ≡ edit_slices m d e → a ≡ taken
     → Reworks m d.plan e (row_at d.tables.rows) (row_at left.tables.rows)
 edit_reworks m d left e a s k =
     subst (Reworks m d.plan e (row_at d.tables.rows)) (ap (λ t. row_at t.left.tables.rows) (sym s))

@@ -1,15 +1,34 @@
--- What one pass leaves in the lent slices of both tables, by the bytes of the sets: the rows of an edit, and the rows worked out afresh. The
--- private functions promise these; the public calls promise the steps of `regions`, specs/Slices.antt, and of this file cite `edit_of` alone.
-use Rattle.std.specs.Prelude.{ℕ, ◌^◌, List, ℤ}
+-- What the lent tables of a call hold, and what one pass leaves in them, by the bytes of the sets: the rows of an edit, and the rows worked out
+-- afresh. The private functions promise these passes; the public calls promise the steps of `regions`, specs/Slices.antt, over what the tables hold.
+use Rattle.std.specs.Prelude.{ℕ, ◌≡◌, ◌^◌, List, ℤ}
 use Rattle.plan.specs.declared.Edit.{Edit}
 use Rattle.plan.specs.declared.Plan.{Plan}
 use Rattle.plan.specs.Book.{applied}
 use Rattle.masks.specs.Presence.{stands}
 use Rattle.areas.specs.Exclusives.{to_exclusives}
 use Rattle.regions.specs.Edit.{Row, afresh_row, edited_row}
-use Rattle.regions.specs.Slices.{row_at, with_rows, LentTables}
+use Rattle.regions.specs.Slices.{row_at, with_rows, LentTables, tables_of, PlanSlices}
 use Rattle.regions.specs.Table.{Method, area_at, met_by}
 use Rattle.table.specs.declared.rows.Change.{Change}
+use Rattle.table.specs.declared.tables.Tables.{Tables}
+
+-- ---- lent tables
+
+abbrev pub tables_in : Tables → LentTables
+tables_in t = tables_of t.presence.now t.rows.now t.exclusive_presence.now t.exclusives.now
+
+-- a plan and the tables lent for it
+abbrev pub plan_tables : Plan → Tables → PlanSlices
+plan_tables p t = record { plan = p; tables = tables_in t }
+
+-- A call puts no other slice in the place of one: so its caller finds in its own slices what the tables hold after it.
+pub record SameSlices (old new : Tables) : Type 0 where
+  pub presence : new.presence.ghost_name ≡ old.presence.ghost_name
+  pub rows : new.rows.ghost_name ≡ old.rows.ghost_name
+  pub exclusive_presence : new.exclusive_presence.ghost_name ≡ old.exclusive_presence.ghost_name
+  pub exclusives : new.exclusives.ghost_name ≡ old.exclusives.ghost_name
+
+-- ---- what a pass leaves
 
 -- the edit that four numbers ask for
 abbrev pub edit_of : ℕ → ℤ → ℤ → ℤ → Edit

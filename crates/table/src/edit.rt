@@ -1,38 +1,37 @@
 // One edit of a plan and its tables in the box: document 01's "Edit", and demand 3's second half.
-ghost use Rattle.std.specs.Prelude.{◌≡◌, true, ◌≤◌, ◌<◌};
+ghost use Rattle.std.specs.Prelude.{◌≡◌, ◌≤◌, ◌<◌, true};
 ghost use Rattle.plan.specs.Book.{applied};
-ghost use Rattle.plan.specs.declared.Answer.TheVariants.{Taken};
+ghost use Rattle.plan.specs.Table.{taken};
 ghost use Rattle.regions.proofs.Slices.{Room};
 ghost use Rattle.regions.specs.Demand.{Reworks};
-ghost use Rattle.regions.specs.Slices.{slices_of, row_at, tables_of, plan_slices, step_of, edit_slices};
+ghost use Rattle.regions.specs.Slices.{slices_of, row_at, step_of, edit_slices};
 ghost use Rattle.table.specs.Method.{clipped_table};
 ghost use Rattle.table.specs.Ready.{Of};
-ghost use Rattle.table.specs.Tables.{edit_of, change_of, tables_written, edited_over};
+ghost use Rattle.table.specs.Tables.{tables_in, plan_tables, SameSlices, change_of, tables_written, edited_over};
 
 use crate::met::met_by;
 use crate::ready::{Ready, ready_of, sets_of};
 use crate::rows::Change;
-use crate::tables::{lent_by, write_tables};
+use crate::tables::{Tables, write_tables};
 use heads::Head;
 use plan::book::{Booked, apply};
 use plan::check::decide;
-use plan::{Answer, Edit, Plan};
+use plan::{Edit, Plan};
 
 // The edited head, and the heads that it meets before or after.
 fn change_of(plan: Plan, edit: Edit) -> Change
     requires { (plan.n ≤ 10) × (edit.head < plan.n) }
     ensures { result ≡ change_of plan edit }
 {
-    let k = edit.head;
-    let heads = plan.heads;
-    let head = Head {
-        x: edit.x,
-        y: edit.y,
-        radius: edit.radius,
-    };
+    let Edit {
+        head: k,
+        x,
+        y,
+        radius,
+    } = edit;
     Change {
         own: 1 << k,
-        met: met_by(heads, plan.n, k, head),
+        met: met_by(plan.heads, plan.n, k, Head { x, y, radius }),
     }
 }
 
@@ -43,108 +42,46 @@ fn write_edited(
     ready: Ready,
     earlier: &[u8; 1024],
     later: &[u8; 1024],
-    presence: &mut [u8],
-    rows: &mut [f64],
-    exclusive_presence: &mut [u8],
-    exclusives: &mut [f64],
+    tables: &mut Tables<'_>,
 )
-    requires { Room plan.n (tables_of presence.old rows.old exclusive_presence.old exclusives.old) × (edit.head < plan.n)
-        × Of (applied plan edit) true ready }
-    ensures { tables_of presence.new rows.new exclusive_presence.new exclusives.new
+    requires { Room plan.n (tables_in tables.old) × (edit.head < plan.n) × Of (applied plan edit) true ready }
+    ensures written { tables_in tables.new
         ≡ tables_written plan.n
-        (edited_over clipped_table plan edit earlier.now later.now (row_at (slices_of presence.old rows.old)))
-        (tables_of presence.old rows.old exclusive_presence.old exclusives.old) }
+        (edited_over clipped_table plan edit earlier.now later.now (row_at (slices_of tables.old.presence.now tables.old.rows.now)))
+        (tables_in tables.old) }
+    ensures same_slices { SameSlices tables.old tables.new }
 {
-    let change = change_of(plan, edit);
-    write_tables(
-        ready,
-        change,
-        earlier,
-        later,
-        presence,
-        rows,
-        exclusive_presence,
-        exclusives,
-    );
+    write_tables(ready, change_of(plan, edit), earlier, later, tables);
 }
 
-// One edit, decided and written, or a refusal that leaves plan and tables. The sets before and after come from the plans alone: the
-// presence bytes handed in are not read.
-pub fn edit_one(
-    plan: Plan,
-    edit: Edit,
-    presence: &mut [u8],
-    rows: &mut [f64],
-    exclusive_presence: &mut [u8],
-    exclusives: &mut [f64],
-) -> Booked
-    ensures { step_of (plan_slices result.plan presence.new rows.new exclusive_presence.new exclusives.new) result.answer
-        ≡ edit_slices clipped_table
-        (plan_slices plan presence.old rows.old exclusive_presence.old exclusives.old) edit }
+// A head gets a new place and radius, and both tables follow: rows that the edit touches are worked out anew, every other row still present
+// keeps the number handed in, row 0 too, and the exclusives are worked out from the rows left. A refusal leaves plan and tables. The sets before
+// and after come from the plans alone: the presence bytes handed in are not read.
+pub fn edit(plan: Plan, edit: Edit, tables: &mut Tables<'_>) -> Booked
+    ensures step { step_of (plan_tables result.plan tables.new) result.answer
+        ≡ edit_slices clipped_table (plan_tables plan tables.old) edit }
+    ensures reworks { result.answer ≡ taken
+        → Reworks clipped_table plan edit
+        (row_at (slices_of tables.old.presence.now tables.old.rows.now))
+        (row_at (slices_of tables.new.presence.now tables.new.rows.now)) }
+    ensures same_slices { SameSlices tables.old tables.new }
 {
-    let lent = lent_by(
-        presence.len(),
-        rows.len(),
-        exclusive_presence.len(),
-        exclusives.len(),
-    );
-    let answer = decide(plan, edit, lent);
-    match answer {
-        Answer::Taken => {
+    match decide(plan, edit, tables.lent()) {
+        Ok(()) => {
             let next = apply(plan, edit);
             let ready_before = ready_of(plan, true);
             let ready = ready_of(next, true);
             let earlier = sets_of(ready_before);
             let later = sets_of(ready);
-            write_edited(
-                plan,
-                edit,
-                ready,
-                &earlier,
-                &later,
-                presence,
-                rows,
-                exclusive_presence,
-                exclusives,
-            );
+            write_edited(plan, edit, ready, &earlier, &later, tables);
             Booked {
                 plan: next,
-                answer: Answer::Taken,
+                answer: Ok(()),
             }
         }
-        Answer::Refused(refusal, at) => Booked {
-            plan: plan,
-            answer: Answer::Refused(refusal, at),
+        Err(refused) => Booked {
+            plan,
+            answer: Err(refused),
         },
     }
-}
-
-// Head number `head` gets a new place and radius, and both tables follow: rows that the edit touches are worked out anew, every other row
-// still present keeps the number handed in, row 0 too, and the exclusives are worked out from the rows left. A refusal leaves plan and tables.
-pub fn edit(
-    plan: Plan,
-    head: usize,
-    x: i32,
-    y: i32,
-    radius: i32,
-    presence: &mut [u8],
-    rows: &mut [f64],
-    exclusive_presence: &mut [u8],
-    exclusives: &mut [f64],
-) -> Booked
-    ensures answer_after { step_of (plan_slices result.plan presence.new rows.new exclusive_presence.new exclusives.new) result.answer
-        ≡ edit_slices clipped_table
-        (plan_slices plan presence.old rows.old exclusive_presence.old exclusives.old) (edit_of head x y radius) }
-    ensures reworks { result.answer ≡ Taken
-        → Reworks clipped_table plan (edit_of head x y radius)
-        (row_at (slices_of presence.old rows.old))
-        (row_at (slices_of presence.new rows.new)) }
-{
-    let asked = Edit {
-        head: head,
-        x: x,
-        y: y,
-        radius: radius,
-    };
-    edit_one(plan, asked, presence, rows, exclusive_presence, exclusives)
 }

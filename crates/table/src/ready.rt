@@ -24,16 +24,15 @@ pub struct Ready {
 pub(crate) fn ready_of(plan: Plan, clipped: bool) -> Ready
     ensures { spec.Of plan clipped result }
 {
-    let ground = plan.ground;
     let circles = circles_of(plan);
     let points = collect_intersections(circles, plan.n);
-    let bounds = box_of(ground).bounds();
+    let bounds = box_of(plan.ground).bounds();
     Ready {
-        clipped: clipped,
+        clipped,
         n: plan.n,
-        circles: circles,
-        points: points,
-        bounds: bounds,
+        circles,
+        points,
+        bounds,
     }
 }
 
@@ -41,7 +40,5 @@ pub(crate) fn ready_of(plan: Plan, clipped: bool) -> Ready
 pub(crate) fn sets_of(ready: Ready) -> [u8; 1024]
     ensures { result ≡ spec.sets_in ready }
 {
-    let circles = ready.circles;
-    let points = ready.points;
-    discover_regions(circles, points, ready.n)
+    discover_regions(ready.circles, ready.points, ready.n)
 }

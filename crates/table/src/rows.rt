@@ -17,32 +17,18 @@ pub struct Change {
 }
 
 // Whether the row of a set after the edit is worked out; `was` is its byte before.
+#[tactic(auto, unfolding(regions::specs::Edit::reworked))]
 fn is_reworked(change: Change, was: u8, mask: usize) -> bool
     ensures { result ≡ reworked change.own change.met (λ S. eqb was 1) mask }
 {
-    if mask & change.own != 0 {
-        return true;
-    }
-    if was != 1 {
-        return true;
-    }
-    if usize::count_ones(mask) == 1 {
-        return false;
-    }
-    mask & change.met != 0
+    mask & change.own != 0 || was != 1 || (mask.count_ones() != 1 && mask & change.met != 0)
 }
 
 // Whether row `mask` is worked out, by its bytes among the sets before and after. Row 0 never is.
 fn is_worked_out(change: Change, was: u8, is: u8, mask: usize) -> bool
     ensures { result ≡ spec.worked_out change (λ S. eqb was 1) (λ S. eqb is 1) mask }
 {
-    if mask == 0 {
-        return false;
-    }
-    if is != 1 {
-        return false;
-    }
-    is_reworked(change, was, mask)
+    mask != 0 && is == 1 && is_reworked(change, was, mask)
 }
 
 // Which of rows 0 to count - 1 are worked out, as bytes.
@@ -56,12 +42,8 @@ fn rows_worked_out(
     ensures { result ≡ written (λ S. byte (spec.worked_out change (stands earlier.now) (stands later.now) S)) count (replicate 1024 0) }
 {
     let mut wanted = [0u8; 1024];
-    let mut mask: usize = 0;
-    while mask < count {
-        if is_worked_out(change, earlier[mask], later[mask], mask) {
-            wanted[mask] = 1;
-        }
-        mask += 1;
+    for mask in 0..count {
+        wanted[mask] = u8::from(is_worked_out(change, earlier[mask], later[mask], mask));
     }
     wanted
 }
@@ -85,11 +67,13 @@ pub(crate) fn write_rows(
         ≡ written (λ S. (spec.rows_written ready change earlier.now later.now presence.old rows.old S).number)
         count rows.old }
 {
-    let clipped = ready.clipped;
-    let n = ready.n;
-    let circles = ready.circles;
-    let points = ready.points;
-    let bounds = ready.bounds;
+    let Ready {
+        clipped,
+        n,
+        circles,
+        points,
+        bounds,
+    } = ready;
     let wanted = rows_worked_out(change, earlier, later, count);
     write_areas(clipped, circles, points, n, bounds, &wanted, rows);
     clear_absent(clipped, n, later, rows);

@@ -1,27 +1,36 @@
 // Both lent tables written in one pass: the rows, and from them the exclusives. Every call that writes a table goes through here, with the
 // sets before and after handed in as bytes, so that another list of sets needs no other pass.
-ghost use Rattle.std.specs.Prelude.{◌≡◌, [], ◌∷◌};
-ghost use Rattle.plan.specs.Table.{lent_by};
+ghost use Rattle.std.specs.Prelude.{◌≡◌};
 ghost use Rattle.regions.proofs.Slices.{Room};
-ghost use Rattle.regions.specs.Slices.{tables_of};
+ghost use Rattle.regions.specs.Slices.{lent_of};
 ghost use Rattle.table.specs.Rows.{rows_written};
-ghost use Rattle.table.specs.Tables.{tables_written};
+ghost use Rattle.table.specs.Tables.{tables_in, SameSlices, tables_written};
 
 use crate::exclusives::write_exclusives;
 use crate::ready::Ready;
 use crate::rows::{Change, write_rows};
-use plan::{Lent, rows_needed, shorter};
+use plan::{Lent, rows_needed};
 
-// What four slices of these lengths lend.
-pub fn lent_by(presence: usize, rows: usize, exclusive_presence: usize, exclusives: usize) -> Lent
-    ensures { result ≡ lent_by (presence ∷ rows ∷ exclusive_presence ∷ exclusives ∷ []) 0 }
-{
-    Lent {
-        rows: shorter(
-            presence,
-            shorter(rows, shorter(exclusive_presence, exclusives)),
-        ),
-        gradients: 0,
+// The slices that a call lends for a plan's rows and for their exclusives: of both tables the presence bytes and the numbers.
+#[derive(Drop)]
+pub struct Tables<'a> {
+    pub presence: &'a mut [u8],
+    pub rows: &'a mut [f64],
+    pub exclusive_presence: &'a mut [u8],
+    pub exclusives: &'a mut [f64],
+}
+
+impl Tables<'_> {
+    // As many rows as the shortest slice has.
+    pub fn lent(&self) -> Lent
+        ensures { result ≡ lent_of (tables_in self.now) }
+    {
+        let rows = self.presence.len().min(self.rows.len());
+        let exclusives = self.exclusive_presence.len().min(self.exclusives.len());
+        Lent {
+            rows: rows.min(exclusives),
+            gradients: 0,
+        }
     }
 }
 
@@ -31,18 +40,21 @@ pub(crate) fn write_tables(
     change: Change,
     earlier: &[u8; 1024],
     later: &[u8; 1024],
-    presence: &mut [u8],
-    rows: &mut [f64],
-    exclusive_presence: &mut [u8],
-    exclusives: &mut [f64],
+    tables: &mut Tables<'_>,
 )
-    requires { Room ready.n (tables_of presence.old rows.old exclusive_presence.old exclusives.old) }
-    ensures { tables_of presence.new rows.new exclusive_presence.new exclusives.new
+    requires { Room ready.n (tables_in tables.old) }
+    ensures written { tables_in tables.new
         ≡ tables_written ready.n
-        (rows_written ready change earlier.now later.now presence.old rows.old)
-        (tables_of presence.old rows.old exclusive_presence.old exclusives.old) }
+        (rows_written ready change earlier.now later.now tables.old.presence.now tables.old.rows.now)
+        (tables_in tables.old) }
+    ensures same_slices { SameSlices tables.old tables.new }
 {
     let count = rows_needed(ready.n);
+    // One field after the other, since the borrow checker covers no two of a struct's references in one call.
+    let presence = &mut *tables.presence;
+    let rows = &mut *tables.rows;
+    let exclusive_presence = &mut *tables.exclusive_presence;
+    let exclusives = &mut *tables.exclusives;
     write_rows(ready, change, earlier, later, count, presence, rows);
     write_exclusives(ready.n, presence, rows, exclusive_presence, exclusives);
 }

@@ -1,5 +1,5 @@
 -- A plan as a C program hands it over: the number of heads, the box as four numbers, and ten heads as thirty.
-use Rattle.std.specs.Prelude.{ℕ, ◌+◌, ◌*◌, List, [], ◌∷◌, ℤ, pos, get_or}
+use Rattle.std.specs.Prelude.{ℕ, ◌+◌, ◌*◌, ◌/◌, ◌%◌, List, [], ◌∷◌, ℤ, pos, get_or}
 use Rattle.heads.specs.declared.Head.{Head}
 use Rattle.plan.specs.declared.Ground.{Ground}
 use Rattle.plan.specs.declared.Plan.{Plan}
@@ -25,6 +25,10 @@ plan_of n box heads = let ground : Ground = ground_of box in record { ground = g
 -- ten heads as numbers again
 abbrev pub three : Head → List ℤ → List ℤ
 three h rest = h.x ∷ h.y ∷ h.radius ∷ rest
+
+-- number i of them
+unfoldable pub number_at : List Head → ℕ → ℤ
+number_at l i = let h = get_or l (i / 3) no_head in get_or (h.x ∷ h.y ∷ h.radius ∷ []) (i % 3) (pos 0)
 
 abbrev pub numbers_of : List Head → List ℤ
 numbers_of l =

@@ -5,7 +5,9 @@ ghost use Rattle.watered.specs.Handed as spec;
 
 use heads::Head;
 use plan::{Answer, Ground, Plan, answer_number};
+use std::array;
 
+#[tactic(auto, unfolding(crate::specs::Handed::head_of))]
 fn head_of(numbers: &[i32; 30], i: usize) -> Head
     requires { i < 10 }
     ensures { result ≡ spec.head_of numbers.now i }
@@ -21,73 +23,56 @@ fn head_of(numbers: &[i32; 30], i: usize) -> Head
 fn heads_of(numbers: &[i32; 30]) -> [Head; 10]
     ensures { result ≡ spec.heads_of numbers.now }
 {
-    [
-        head_of(numbers, 0),
-        head_of(numbers, 1),
-        head_of(numbers, 2),
-        head_of(numbers, 3),
-        head_of(numbers, 4),
-        head_of(numbers, 5),
-        head_of(numbers, 6),
-        head_of(numbers, 7),
-        head_of(numbers, 8),
-        head_of(numbers, 9),
-    ]
+    array::from_fn(|i| head_of(numbers, i))
 }
 
+#[tactic(auto, unfolding(crate::specs::Handed::ground_of))]
 fn ground_of(sides: &[i32; 4]) -> Ground
     ensures { result ≡ spec.ground_of sides.now }
 {
+    let [x, y, width, height] = *sides;
     Ground {
-        x: sides[0],
-        y: sides[1],
-        width: sides[2],
-        height: sides[3],
+        x,
+        y,
+        width,
+        height,
     }
 }
 
+#[tactic(auto, unfolding(crate::specs::Handed::plan_of))]
 pub(crate) fn plan_of(n: usize, sides: &[i32; 4], numbers: &[i32; 30]) -> Plan
     ensures { result ≡ spec.plan_of n sides.now numbers.now }
 {
-    let ground = ground_of(sides);
-    let heads = heads_of(numbers);
     Plan {
-        ground: ground,
-        n: n,
-        heads: heads,
+        ground: ground_of(sides),
+        n,
+        heads: heads_of(numbers),
     }
+}
+
+#[tactic(auto, unfolding(crate::specs::Handed::number_at))]
+fn number_at(heads: &[Head; 10], i: usize) -> i32
+    requires { i < 30 }
+    ensures { result ≡ spec.number_at heads.now i }
+{
+    let Head { x, y, radius } = heads[i / 3];
+    [x, y, radius][i % 3]
 }
 
 // The numbers of ten heads.
 pub(crate) fn numbers_of(heads: [Head; 10]) -> [i32; 30]
     ensures { result ≡ spec.numbers_of heads }
 {
-    let a = heads[0];
-    let b = heads[1];
-    let c = heads[2];
-    let d = heads[3];
-    let e = heads[4];
-    let f = heads[5];
-    let g = heads[6];
-    let h = heads[7];
-    let i = heads[8];
-    let j = heads[9];
-    [
-        a.x, a.y, a.radius, b.x, b.y, b.radius, c.x, c.y, c.radius, d.x, d.y, d.radius, e.x, e.y,
-        e.radius, f.x, f.y, f.radius, g.x, g.y, g.radius, h.x, h.y, h.radius, i.x, i.y, i.radius,
-        j.x, j.y, j.radius,
-    ]
-}
-
-fn wide(number: u8) -> u32
-    ensures { result ≡ number }
-{
-    number as u32
+    let mut numbers = [0; 30];
+    for (i, number) in numbers.iter_mut().enumerate() {
+        *number = number_at(&heads, i);
+    }
+    numbers
 }
 
 // Document 01's number of an answer, 0 where it is taken.
 pub(crate) fn number_of(answer: Answer) -> u32
     ensures { result ≡ answer_number answer }
 {
-    wide(answer_number(answer))
+    u32::from(answer_number(answer))
 }

@@ -2,7 +2,7 @@
 ghost use Rattle.std.specs.Prelude.{◌≡◌};
 ghost use Rattle.areas.specs.Sets.{plan_sets};
 ghost use Rattle.gradients.specs.Step.{gradient_slices, clipped_step, open_step};
-ghost use Rattle.overlaps.specs.Overlap.{overlap as overlapArea};
+ghost use Rattle.overlaps.specs.Overlap.{overlap as overlap_area};
 ghost use Rattle.drawn.specs.Drawn.{plan_circles};
 ghost use Rattle.plan.specs.Checks.{plan_answer};
 ghost use Rattle.plan.specs.Table.{answer_number};
@@ -29,8 +29,7 @@ pub fn watered_gradients(
     ensures gradients_after { gradient_slices presence.new exclusives.new gradients.new ≡ (clipped_step plan_sets (spec.plan_of n sides.now heads.now) (gradient_slices presence.old exclusives.old gradients.old)).left }
 {
     let plan = plan_of(n, sides, heads);
-    let answer = gradients::gradients(plan, presence, exclusives, gradients);
-    number_of(answer)
+    number_of(gradients::gradients(plan, presence, exclusives, gradients))
 }
 
 // The same without the box, which is checked all the same: row 0 is absent, and there are 3n gradient numbers a row.
@@ -46,13 +45,13 @@ pub fn watered_open_gradients(
     ensures gradients_after { gradient_slices presence.new exclusives.new gradients.new ≡ (open_step plan_sets (spec.plan_of n sides.now heads.now) (gradient_slices presence.old exclusives.old gradients.old)).left }
 {
     let plan = plan_of(n, sides, heads);
-    let answer = gradients::open_gradients(plan, presence, exclusives, gradients);
-    number_of(answer)
+    number_of(gradients::open_gradients(plan, presence, exclusives, gradients))
 }
 
 // The area that all heads of a plan water together, without the box.
+#[tactic(auto, unfolding(drawn::specs::Drawn::plan_circles))]
 fn overlap_of(plan: Plan) -> f64
-    ensures { result ≡ overlapArea (plan_circles plan) }
+    ensures { result ≡ overlap_area (plan_circles plan) }
 {
     compute_overlaps_circles(circles_of(plan), plan.n)
 }
@@ -64,9 +63,9 @@ pub fn watered_overlap(n: usize, sides: &[i32; 4], heads: &[i32; 30], overlap: &
     ensures overlap_after { overlap.new ≡ overlap_left (spec.plan_of n sides.now heads.now) overlap.old }
 {
     let plan = plan_of(n, sides, heads);
-    let number = number_of(check(plan));
-    if number == 0 {
+    let answer = check(plan);
+    if answer.is_ok() {
         *overlap = overlap_of(plan);
     }
-    number
+    number_of(answer)
 }

@@ -8,47 +8,62 @@ ghost use Rattle.watered.specs.Handed as spec;
 ghost use Rattle.watered.specs.Run.{Ran};
 
 use crate::handed::{number_of, numbers_of, plan_of};
+use plan::Edit;
+use table::afresh::{afresh, open_afresh};
+use table::edit::edit;
+use table::run::{Edits, run};
+use table::tables::Tables;
 
 // The rows of a plan in its box and their exclusive areas, worked out afresh: presence bytes and numbers of rows 0 to 2^n - 1 of both
 // tables. The answer is 0, or document 01's number of the refusal (2, 4, 5, 7), which writes nothing.
-pub fn watered_afresh(
+pub fn watered_afresh<'a>(
     n: usize,
     sides: &[i32; 4],
     heads: &[i32; 30],
-    presence: &mut [u8],
-    rows: &mut [f64],
-    exclusive_presence: &mut [u8],
-    exclusives: &mut [f64],
+    presence: &'a mut [u8],
+    rows: &'a mut [f64],
+    exclusive_presence: &'a mut [u8],
+    exclusives: &'a mut [f64],
 ) -> u32
     ensures value { result ≡ answer_number (afresh_slices clipped_table (plan_slices (spec.plan_of n sides.now heads.now) presence.old rows.old exclusive_presence.old exclusives.old)).answer }
     ensures exclusives_after { tables_of presence.new rows.new exclusive_presence.new exclusives.new ≡ (afresh_slices clipped_table (plan_slices (spec.plan_of n sides.now heads.now) presence.old rows.old exclusive_presence.old exclusives.old)).left.tables }
 {
     let plan = plan_of(n, sides, heads);
-    let answer = table::afresh::afresh(plan, presence, rows, exclusive_presence, exclusives);
-    number_of(answer)
+    let mut tables = Tables {
+        presence,
+        rows,
+        exclusive_presence,
+        exclusives,
+    };
+    number_of(afresh(plan, &mut tables))
 }
 
 // The same without the box: row 0 is absent. The box is checked all the same.
-pub fn watered_open_afresh(
+pub fn watered_open_afresh<'a>(
     n: usize,
     sides: &[i32; 4],
     heads: &[i32; 30],
-    presence: &mut [u8],
-    rows: &mut [f64],
-    exclusive_presence: &mut [u8],
-    exclusives: &mut [f64],
+    presence: &'a mut [u8],
+    rows: &'a mut [f64],
+    exclusive_presence: &'a mut [u8],
+    exclusives: &'a mut [f64],
 ) -> u32
     ensures value { result ≡ answer_number (afresh_slices open_table (plan_slices (spec.plan_of n sides.now heads.now) presence.old rows.old exclusive_presence.old exclusives.old)).answer }
     ensures exclusives_after { tables_of presence.new rows.new exclusive_presence.new exclusives.new ≡ (afresh_slices open_table (plan_slices (spec.plan_of n sides.now heads.now) presence.old rows.old exclusive_presence.old exclusives.old)).left.tables }
 {
     let plan = plan_of(n, sides, heads);
-    let answer = table::afresh::open_afresh(plan, presence, rows, exclusive_presence, exclusives);
-    number_of(answer)
+    let mut tables = Tables {
+        presence,
+        rows,
+        exclusive_presence,
+        exclusives,
+    };
+    number_of(open_afresh(plan, &mut tables))
 }
 
 // Head number `head` of the plan gets a new place and radius, and both tables follow; the plan left stands in `heads`. The answer is 0, or
 // the refusal's number (2, 4, 5, 6, 7), which leaves heads and tables.
-pub fn watered_edit(
+pub fn watered_edit<'a>(
     n: usize,
     sides: &[i32; 4],
     heads: &mut [i32; 30],
@@ -56,37 +71,31 @@ pub fn watered_edit(
     x: i32,
     y: i32,
     radius: i32,
-    presence: &mut [u8],
-    rows: &mut [f64],
-    exclusive_presence: &mut [u8],
-    exclusives: &mut [f64],
+    presence: &'a mut [u8],
+    rows: &'a mut [f64],
+    exclusive_presence: &'a mut [u8],
+    exclusives: &'a mut [f64],
 ) -> u32
     ensures value { result ≡ answer_number (edit_slices clipped_table (plan_slices (spec.plan_of n sides.now heads.old) presence.old rows.old exclusive_presence.old exclusives.old) (edit_of head x y radius)).answer }
     ensures heads_after { heads.new ≡ spec.numbers_of (edit_slices clipped_table (plan_slices (spec.plan_of n sides.now heads.old) presence.old rows.old exclusive_presence.old exclusives.old) (edit_of head x y radius)).left.plan.heads }
     ensures exclusives_after { tables_of presence.new rows.new exclusive_presence.new exclusives.new ≡ (edit_slices clipped_table (plan_slices (spec.plan_of n sides.now heads.old) presence.old rows.old exclusive_presence.old exclusives.old) (edit_of head x y radius)).left.tables }
 {
     let plan = plan_of(n, sides, heads);
-    let booked = table::edit::edit(
-        plan,
-        head,
-        x,
-        y,
-        radius,
+    let mut tables = Tables {
         presence,
         rows,
         exclusive_presence,
         exclusives,
-    );
-    let left = booked.plan;
-    let answer = booked.answer;
-    let ten = left.heads;
-    *heads = numbers_of(ten);
-    number_of(answer)
+    };
+    let asked = Edit { head, x, y, radius };
+    let booked = edit(plan, asked, &mut tables);
+    *heads = numbers_of(booked.plan.heads);
+    number_of(booked.answer)
 }
 
 // A list of edits, each tried on what the one before left: as many as the shortest of the five lists allows, which count it gives. Answer i
 // is 0 where edit i was taken, or the refusal's number. The plan left stands in `heads`.
-pub fn watered_run(
+pub fn watered_run<'a>(
     n: usize,
     sides: &[i32; 4],
     heads: &mut [i32; 30],
@@ -95,10 +104,10 @@ pub fn watered_run(
     y: &[i32],
     radius: &[i32],
     answers: &mut [u8],
-    presence: &mut [u8],
-    rows: &mut [f64],
-    exclusive_presence: &mut [u8],
-    exclusives: &mut [f64],
+    presence: &'a mut [u8],
+    rows: &'a mut [f64],
+    exclusive_presence: &'a mut [u8],
+    exclusives: &'a mut [f64],
 ) -> usize
     ensures { Ran clipped_table
         (plan_slices (spec.plan_of n sides.now heads.old) presence.old rows.old exclusive_presence.old exclusives.old)
@@ -107,20 +116,19 @@ pub fn watered_run(
         answers.new }
 {
     let plan = plan_of(n, sides, heads);
-    let ran = table::run::run(
-        plan,
-        edit_heads,
-        x,
-        y,
-        radius,
-        answers,
+    let mut tables = Tables {
         presence,
         rows,
         exclusive_presence,
         exclusives,
-    );
-    let left = ran.plan;
-    let ten = left.heads;
-    *heads = numbers_of(ten);
+    };
+    let edits = Edits {
+        head: edit_heads,
+        x,
+        y,
+        radius,
+    };
+    let ran = run(plan, edits, answers, &mut tables);
+    *heads = numbers_of(ran.plan.heads);
     ran.count
 }

@@ -17,8 +17,7 @@ use Rattle.geometry.specs.declared.circle.Circle.{Circle}
 use Rattle.inside.specs.Span.{between, horizontal_span}
 use Rattle.exclusive.specs.RowOrder.{rows_of, row_order}
 use Rattle.exclusive.specs.Exclusive.{sum_onto, above, subtracted, unclamped, exclusive_table}
-use Rattle.plan.specs.declared.Answer.{Answer}
-use Rattle.plan.specs.declared.Answer.TheVariants.{Taken}
+use Rattle.plan.specs.Table.{Answered, taken}
 use Rattle.plan.specs.declared.Ground.{Ground}
 use Rattle.plan.specs.declared.Plan.{Plan}
 use Rattle.plan.specs.Checks.{heads_items, plan_items, call_answer}
@@ -58,7 +57,7 @@ no_heads =
     record { ground = ground; n = 0; heads = replicate 10 no_head }
 
 -- Its afresh call over two tables of two rows each, whatever they hold.
-abbrev pub afresh_over : List ℕ → List Float → List ℕ → List Float → Step PlanSlices Answer
+abbrev pub afresh_over : List ℕ → List Float → List ℕ → List Float → Step PlanSlices Answered
 afresh_over bytes numbers others areas = afresh_slices (clipped_method plan_sets to_exclusives) (plan_slices no_heads bytes numbers others areas)
 
 -- The examples, in document 01's order.
@@ -89,7 +88,7 @@ examples =
     ∷ (to_bits binary64 (root (whole 2)) ≡ 0x3ff6_a09e_667f_3bcd)
     -- P12: zero heads: row 0 only, byte 1 and the box's area, in both tables; what stands beyond stays
     ∷ (afresh_over (7 ∷ 8 ∷ []) (whole 2 ∷ whole 3 ∷ []) (9 ∷ 5 ∷ []) (whole 4 ∷ whole 6 ∷ [])
-    ≡ step_of (plan_slices no_heads (1 ∷ 8 ∷ []) (whole 1600000000 ∷ whole 3 ∷ []) (1 ∷ 5 ∷ []) (whole 1600000000 ∷ whole 6 ∷ [])) Taken)
+    ≡ step_of (plan_slices no_heads (1 ∷ 8 ∷ []) (whole 1600000000 ∷ whole 3 ∷ []) (1 ∷ 5 ∷ []) (whole 1600000000 ∷ whole 6 ∷ [])) taken)
     ∷ []
 
 -- Every example holds.

@@ -1,6 +1,6 @@
 -- The certificate of a guess by exact products in halves: the square of q against m * 2^52.
-use Rattle.std.proofs.Common.{◌≡◌, ℕ, zero, suc, ◌+◌, ◌-◌, ◌*◌, ◌/◌, ◌%◌, ◌^◌, ◌<◌, ◌≤◌, sym, ap, ◌∙◌, subst, ap₂, mul-le-mul, div-add-mod', sub-one, arith}
-use Rattle.elementary.specs.RootSteps.{Near, Balanced}
+use Rattle.std.proofs.Common.{◌≡◌, ℕ, ◌+◌, ◌-◌, ◌*◌, ◌/◌, ◌%◌, ◌^◌, ◌<◌, ◌≤◌, sym, ap, ◌∙◌, ap₂, mul-le-mul, div-add-mod', arith}
+use Rattle.elementary.specs.RootSteps.{Balanced}
 
 -- a square by the halves of its root
 square_halves : (q u l : ℕ) → q ≡ u * 2 ^ 27 + l → q * q ≡ u * u * 2 ^ 54 + u * l * 2 ^ 28 + l * l
@@ -24,19 +24,8 @@ cross_shifted c = omega arith
 radicand_shifted : (m : ℕ) → (m % 4 + 4) * 2 ^ 52 % 2 ^ 64 ≡ (m % 4 + 4) * 2 ^ 52
 radicand_shifted m = omega arith
 
-below : (a b A B : ℕ) → a ≤ A → b ≤ B → a * b ≤ A * B
-below a b A B h k = mul-le-mul h k
-
-module _ (q : ℕ) (h : q < 2 ^ 53) where
-  -- the three products fit
-  pub cross_fits : q / 2 ^ 27 * (q % 2 ^ 27) < 2 ^ 53
-  cross_fits = omega (arith, below (q / 2 ^ 27) (q % 2 ^ 27) (2 ^ 26 - 1) (2 ^ 27 - 1) (omega arith) (omega arith))
-
-  pub upper_fits : q / 2 ^ 27 * (q / 2 ^ 27) < 2 ^ 52
-  upper_fits = omega (arith, below (q / 2 ^ 27) (q / 2 ^ 27) (2 ^ 26 - 1) (2 ^ 26 - 1) (omega arith) (omega arith))
-
-  pub lower_fits : q % 2 ^ 27 * (q % 2 ^ 27) < 2 ^ 54
-  lower_fits = omega (arith, below (q % 2 ^ 27) (q % 2 ^ 27) (2 ^ 27 - 1) (2 ^ 27 - 1) (omega arith) (omega arith))
+lower_fits : (q : ℕ) → q < 2 ^ 53 → q % 2 ^ 27 * (q % 2 ^ 27) < 2 ^ 54
+lower_fits q h = omega (arith, mul-le-mul {n₁ = q % 2 ^ 27} {m₁ = q % 2 ^ 27} {n₂ = 2 ^ 27 - 1} {m₂ = 2 ^ 27 - 1} (omega arith) (omega arith))
 
 -- What `weigh` gives is the square of q and m * 2^52, both less the same number.
 pub balanced : (m q : ℕ) → q < 2 ^ 53 →
@@ -55,7 +44,7 @@ balanced m q h a b =
     record {
       left = small d (u * l) (l * l) b (lower_fits q h);
       right = omega arith;
-      level = λ _.
+      level =
           ap₂ (λ (x y : ℕ). x + y) s (radicand_shifted m)
           ∙ balance (m / 4) (m % 4) (u * u) (u * l / 2 ^ 26) (u * l % 2 ^ 26) (l * l) d (omega arith)
           ∙ sym (ap₂ (λ (x y : ℕ). x * 2 ^ 52 + y) r (ap₂ (λ (x y : ℕ). x + (y + l * l)) (ahead_fits d b) (cross_shifted (u * l))));
@@ -63,18 +52,3 @@ balanced m q h a b =
   where
     small : (d c k : ℕ) → d ≤ 2 → k < 2 ^ 54 → d * 2 ^ 54 % 2 ^ 64 + (c % 2 ^ 26 * 2 ^ 28 % 2 ^ 64 + k) < 2 ^ 57
     small d c k h g = omega arith
-
--- a and b are the square of q and n, less the same number
-module _ (n q a b : ℕ) (e : q * q + b ≡ n + a) where
-  pub settled : a < b + q → b ≤ a + q → Near n q
-  settled h k = record { above = omega arith; below = omega arith }
-
-  pub settled_up : a + q < b → b ≤ a + q * 3 + 2 → Near n (q + 1)
-  settled_up h k = record { above = omega arith; below = omega arith }
-
-pub settled_down : (n q a b : ℕ) → q * q + b ≡ n + a → 0 < q → b + q ≤ a → a + 2 < b + q * 3 → Near n (q - 1)
-settled_down n zero a b e p h k = absurd (none p)
-  where
-    none : 0 < 0 → ⊥
-    none p = omega arith
-settled_down n (suc p) a b e z h k = subst (λ (r : ℕ). Near n r) (sym (sub-one (suc p))) (record { above = omega arith; below = omega arith })

@@ -1,5 +1,5 @@
 -- The root digit by digit: what holds after each pair of the radicand's digits, and that the end is the nearest whole number.
-use Rattle.std.proofs.Common.{zero, ◌≡◌, ℕ, suc, ◌+◌, ◌-◌, ◌*◌, ◌/◌, ◌%◌, ◌^◌, ◌<◌, ◌≤◌, sym, ap, ◌∙◌, subst, mul-le-mul_right, mul_assoc, mul-le-mul_left, pow-suc, sub-one, arith, pow_pos}
+use Rattle.std.proofs.Common.{zero, ◌≡◌, ℕ, suc, ◌+◌, ◌-◌, ◌*◌, ◌/◌, ◌%◌, ◌^◌, ◌<◌, ◌≤◌, sym, ap, ◌∙◌, subst, mul-le-mul_right, mul_assoc, pow-suc, sub-one, arith}
 use native.Mathlib.Nat.{pow-succ'}
 use lib.Arith.{le-zero}
 use Rattle.elementary.specs.Root.{nearest_root}
@@ -13,20 +13,6 @@ pub record Taken (m digits root rest left : ℕ) : Type 0 where
   pub short : (root + 1) * 2 ^ left ≤ 2 ^ 53
   pub least : rest ≤ 2 * root
   pub whole : m * 2 ^ 116 ≡ ((root * root + rest) * 2 ^ 64 + digits) * 4 ^ left
-
-pub taken_none : (m : ℕ) → m < 2 ^ 54 → Taken m (m * 2 ^ 10 % 2 ^ 64) 0 0 53
-taken_none m h =
-    let e : m * 2 ^ 10 ≡ (0 * 0 + 0) * 2 ^ 64 + m * 2 ^ 10 % 2 ^ 64 = omega arith in
-    record {
-      fits = omega arith;
-      short = omega arith;
-      least = omega arith;
-      whole = sym (mul_assoc m (2 ^ 10) (4 ^ 53)) ∙ ap (λ (z : ℕ). z * 4 ^ 53) e;
-    }
-
--- the root so far has at most 53 digits
-pub taken_short : (m digits root rest left : ℕ) → Taken m digits root rest left → root < 2 ^ 53
-taken_short m digits root rest left t = omega (arith, t.short, mul-le-mul_left (root + 1) (pow_pos left))
 
 -- a pair is moved from the digits to come to those taken
 moved : (w a b left : ℕ) → 0 < left → w ≡ a * 4 ^ left → a * 4 ≡ b → w ≡ b * 4 ^ (left - 1)

@@ -65,7 +65,6 @@ module _ (v x : Float) (t : T (fits binary64 v)) (inside : le (absolute v) sixte
   pub cut_asks : T (lt (fin true 1 (pos 0)) (mul binary64 x angle_scale)) × T (lt (mul binary64 x angle_scale) (fin false 1 (pos 64)))
   cut_asks = rw is (asks (inside_domain t inside))
 
-  pub cut_gives : (r : ℕ) → r ≡ to_unsigned 64 (mul binary64 x angle_scale) → (r ≡ angle v) × (r ≤ 9223372036854775808)
-  cut_gives r e =
-      let same : r ≡ angle v = e ∙ ap (λ (y : Float). to_unsigned 64 (mul binary64 y angle_scale)) is in
-      (same, le_trans (le_of_eq same) (angle_small (inside_domain t inside)))
+  pub cut_bound : (r : ℕ) → r ≡ to_unsigned 64 (mul binary64 x angle_scale) → r ≤ 2 ^ 63
+  cut_bound r e =
+      le_trans (le_of_eq (e ∙ ap (λ (y : Float). to_unsigned 64 (mul binary64 y angle_scale)) is)) (angle_small (inside_domain t inside))

@@ -2,12 +2,13 @@
 use mathlib.Core.Path.{sym}
 use native.Mathlib.Nat.{lt_of_lt_of_le}
 use lib.Pow.{pow_mono}
-use borrow.Author.Tests.{lt-ltb}
+use borrow.Author.Tests.{lt-ltb, le-leb}
 use Rattle.plan.proofs.Conditions.{below_iff}
 use Rattle.plan.proofs.fits_map.Goals as goal
 
-pub returns-then-fields-lt8 : goal.returns-then-fields-lt8
-returns-then-fields-lt8 c = below_iff c.args.fields c.args.map
+pub returns-then-fields-ge8 : goal.returns-then-fields-ge8
+returns-then-fields-ge8 c =
+    rw (le-leb 8 _ c.if-fields-ge8.true) (sym (lt-ltb _ _ (lt_of_lt_of_le c.ranges.map.fits (pow_mono c.if-fields-ge8.true))))
 
-pub returns-else-fields-lt8 : goal.returns-else-fields-lt8
-returns-else-fields-lt8 c = sym (lt-ltb _ _ (lt_of_lt_of_le c.ranges.map.fits (pow_mono c.if-fields-lt8.false)))
+pub returns-else-fields-ge8 : goal.returns-else-fields-ge8
+returns-else-fields-ge8 c = below_iff c.args.fields c.args.map

@@ -1,12 +1,12 @@
-use Rattle.std.proofs.Common.{ℕ, ◌≤◌, List, Result, Ok, Err, OnOk, length, take, subst}
+use Rattle.std.proofs.Common.{ℕ, ◌≤◌, List, Result, Ok, Err, OnOk, length, take, subst, rules}
 use Rattle.std.specs.declared.option.Option.{Option}
 use Rattle.std.specs.Io.KnownBytes.{Appends}
-use Rattle.regions.specs.Slices.{LentTables, plan_slices}
+use Rattle.regions.specs.Slices.{LentTables}
 use Rattle.table.specs.Method.{clipped_table}
 use Rattle.file.specs.File.{read_file}
 use Rattle.printing.specs.Text.{Printed}
 use Rattle.reading.specs.Whole.{file_printed}
-use Rattle.reading.specs.Reading.{state_of, AfterBytes}
+use Rattle.reading.specs.Reading.{state_in, AfterBytes}
 use Rattle.rows.proofs.Parts.{text_at_front}
 use Rattle.rows.proofs.print.Goals as goal
 
@@ -20,7 +20,9 @@ texts_written (Err e) old new out left n Of text h few p = tt
 
 pub returns-clause-ok : goal.returns-clause-ok
 returns-clause-ok g c =
-    let state = state_of c.args.reading.reader (plan_slices c.args.reading.plan c.args.presence.now c.args.rows.now c.args.exclusive_presence.now c.args.exclusives.now) in
-    texts_written c.write_out.result _ _ _ c.print_file-n.new.out c.print_file-n.result
+    let state = state_in c.args.reading c.args.tables.now in
+    let n = c.print_file-n in
+    let written : OnOk c.map_err.result (Appends (g.O.Write.contents c.args.out.now) (g.O.Write.contents c.write_all.new.self) (take n.result n.new.out)) = search rules in
+    texts_written c.map_err.result _ _ _ n.new.out n.result
     (λ t s. AfterBytes clipped_table t s state) (λ t s. file_printed clipped_table t (read_file s))
-    c.write_out.ensures.ok c.print_file-n.ensures.upper_bound c.print_file-n.ensures.printed_2
+    written n.ensures.upper_bound n.ensures.printed_2

@@ -1,7 +1,13 @@
 -- `candidates::whole_circle`: what the three calls give.
-use Rattle.boundary.specs.Outline.{arcs_at}
+use borrow.Author.Rules.{rules}
+use mathlib.Core.Path.{◌∙◌, ap}
+use Rattle.intersections.specs.Counted.{circle_list}
+use Rattle.boundary.specs.Outline.{owned, full_circle, arcs_at}
+use Rattle.boundary.proofs.Gaps.{one_if}
 use Rattle.boundary.proofs.candidates.whole_circle.Goals as goal
 
 pub returns : goal.returns
 unfolding arcs_at
-returns c = rw (← c.probe.ensures, ← c.owned-kept.ensures, c.full_circle.ensures)
+returns c =
+    let a = c.args in
+    one_if _ _ (full_circle a.k a.circle) (c.then.ensures.variant ∙ c.owned.ensures ∙ ap (λ p. owned a.k p (circle_list a.set)) c.probe.ensures) (search rules)

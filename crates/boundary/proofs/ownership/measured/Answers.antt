@@ -1,21 +1,17 @@
 -- `ownership::measured`: all four tests passed.
-use mathlib.Core.Bool.{false≢true}
 use borrow.Author.Rules.{rules}
+use mathlib.Core.Path.{sym, ◌∙◌}
 use Rattle.boundary.proofs.Far.{measured}
 use Rattle.boundary.proofs.ownership.measured.Goals as goal
+use Rattle.boundary.proofs.ownership.measured.Goals.{then-r, else-r, then-r-2, else-r-2}
 
 pub returns-then-squared : goal.returns-then-squared
 returns-then-squared c e =
-    let two = c.before in
-    let one = two in
-    let a = one.args in
-    measured a.r a.squared (search rules) (search rules) one.if-r.true two.if-r-2.true c.if-squared.true e
-
-pub returns-else-squared : goal.returns-else-squared
-returns-else-squared c e = absurd (false≢true e)
-
-pub returns-else-r-2 : goal.returns-else-r-2
-returns-else-r-2 c e = absurd (false≢true e)
-
-pub returns-else-r : goal.returns-else-r
-returns-else-r c e = absurd (false≢true e)
+    let a = c.args in
+    elim c.if-r-2.branch [
+      | then-r-2 w ↦ elim c.if-r.branch [
+        | then-r v ↦ measured a.r a.squared (search rules) (search rules) v.if-r.true (sym v.value-is ∙ w.if-r-2.true) (sym w.value-is ∙ c.if-squared.true) e
+        | else-r v ↦ cc
+      ]
+      | else-r-2 w ↦ cc
+    ]

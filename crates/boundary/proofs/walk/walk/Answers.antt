@@ -1,88 +1,73 @@
--- `walk::walk`: the arcs of the members before k are held (Members-to), and in the inner loop those of the gaps before i of the member at k (Gaps-to).
+-- `walk::walk`: the arcs of the members before k are held, and in the inner loop those of the gaps before i of the member at k.
 use borrow.Author.Rules.{rules}
-use mathlib.Core.Path.{refl}
-use Prim.Native.Nat.{◌<◌}
+use mathlib.Core.Path.{◌≡◌, refl, sym, ap, ◌∙◌}
+use Prim.Native.Nat.{◌<◌, max}
 use native.Mathlib.Omega.{arith}
-use lib.ListN.{length-replicate}
+use lib.ListN.{length, length-take, length-replicate, get_or}
 use Rattle.lists.specs.Lists.{up_to}
 use Rattle.lists.proofs.Arrays.{length_of_values}
+use Rattle.intersections.specs.Members.{no_circle}
+use Rattle.intersections.specs.Counted.{point_list, head_list, circle_list}
 use Rattle.boundary.specs.declared.arcs.BoundaryArc.{BoundaryArc}
-use Rattle.boundary.proofs.Walking.{gaps_start, gap_free, gaps_with, gaps_without, gaps_all, all_by_count, all_by_room, all_counted}
+use Rattle.boundary.specs.Counted.{angle_list}
+use Rattle.boundary.proofs.Walking.{arcs_of, all_members, held_with, held_without, held_many, before_gap, first_gap, next_gap, last_gap}
 use Rattle.boundary.proofs.walk.walk.Goals as goal
-use Rattle.boundary.proofs.walk.walk.Goals.{then-found, else-found}
-use Rattle.boundary.proofs.walk.walk.Lts as lts
-use Rattle.boundary.proofs.walk.walk.Reads as reads
-use Rattle.boundary.proofs.walk.walk.Tie as tie
-
--- where there is an arc to put, there is a place free
-free : (c : lts.Then2 tie.the-claims reads.Pre reads.Post goal.the-invariant-loop-i goal.the-decreases-loop-i goal.the-invariant-loop-k goal.the-decreases-loop-k tie.handed_clauses) → c.loop-i.held < 320
-free c = gap_free c.loop-i.invariant c.loop-i-test.true
+use Rattle.boundary.proofs.walk.walk.Goals.{in-Some, in_default}
 
 pub loop-k-init : goal.loop-k-init
 unfolding up_to
-loop-k-init c =
-    record {
-      ten_heads = search rules;
-      ten_circles = search length_of_values;
-      count = refl;
-      most = omega arith;
-      within = omega arith;
-      places = length-replicate {A = BoundaryArc} 320 c.full_circle-filler.result;
-      room = omega arith;
-      arcs = refl;
-    }
-
-pub returns-then-n-k : goal.returns-then-n-k
-returns-then-n-k c = let inv = c.loop-k.invariant in record { result_value = all_by_count inv (omega arith); n_value = all_counted inv }
-
-pub bounds-set-k-in-loop-k : goal.bounds-set-k-in-loop-k
-bounds-set-k-in-loop-k c = omega arith
+loop-k-init c = record { places = length-replicate {A = BoundaryArc} 320 c.full_circle-all.result; room = omega arith; same = refl }
 
 pub loop-i-init : goal.loop-i-init
 loop-i-init c =
-    let angles = c in
-    let inv = angles.loop-k.invariant in
-    gaps_start inv _ _ _ (omega arith) (omega arith) refl angles.angles_for-angles.ensures.result_value c.gaps-many.ensures.value c.gaps-many.ensures.upper_bound
+    let a = c.args in
+    let h = c.loop-k.invariant in
+    record {
+      places = h.places;
+      room = omega (arith, h.room);
+      same = h.same ∙ sym (first_gap (point_list a.points) a.mask a.set c.loop-k.k _ _);
+    }
 
 pub loop-i-preserved : goal.loop-i-preserved
 loop-i-preserved c =
+    let a = c.args in
     let l = c.loop-i in
-    let found = c.arc_from-found in
-    let below = c.loop-i-test.true in
-    elim c.if-found.branch [ then-found w ↦ rw (w.all-is, w.held-is) (gaps_with l.invariant found.result.kept found.result.arc below found.ensures w.if-found.true) | else-found w ↦ rw (w.all-is, w.held-is) (gaps_without l.invariant found.result.kept found.result.arc below found.ensures w.if-found.false) ]
+    let free : l.held < 320 = omega arith in
+    let phis = angle_list c.angles_for-angles.result in
+    let next = next_gap (point_list a.points) a.mask a.set c.loop-k.k (get_or a.set.circles c.loop-k.k no_circle) phis l.i _ c.arc_from.ensures in
+    rw (← next)
+    (elim c.match-arc_from.branch [
+      | in-Some w ↦ rw (w.all-is, w.held-is) (held_with l.invariant _ (omega arith) c.arc_from.result _ w.in-Some.is free)
+      | in_default w ↦ rw (w.all-is, w.held-is) (held_without l.invariant _ (omega arith) c.arc_from.result w.in_default.is)
+    ])
 
 pub loop-k-preserved : goal.loop-k-preserved
-loop-k-preserved c = gaps_all c.loop-i.invariant (omega arith)
+loop-k-preserved c =
+    let a = c.args in
+    let h = c.loop-i.invariant in
+    let phis = angle_list c.angles_for-angles.result in
+    let end : c.loop-i.i ≡ max 1 (length phis) = omega (arith, c.gaps-i-end.ensures.value) in
+    record {
+      places = h.places;
+      room = omega (arith, h.room, c.gaps-i-end.ensures.upper_bound);
+      same =
+          h.same
+          ∙ ap (before_gap (point_list a.points) a.mask a.set c.loop-k.k (get_or a.set.circles c.loop-k.k no_circle) phis) end
+          ∙ last_gap (point_list a.points) a.mask a.set c.loop-k.k _ phis (omega arith) refl c.angles_for-angles.ensures.result_value;
+    }
 
 pub returns : goal.returns
-returns c = let inv = c.loop-k.invariant in record { result_value = all_by_room inv (omega arith); n_value = all_counted inv }
-
-pub offset_bounds-set-k : goal.offset_bounds-set-k
-offset_bounds-set-k c = omega arith
-
-pub bounds-set-k : goal.bounds-set-k
-bounds-set-k c = omega arith
-
-pub offset_bounds-set-k-in-loop-k : goal.offset_bounds-set-k-in-loop-k
-offset_bounds-set-k-in-loop-k c = omega arith
-
-pub offset_bounds-all-held : goal.offset_bounds-all-held
-offset_bounds-all-held c = omega (arith, free c)
-
-pub bounds-all-held : goal.bounds-all-held
-bounds-all-held c = omega (arith, free c)
-
-pub overflow_add-held : goal.overflow_add-held
-overflow_add-held c = omega (arith, free c)
-
-pub overflow_add-i : goal.overflow_add-i
-overflow_add-i c = omega arith
-
-pub loop-i-smaller : goal.loop-i-smaller
-loop-i-smaller c = omega arith
-
-pub overflow_add-k : goal.overflow_add-k
-overflow_add-k c = omega arith
-
-pub loop-k-smaller : goal.loop-k-smaller
-loop-k-smaller c = omega arith
+returns c =
+    let a = c.args in
+    let h = c.loop-k.invariant in
+    let heads : length a.set.heads ≡ 10 = search rules in
+    let circles : length a.set.circles ≡ 10 = search length_of_values in
+    let last : c.loop-k.k ≡ length (head_list a.set) = omega (arith, length-take a.set.n a.set.heads, heads) in
+    record {
+      result_value =
+          h.same
+          ∙ ap (up_to (arcs_of (point_list a.points) a.mask (head_list a.set) (circle_list a.set))) last
+          ∙ all_members (point_list a.points) a.mask (head_list a.set) (circle_list a.set)
+          (omega (arith, length-take a.set.n a.set.heads, length-take a.set.n a.set.circles, heads, circles));
+      n_value = held_many h (omega arith);
+    }

@@ -1,15 +1,12 @@
--- `fill::fill_chords`: the ends, then the heads that reach each edge below `edge`.
+-- `fill::fill_chords`: the edges below e, then the places below p.
 use mathlib.Core.Path.{◌≡◌}
-use Prim.Native.Nat.{min, ◌-◌, ◌≤◌}
-use lib.ListN.{length, take}
+use lib.ListN.{take}
 use Rattle.lists.specs.Written.{written}
-use Rattle.chords.specs.Chords.{reach_of}
+use Rattle.chords.specs.Chords.{reach_of, chord_at}
 use Rattle.chords.proofs.fill.fill_chords.Given as goal
 
-abbrev pub invariant-loop-edge : goal.invariant-loop-edge
-invariant-loop-edge l =
-    (l.edge ≤ l.count) × (l.count ≡ min 4 (length l.initial.reach)) × (length l.reach ≡ length l.initial.reach)
-    × (l.reach ≡ written (reach_of l.bounds (take l.n_sets l.circles)) l.edge l.initial.reach)
+abbrev pub invariant-loop-e : goal.invariant-loop-e
+invariant-loop-e l = l.reach ≡ written (reach_of l.bounds (take l.fn.n_sets l.circles)) l.e l.initial.reach
 
-abbrev pub decreases-loop-edge : goal.decreases-loop-edge
-decreases-loop-edge l = l.count - l.edge
+abbrev pub invariant-loop-p : goal.invariant-loop-p
+invariant-loop-p l = l.ends ≡ written (chord_at l.bounds l.circles l.needed) l.p l.initial.ends

@@ -1,53 +1,39 @@
 -- `spans::chord_span`: the ends after the heads below l.
-use mathlib.Core.Path.{◌≡◌, sym, ◌∙◌}
-use Prim.Native.Nat.{min, ◌%◌}
+use mathlib.Core.Path.{◌≡◌, sym, ap, ◌∙◌}
+use Prim.Native.Nat.{ℕ, min}
 use native.Mathlib.Omega.{arith}
 use borrow.Author.Tests.{eq-eqb, ne_eqb}
-use lib.ListN.{get_or}
 use Rattle.masks.specs.Operations.{in_by_shift}
+use Rattle.chords.specs.Chords.{edge_from}
 use Rattle.chords.proofs.Spanning.{ends_start, ends_in, ends_out, span_open, span_missed}
-use Rattle.chords.proofs.spans.chord_span.Invariants.{ends}
 use Rattle.chords.proofs.spans.chord_span.Goals as goal
 use Rattle.chords.proofs.spans.chord_span.Goals.{then-mask-l-eq1, else-mask-l-eq1}
 
-pub returns-then-mask-reach : goal.returns-then-mask-reach
-returns-then-mask-reach c =
-    let s = c in
-    let a = s.args in
-    span_missed (ends a.low.now a.edge) (ends a.high.now a.edge) a.mask a.from a.to
-    (min a.n_sets 10) (get_or a.reach.now (a.edge % 4) 0) s.ranges.mask.fits c.if-mask-reach.true
+pub returns-then-mask-chords : goal.returns-then-mask-chords
+returns-then-mask-chords c =
+    let a = c.args in
+    span_missed _ _ a.mask a.from a.to (min a.n_sets 10) _ c.ranges.mask.fits c.if-mask-chords.true
+    ∙ ap (λ (e : ℕ). edge_from (min a.n_sets 10) a.chords.now a.mask e a.from a.to) c.number-e.ensures
+
+pub loop-l-init : goal.loop-l-init
+loop-l-init c = ends_start _ _ _ _ _
 
 pub loop-l-preserved : goal.loop-l-preserved
 loop-l-preserved c =
-    let d = c in
-    let a = d.args in
-    let l = d.loop-l in
-    let low = ends a.low.now a.edge in
-    let high = ends a.high.now a.edge in
+    let a = c.args in
+    let l = c.loop-l in
     elim c.if-mask-l-eq1.branch [
-      | then-mask-l-eq1 w ↦ (
-        omega arith,
-        l.invariant.1,
-        rw (w.lo-is, w.hi-is) (ends_in low high a.mask a.from a.to l.invariant.2 _ _
-            (sym (in_by_shift a.mask l.l) ∙ eq-eqb _ _ w.if-mask-l-eq1.true) w.raised-lo.ensures w.lowered-hi.ensures),
-      )
-      | else-mask-l-eq1 w ↦ (
-        omega arith,
-        l.invariant.1,
-        rw (w.lo-is, w.hi-is) (ends_out low high a.mask a.from a.to l.invariant.2 (sym (in_by_shift a.mask l.l) ∙ ne_eqb _ _ w.if-mask-l-eq1.false)),
-      )
+      | then-mask-l-eq1 w ↦
+          rw (w.lo-is, w.hi-is) (ends_in _ _ a.mask a.from a.to l.invariant _ _
+          (sym (in_by_shift a.mask l.l) ∙ eq-eqb _ _ w.if-mask-l-eq1.true) w.raised-lo.ensures w.lowered-hi.ensures)
+      | else-mask-l-eq1 w ↦
+          rw (w.lo-is, w.hi-is) (ends_out _ _ a.mask a.from a.to l.invariant (sym (in_by_shift a.mask l.l) ∙ ne_eqb _ _ w.if-mask-l-eq1.false))
     ]
 
 pub returns : goal.returns
 returns c =
-    let d = c.before.before in
-    let t = d.before.before in
-    let s = t in
-    let a = s.args in
-    let e : d.loop-l.l ≡ min a.n_sets 10 = omega (arith, d.at_most_ten-n.ensures, d.loop-l.invariant.0, c.loop-l-test.false) in
+    let a = c.args in
+    let e : c.loop-l.l ≡ min a.n_sets 10 = omega (arith, c.min-l-end.ensures) in
     c.open_between.ensures
-    ∙ span_open (ends a.low.now a.edge) (ends a.high.now a.edge) a.mask a.from a.to (rw e at d.loop-l.invariant.2)
-    (get_or a.reach.now (a.edge % 4) 0) s.ranges.mask.fits t.if-mask-reach.false
-
-pub loop-l-init : goal.loop-l-init
-loop-l-init c = (omega arith, omega (arith, c.at_most_ten-n.ensures), ends_start _ _ _ _ _)
+    ∙ span_open _ _ a.mask a.from a.to (rw e at c.loop-l.invariant) _ c.ranges.mask.fits c.if-mask-chords.false
+    ∙ ap (λ (e : ℕ). edge_from (min a.n_sets 10) a.chords.now a.mask e a.from a.to) c.number-e.ensures

@@ -1,38 +1,15 @@
--- `area::add_clipped_arc`: an arc of no circle of the first n adds nothing; any other finds its circle in the array.
-use borrow.Author.Rules.{rules}
-use mathlib.Core.Path.{◌≡◌}
-use native.Mathlib.Omega.{arith}
-use borrow.Author.Tests.{le-ltb, lt-ltb}
-use lib.ListN.{length, take, length-take}
-use lib.Seq.{get_or-take}
+-- `area::add_clipped_arc`: an arc of no circle of the list adds nothing; any other finds its circle there.
+use mathlib.Core.Path.{sym}
 use Rattle.intersections.specs.Members.{no_circle}
 use Rattle.clip.specs.Area.{add_clipped_arc}
 use Rattle.clip.proofs.area.add_clipped_arc.Goals as goal
-use Rattle.clip.proofs.area.add_clipped_arc.Lts as lts
-use Rattle.clip.proofs.area.add_clipped_arc.Reads as reads
-use Rattle.clip.proofs.area.add_clipped_arc.Tie as tie
 
--- there are ten circles
-long : (c : lts.Start tie.the-claims reads.Pre reads.Post) → length c.args.circles ≡ 10
-long c = search rules
-
-pub returns-then-n-at : goal.returns-then-n-at
+pub returns-in-Some : goal.returns-in-Some
 unfolding add_clipped_arc
-returns-then-n-at c = let a = c.args in
-    rw (le-ltb a.arc.circle (length (take a.n a.circles)) (omega (arith, length-take a.n a.circles)))
+returns-in-Some c =
+    let l = c.in-Some.ensures.lookup in
+    rw (sym l.0, c.clipped_arc_integral.ensures, l.3.1 no_circle)
 
-pub returns-then-at-ge10 : goal.returns-then-at-ge10
+pub returns-in-None : goal.returns-in-None
 unfolding add_clipped_arc
-returns-then-at-ge10 c = let s = c.before.before in
-    let a = s.args in
-    rw (le-ltb a.arc.circle (length (take a.n a.circles)) (omega (arith, length-take a.n a.circles, long s)))
-
-pub returns : goal.returns
-unfolding add_clipped_arc
-returns c = let s = c.before.before.before.before in
-    let a = s.args in
-    rw (
-      lt-ltb a.arc.circle (length (take a.n a.circles)) (omega (arith, length-take a.n a.circles, long s)),
-      get_or-take a.n a.circles a.arc.circle no_circle c.if-n-at.false,
-      c.clipped_arc_integral.ensures,
-    )
+returns-in-None c = rw (sym c.in-None.ensures.lookup.0)

@@ -4,16 +4,15 @@ use Rattle.clip.proofs.area.add_edges.Goals as goal
 
 pub returns : goal.returns
 unfolding add_edges
-returns c = let top = c.before.before in
-    let right = top.before.before in
-    let bottom = right in
+returns c =
+    let on = c.edge_spans-on.ensures in
     rw (
       c.add_span.ensures,
-      c.vertical_edge_inside_interval-left.ensures,
-      top.add_span-with_top.ensures,
-      top.horizontal_edge_inside_interval-top.ensures,
-      right.add_span-with_right.ensures,
-      right.vertical_edge_inside_interval-right.ensures,
-      bottom.add_span-with_bottom.ensures,
-      bottom.horizontal_edge_inside_interval-bottom.ensures,
+      on.left,
+      c.add_span-with_top.ensures,
+      on.top,
+      c.add_span-with_right.ensures,
+      on.right,
+      c.add_span-with_bottom.ensures,
+      on.bottom,
     )

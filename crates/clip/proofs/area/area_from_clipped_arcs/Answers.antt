@@ -1,5 +1,7 @@
--- `area::area_from_clipped_arcs` meets its contract.
+-- `area::area_from_clipped_arcs`: the sum over the arcs of the list, and the edges.
 use mathlib.Core.Path.{sym, ◌∙◌}
+use Rattle.lists.proofs.Arrays.{length_of_values}
+use Rattle.outline.proofs.Walking.{first_of}
 use Rattle.clip.specs.Area.{clipped_area_of}
 use Rattle.clip.proofs.area.area_from_clipped_arcs.Goals as goal
 
@@ -9,12 +11,13 @@ returns-then-empty_box c = rw (sym c.empty_box.ensures ∙ c.if-empty_box.true)
 
 pub returns : goal.returns
 unfolding clipped_area_of
-returns c = let t = c.before.before in
-    let d = t in
+returns c =
+    let a = c.args in
     rw (
-      sym d.empty_box.ensures ∙ d.if-empty_box.false,
+      sym c.empty_box.ensures ∙ c.if-empty_box.false,
       c.add_edges.ensures,
       c.members_of.ensures.result_value_2,
-      t.arcs_sum-total.ensures,
-      t.outline_from.ensures,
+      c.arcs_sum-total.ensures,
+      first_of a.circles a.n_sets 10 (search length_of_values) c.min-2.ensures,
+      first_of a.arcs.all a.arcs.n 180 (search length_of_values) c.min.ensures,
     )

@@ -1,4 +1,4 @@
--- `edges::edge_slopes` meets its contract: what each call gives, the last first.
+-- `edges::edge_slopes`: what each call gives, the last first.
 use mathlib.Core.Path.{◌≡◌, ◌∙◌}
 use Prim.Native.Nat.{◌+◌}
 use mathlib.Core.Bool.{cond}
@@ -8,11 +8,8 @@ use Rattle.clip.proofs.edges.edge_slopes.Goals.{then-edge, else-edge}
 
 pub returns : goal.returns
 unfolding edge_slopes
-returns c = let second = c.before.before in
-    let added = second.before.before.before.before in
-    let first = added.before.before.before.before in
-    let j = first in
-    let a = j.args in
-    let along : j.if-edge.along ≡ cond a.edge.upright a.at (a.at + 1) =
-    elim j.if-edge.branch [ then-edge w ↦ w.along-is ∙ rw w.if-edge.true | else-edge w ↦ w.along-is ∙ rw w.if-edge.false ] in
-    rw (second.moved-2.ensures, added.add_at.ensures, first.moved.ensures, along)
+returns c =
+    let a = c.args in
+    let along : c.if-edge.along ≡ cond a.edge.upright a.at (a.at + 1) =
+    elim c.if-edge.branch [ then-edge w ↦ w.along-is ∙ rw w.if-edge.true | else-edge w ↦ w.along-is ∙ rw w.if-edge.false ] in
+    rw (c.moved-2.ensures, c.add_at.ensures, c.moved.ensures, along)

@@ -1,5 +1,5 @@
 -- `rows::write_rows_with_gradients` meets its contract: gradients all +0, the rows of the sets, then row 0 and the other areas.
-use mathlib.Core.Path.{◌≡◌, sym, ap, ◌∙◌}
+use mathlib.Core.Path.{◌≡◌, ap, ◌∙◌}
 use mathlib.Core.List.{List, ◌++◌}
 use mathlib.Core.Bool.{Bool}
 use Prim.Native.Nat.{ℕ, ◌*◌, ◌^◌, ◌≤◌}
@@ -79,18 +79,6 @@ module _ (d : Drawing) (w : ℕ) (l cleared : List Float) (few : d.n ≤ 10) (fi
       ∙ ap (λ (m : ℕ). rows_to sets (row_of d w) w m zeros) (rows_all areas fits)
       ∙ ap (rows_to sets (row_of d w) w (2 ^ d.n)) zeros-none
 
-pub slice_bounds-write_box_row-end : goal.slice_bounds-write_box_row-end
-slice_bounds-write_box_row-end c =
-    let a = c.args in
-    first-room a.drawing.n a.width a.gradients.now c.write_gradients.new.gradients c.requires.3
-    (c.write_gradients.auto.gradients ∙ zeros-length a.drawing a.width a.gradients.now c.clear.new.numbers c.requires.0 c.requires.3 c.clear.ensures)
-
-pub slice_bounds-write_box_row-end-2 : goal.slice_bounds-write_box_row-end-2
-slice_bounds-write_box_row-end-2 c =
-    let a = c.args in
-    sym (length-take-le _ _ (first-room a.drawing.n a.width a.gradients.now c.write_gradients.new.gradients c.requires.3
-    (c.write_gradients.auto.gradients ∙ zeros-length a.drawing a.width a.gradients.now c.clear.new.numbers c.requires.0 c.requires.3 c.clear.ensures)))
-
 pub returns : goal.returns
 returns c =
     let a = c.args in
@@ -100,25 +88,17 @@ returns c =
     let m = 2 ^ d.n in
     let p = c.requires in
     let k = c.write_gradients.new.gradients in
-    let z = c.clear.new.numbers in
+    let z = c.fill.new.self in
     let l = a.gradients.now in
+    let empty = c.fill.ensures.after (λ y h. h) in
     let e = c.write_gradients.ensures in
-    let wide = length-take-le w k (first-room d.n w l k p.3 (c.write_gradients.auto.gradients ∙ zeros-length d w l z p.0 p.3 c.clear.ensures)) in
+    let wide = length-take-le w k (first-room d.n w l k p.3 (c.write_gradients.auto.gradients ∙ zeros-length d w l z p.0 p.3 empty)) in
     let first = c.write_box_row.ensures ∙ ap (λ (j : ℕ). box_row_of j d) wide ∙ box_twice d.boxed _ _ in record {
       presence_after = c.finish_rows.ensures.presence_after;
       areas_after = c.finish_rows.ensures.areas_after
           ∙ areas_read d.boxed sets (box_area_of d) (λ S. (row_of d w S).sum) m _ a.areas.now
-          (areas-worked d w l z p.0 p.3 c.clear.ensures sets _ a.areas.now _ p.2 c.bounds-bounds.ensures e.areas_after);
+          (areas-worked d w l z p.0 p.3 empty sets _ a.areas.now _ p.2 c.bounds-bounds.ensures e.areas_after);
       gradients_after = rows_laid d.boxed sets (box_row_of w d) (row_of d w) w m l k p.3
-          (gradients-worked d w l z p.0 p.3 c.clear.ensures sets _ a.areas.now _ p.2 c.bounds-bounds.ensures e.gradients_after) _
+          (gradients-worked d w l z p.0 p.3 empty sets _ a.areas.now _ p.2 c.bounds-bounds.ensures e.gradients_after) _
           (pow_pos d.n) first (c.write_box_row.auto.grad ∙ wide);
     }
-
-pub overflow_mul-end : goal.overflow_mul-end
-overflow_mul-end c = omega (arith, room c.args.drawing.n c.args.width c.args.gradients.now c.requires.0 c.requires.3)
-
-pub slice_bounds-clear-end : goal.slice_bounds-clear-end
-slice_bounds-clear-end c = room c.args.drawing.n c.args.width c.args.gradients.now c.requires.0 c.requires.3
-
-pub slice_bounds-clear-end-2 : goal.slice_bounds-clear-end-2
-slice_bounds-clear-end-2 c = sym (length-take-le _ _ (room c.args.drawing.n c.args.width c.args.gradients.now c.requires.0 c.requires.3))

@@ -2,9 +2,9 @@
 use mathlib.Core.Path.{◌≡◌}
 use mathlib.Core.Bool.{cond}
 use mathlib.Core.List.{List}
-use Prim.Native.Nat.{ℕ, ◌-◌, ◌^◌, ◌≤◌}
+use Prim.Native.Nat.{ℕ}
 use lib.Ieee.{Float, nan}
-use lib.ListN.{length, get_or}
+use lib.ListN.{get_or}
 use Rattle.lists.specs.Written.{written}
 use Rattle.masks.specs.Presence.{stands}
 use Rattle.binary64.specs.Constants.{zero64}
@@ -16,9 +16,4 @@ abbrev pub row : List ℕ → List Float → ℕ → Float
 row present numbers S = cond (stands present S) (clamp_to_zero (get_or numbers S nan)) zero64
 
 abbrev pub invariant-loop-s : goal.invariant-loop-s
-invariant-loop-s l =
-    (l.n ≤ 10) × (l.masks ≡ 2 ^ l.n) × (2 ^ l.n ≤ length l.present) × (2 ^ l.n ≤ length l.initial.numbers) × (l.s ≤ l.masks) × (length l.numbers ≡ length l.initial.numbers)
-    × (l.numbers ≡ written (row l.present l.initial.numbers) l.s l.initial.numbers)
-
-abbrev pub decreases-loop-s : goal.decreases-loop-s
-decreases-loop-s l = l.masks - l.s
+invariant-loop-s l = l.numbers ≡ written (row l.present.bytes.now l.initial.numbers) l.s l.initial.numbers

@@ -1,7 +1,7 @@
 -- `areas::rows_answer` meets its contract.
 use native.Mathlib.Omega.{arith}
 use Rattle.masks.specs.Operations.{shifted_is}
-use Rattle.exclusive.proofs.Answers.{too_many, too_few, room}
+use Rattle.exclusive.proofs.Answers.{too_many, too_few, fits}
 use Rattle.exclusive.proofs.areas.rows_answer.Goals as goal
 
 pub returns-then-n-gt10 : goal.returns-then-n-gt10
@@ -15,4 +15,4 @@ returns-then-rows-n c =
 pub returns : goal.returns
 returns c =
     let a = c.args in
-    room a.n a.rows (omega arith) (omega (arith, shifted_is 64 a.n (omega arith)))
+    fits a.n a.rows (omega arith) (omega (arith, shifted_is 64 a.n (omega arith)))

@@ -1,9 +1,19 @@
--- `areas::write_exclusives` meets its contract.
-use mathlib.Core.Path.{◌∙◌}
+-- `areas::write_exclusives` meets its contract: the areas are copied, and then excluded.
+use mathlib.Core.Path.{ap, ◌∙◌}
+use mathlib.Core.List.{List, ◌++◌}
+use Prim.Native.Nat.{ℕ}
+use native.Mathlib.Omega.{arith}
+use lib.Ieee.{Float, nan}
+use lib.ListN.{get_or, drop}
+use Rattle.lists.specs.Written.{written}
 use Rattle.exclusive.proofs.Closing.{copied_is}
+use Rattle.exclusive.proofs.TableRows.{take_by_place}
 use Rattle.exclusive.proofs.areas.write_exclusives.Goals as goal
 
 pub returns : goal.returns
 returns c =
-    let w = c.before.before in let k = w.before.before.before.before in let a = k.args in
-    w.exclude.ensures ∙ copied_is a.n a.present.now a.areas.now a.exclusives.now _ k.copy_rows.ensures
+    let P = c.args.present.now in let areas = c.args.areas.now in let first = c.args.exclusives.now in let rows = c.row_count-rows in
+    c.exclude.ensures
+    ∙ copied_is P.n P.bytes.now areas first _
+    (ap (λ (l : List Float). l ++ drop rows.result first) (c.copy_from_slice.ensures.after ∙ take_by_place areas nan rows.result (omega (arith, rows.ensures)))
+    ∙ ap (λ (m : ℕ). written (λ S. get_or areas S nan) m first) rows.ensures)

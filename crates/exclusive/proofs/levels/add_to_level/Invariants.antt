@@ -1,12 +1,8 @@
 -- `levels::add_to_level` meets its contract. The invariant: the sums from place lo to place i have the number or +0.
 use mathlib.Core.Path.{◌≡◌}
-use Prim.Native.Nat.{◌-◌, ◌≤◌}
 use lib.ListN.{length}
 use Rattle.exclusive.proofs.LevelSums.{Adding}
 use Rattle.exclusive.proofs.levels.add_to_level.Given as goal
 
 abbrev pub invariant-loop-i : goal.invariant-loop-i
-invariant-loop-i l = (l.hi ≤ 1024) × (length l.order ≡ 1024) × (length l.sums ≡ 1024) × (l.lo ≤ l.i) × Adding l.order l.lo l.t l.number l.initial.sums l.i l.sums
-
-abbrev pub decreases-loop-i : goal.decreases-loop-i
-decreases-loop-i l = l.hi - l.i
+invariant-loop-i l = record { room : length l.sums ≡ 1024; sums : Adding l.rows l.lo l.t l.number l.initial.sums l.i l.sums }

@@ -1,132 +1,76 @@
--- `levels::subtract_levels` meets its contract. The invariant: the rows from place hi on have their unclamped exclusives, those before it are as they were; and the sums of the rows before the level have not begun.
-use mathlib.Core.Path.{◌≡◌, sym, ap, ◌∙◌, subst}
-use Prim.Native.Nat.{ℕ, ◌+◌, ◌-◌, ◌^◌, ◌≤◌, ◌<◌}
+-- `levels::subtract_levels` meets its contract. The invariants: the rows from place hi on, and in the inner loop from place i on, have their
+-- unclamped exclusives, those before it are as they were; and the sums of the rows before the level have not begun.
+use mathlib.Core.Path.{◌≡◌, refl, sym, ap, ◌∙◌, subst}
+use Prim.Native.Nat.{ℕ, ◌+◌, ◌-◌, ◌≤◌, ◌<◌}
 use native.Mathlib.Omega.{arith}
-use lib.Ieee.{Float, nan}
-use lib.ListN.{length, get_or, length-take, length-set, length-replicate, get_or-replicate}
+use lib.Ieee.{nan}
+use lib.ListN.{length, length-take, get_or-replicate}
 use Rattle.lists.specs.Every.{Every}
 use Rattle.masks.specs.Presence.{stands}
 use Rattle.binary64.specs.Constants.{zero64}
+use Rattle.exclusive.specs.declared.rows.Rows.{Rows}
+use Rattle.exclusive.specs.RowOrder.{row_list}
 use Rattle.exclusive.proofs.RowOrder.{every_row}
 use Rattle.exclusive.proofs.Places.{row_lt}
-use Rattle.exclusive.proofs.Passing.{Pass, pass_start, pass_end}
+use Rattle.exclusive.proofs.Passing.{Pass, pass_start}
 use Rattle.exclusive.proofs.LevelSums.{row_at, level_sums, level_next}
 use Rattle.exclusive.proofs.levels.subtract_levels.Goals as goal
-use Rattle.exclusive.proofs.levels.subtract_levels.Lts as lts
-use Rattle.exclusive.proofs.levels.subtract_levels.Reads as reads
-use Rattle.exclusive.proofs.levels.subtract_levels.Tie as tie
 
--- the row before place hi is a row of the table
-module _ (c : lts.In-loop2 tie.the-claims reads.Pre reads.Post goal.the-invariant-loop-hi-2 goal.the-decreases-loop-hi-2 goal.the-invariant-loop-hi goal.the-decreases-loop-hi tie.handed_clauses) where
-  abbrev S : ℕ
-  S = get_or c.row_order-rows.result.all (c.loop-hi-2.hi - 1) 0
-
-  small : S < 2 ^ c.args.n
-  small =
-      let m = c.before.before.before.before.before.before.before.before in let l = c.loop-hi-2 in let j = l.invariant in
-      let a = m.args in let r = m.row_order-rows.result in
-      (row_at a.n (stands a.present.now) r.all r.n (l.hi - 1) (omega (arith, j.2, j.3)) j.4 (omega (arith, c.loop-hi-2-test.true, j.5))).2
-
-  inside : S < length c.loop-hi-2.areas
-  inside = omega (arith, small, c.loop-hi-2.invariant.1)
-
-  few : S < 1024
-  few = row_lt _ S c.loop-hi-2.invariant.0 small
+-- there are as many rows as are counted
+as_many : (r : Rows) → (r.n ≤ 1024) × (length r.all ≡ 1024) → length (row_list r) ≡ r.n
+as_many r h = omega (arith, length-take r.n r.all)
 
 pub loop-hi-init : goal.loop-hi-init
 loop-hi-init c =
-    let r = c.before in let s = r.before.before.before in let p = s.requires in let a = s.args in
-    let rows = r.row_order-rows.result in let e = r.row_order-rows.ensures in (
-      p.0,
-      p.2,
-      e.n_bound.1,
-      e.n_bound.0,
-      e.result_value,
-      omega arith,
-      length-replicate {A = Float} 1024 zero64,
-      pass_start a.n (stands a.present.now) 1 rows.n a.areas.now (omega (arith, length-take rows.n rows.all, ap length e.result_value)),
-      λ i h. get_or-replicate 1024 i zero64 nan (omega (arith, e.n_bound.0)),
-    )
+    let P = c.args.present.now in let r = c.row_order-count.result in let e = c.row_order-count.ensures in
+    let many = as_many r e.n_bound in record {
+      within = omega (arith, many);
+      room = refl;
+      pass = pass_start P.n (stands P.bytes.now) 1 r.n c.args.areas.now (omega (arith, many, ap length e.result_value));
+      unbegun = λ i h. get_or-replicate 1024 i zero64 nan (omega (arith, e.n_bound.0));
+    }
 
 pub sum_level-requires : goal.sum_level-requires
 sum_level-requires c =
-    let m = c.before.before.before.before.before in let l = m.loop-hi in let i = l.invariant in let a = m.args in (
-      i.5,
-      i.3,
-      i.2,
-      i.6,
-      subst (Every (λ T. T < length l.areas)) (sym i.4)
-          (every_row (stands a.present.now) (λ T. T < length l.areas) a.n (λ T h p. omega (arith, h, i.1))),
+    let P = c.args.present.now in let e = c.row_order-count.ensures in let A = c.loop-hi.areas in (
+      c.loop-hi.invariant.within,
+      omega (arith, as_many c.row_order-count.result e.n_bound, e.n_bound.0),
+      subst (Every (λ T. T < length A)) (sym e.result_value) (every_row (stands P.bytes.now) (λ T. T < length A) P.n (λ T h p. omega arith)),
     )
 
-pub loop-hi-2-init : goal.loop-hi-2-init
-loop-hi-2-init c =
-    let v = c.before.before.before.before in let i = v.loop-hi.invariant in let e = c.sum_level.ensures in (
-      i.0,
-      i.1,
-      i.2,
-      i.3,
-      i.4,
-      i.5,
-      e.many ∙ i.6,
-      omega (arith, v.level_start-lo.ensures.upper_bound),
-      omega arith,
-      λ k h. e.lower k h ∙ i.8 k (omega (arith, h, v.level_start-lo.ensures.upper_bound)),
-      λ first p d. p,
-    )
+pub offset_bounds-areas-s : goal.offset_bounds-areas-s
+offset_bounds-areas-s c =
+    let P = c.args.present.now in
+    omega (arith, row_lt P.n _ P.few (row_at P.n (stands P.bytes.now) _ (c.loop-i.i - 1) c.row_order-count.ensures.result_value (omega (arith, c.loop-hi.invariant.within))).2)
+
+pub bounds-areas-s : goal.bounds-areas-s
+bounds-areas-s c =
+    let P = c.args.present.now in
+    omega (arith, (row_at P.n (stands P.bytes.now) _ (c.loop-i.i - 1) c.row_order-count.ensures.result_value (omega (arith, c.loop-hi.invariant.within))).2)
+
+pub bounds-areas-s-in-loop-i : goal.bounds-areas-s-in-loop-i
+bounds-areas-s-in-loop-i c =
+    let P = c.args.present.now in
+    omega (arith, (row_at P.n (stands P.bytes.now) _ (c.loop-i.i - 1) c.row_order-count.ensures.result_value (omega (arith, c.loop-hi.invariant.within))).2)
+
+pub loop-i-preserved : goal.loop-i-preserved
+loop-i-preserved c =
+    let P = c.args.present.now in let rows = row_list c.row_order-count.result in let e = c.row_order-count.ensures.result_value in
+    let m = c.loop-hi in let l = c.loop-i in let i = l.i - 1 in let before = c.args.areas.now in
+    let z : l.i ≡ i + 1 = omega arith in
+    let due = level_sums P.n (stands P.bytes.now) rows e before m.areas c.level_start-lo.result m.hi m.sums _ P.few m.invariant.within
+    m.invariant.pass m.invariant.unbegun c.level_start-lo.ensures.i_value c.sum_level.ensures i (omega arith) (omega arith) in record {
+      low = omega arith;
+      pass = level_next P.n (stands P.bytes.now) rows e before l.areas i _ (omega (arith, m.invariant.within)) (omega arith) due
+          (subst (λ (j : ℕ). Pass P.n (stands P.bytes.now) 1 j before l.areas) z l.invariant.pass);
+    }
 
 pub loop-hi-preserved : goal.loop-hi-preserved
 loop-hi-preserved c =
-    let t = c.before.before in let v = t.before.before.before.before in let m = v.before.before in let l = m.loop-hi in let i = l.invariant in
-    let a = m.args in let r = m.row_order-rows.result in let j = c.loop-hi-2.invariant in (
-      j.0,
-      j.1,
-      j.2,
-      j.3,
-      j.4,
-      j.5,
-      j.6,
-      j.10 a.areas.now i.7
-          (level_sums a.n (stands a.present.now) r.all r.n (omega (arith, i.2, i.3)) i.4 a.areas.now l.areas v.level_start-lo.result l.hi l.sums _
-          i.0 i.5 i.7 i.8 v.level_start-lo.ensures.i_value t.sum_level.ensures),
-      λ k h. j.9 k (omega (arith, h, c.loop-hi-2-test.false)),
-    )
-
-pub loop-hi-2-preserved : goal.loop-hi-2-preserved
-loop-hi-2-preserved c =
-    let t = c.before in let m = t.before.before.before.before.before.before.before.before in let l = t.loop-hi-2 in let j = l.invariant in
-    let a = m.args in let r = m.row_order-rows.result in
-    let z : l.hi ≡ l.hi - 1 + 1 = omega (arith, t.loop-hi-2-test.true) in (
-      j.0,
-      subst (λ (k : ℕ). 2 ^ a.n ≤ k) (sym (length-set l.areas (get_or r.all (l.hi - 1) 0) _)) j.1,
-      j.2,
-      j.3,
-      j.4,
-      omega (arith, j.5),
-      j.6,
-      omega (arith, t.loop-hi-2-test.true),
-      omega (arith, j.8),
-      j.9,
-      λ first p d. level_next a.n (stands a.present.now) r.all r.n (omega (arith, j.2, j.3)) j.4 first l.areas (l.hi - 1) _ (omega (arith, z, j.5)) j.1
-          (d (l.hi - 1) (omega (arith, t.loop-hi-2-test.true)) (omega (arith, z, j.8)))
-          (subst (λ (i : ℕ). Pass a.n (stands a.present.now) 1 i first l.areas) z (j.10 first p d)),
-    )
-
-pub returns : goal.returns
-returns c =
-    let l = c.loop-hi in let a = c.args in
-    let z : l.hi ≡ 0 = omega arith in
-    pass_end a.n (stands a.present.now) 1 a.areas.now l.areas
-    (subst (λ (i : ℕ). Pass a.n (stands a.present.now) 1 i a.areas.now l.areas) z l.invariant.7)
-
-pub offset_bounds-areas-s : goal.offset_bounds-areas-s
-offset_bounds-areas-s c = omega (arith, few c.before)
-
-pub bounds-areas-s : goal.bounds-areas-s
-bounds-areas-s c = inside c.before.before
-
-pub offset_bounds-areas-s-in-loop-hi-2 : goal.offset_bounds-areas-s-in-loop-hi-2
-offset_bounds-areas-s-in-loop-hi-2 c = omega (arith, few c.before.before)
-
-pub bounds-areas-s-in-loop-hi-2 : goal.bounds-areas-s-in-loop-hi-2
-bounds-areas-s-in-loop-hi-2 c = inside c.before.before
+    let l = c.loop-hi.invariant in let low = c.level_start-lo.ensures.upper_bound in let e = c.sum_level.ensures in
+    let z : c.loop-i.i ≡ c.level_start-lo.result = omega (arith, c.loop-i.invariant.low) in record {
+      within = omega (arith, low, l.within);
+      room = c.sum_level.array_long;
+      pass = subst (λ (i : ℕ). Pass c.args.present.now.n (stands c.args.present.now.bytes.now) 1 i c.args.areas.now c.loop-i.areas) z c.loop-i.invariant.pass;
+      unbegun = λ i h. e.lower i h ∙ l.unbegun i (omega (arith, low, h));
+    }

@@ -1,17 +1,15 @@
--- `subtract::sum_rows` meets its contract. The invariant: the sum so far with what is left of the rows gives the whole sum.
+-- `subtract::sum_rows` meets its contract. The invariant: each sum so far with what is left of the rows gives the whole sum.
 use mathlib.Core.Path.{◌≡◌}
-use Prim.Native.Nat.{suc, ◌*◌, ◌-◌, ◌≤◌, ◌<◌}
-use lib.ListN.{length, take, drop}
-use Rattle.lists.specs.Every.{Every}
-use Rattle.binary64.specs.Constants.{zero64}
+use Prim.Native.Nat.{ℕ, ◌+◌, ◌<◌}
+use lib.Ieee.{nan}
+use lib.ListN.{length, get_or, drop}
 use Rattle.exclusive.specs.Exclusive.{sum_onto}
-use Rattle.exclusive.specs.Entries.{entry}
+use Rattle.exclusive.specs.Entries.{entry, row_sums}
 use Rattle.exclusive_gradients.proofs.subtract.sum_rows.Given as goal
 
-abbrev pub invariant-loop-j : goal.invariant-loop-j
-invariant-loop-j l =
-    (length (take l.count l.rows) ≡ l.count) × (l.count ≤ 1024) × (length l.rows ≡ 1024) × (l.k < l.width) × Every (λ T. suc T * l.width ≤ length l.numbers) (take l.count l.rows)
-    × (sum_onto (entry l.width l.numbers l.k) l.sum (drop l.j (take l.count l.rows)) ≡ sum_onto (entry l.width l.numbers l.k) zero64 (take l.count l.rows))
-
-abbrev pub decreases-loop-j : goal.decreases-loop-j
-decreases-loop-j l = l.count - l.j
+abbrev pub invariant-loop-row : goal.invariant-loop-row
+invariant-loop-row g l = record {
+  room : length l.sums ≡ g.row.N;
+  sums : (q : ℕ) → q < g.row.N → sum_onto (entry l.width l.numbers (l.k + q)) (get_or l.sums q nan) (drop l.row-index l.rows)
+      ≡ row_sums l.width l.numbers l.rows (l.k + q);
+}

@@ -6,6 +6,3 @@ use Rattle.file.proofs.fields.next_field.Given as goal
 
 abbrev pub invariant-loop-i : goal.invariant-loop-i
 invariant-loop-i l = next_field (l.count - l.i) l.map l.i ≡ next_field (l.count - l.from) l.map l.from
-
-abbrev pub decreases-loop-i : goal.decreases-loop-i
-decreases-loop-i l = l.count - l.i

@@ -1,23 +1,16 @@
-use mathlib.Core.Path.{sym, ◌∙◌}
-use Rattle.gaps.specs.Gaps.{circles_in}
+use mathlib.Core.Path.{refl, sym, ap, ◌∙◌}
+use mathlib.Core.Bool.{not}
 use Rattle.gaps.proofs.Owning.{arc_none, arc_some}
-use Rattle.gaps.proofs.Circles.{circle_held}
 use Rattle.gaps.proofs.numbers.is_arc.Goals as goal
 
-pub returns-then-collapsed : goal.returns-then-collapsed
-returns-then-collapsed c =
+pub returns-then-not-collapsed : goal.returns-then-not-collapsed
+returns-then-not-collapsed c =
     let a = c.args in
-    arc_none (circles_in a.c.now a.n_sets) a.mask a.j a.phi_a a.phi_b _ c.gap-delta.ensures
-    (sym c.collapsed.ensures ∙ c.if-collapsed.true)
+    arc_some a.circles.now a.mask a.j a.phi_a a.phi_b _ c.gap-delta.ensures _ _ _
+    (sym c.collapsed.ensures ∙ c.if-not-collapsed.true) refl c.point_at.ensures c.owned_in.ensures
 
-pub returns : goal.returns
-returns c =
-    let k = c.before.before in
-    let e = k.before in
-    let s = e in
-    let a = s.args in
-    arc_some (circles_in a.c.now a.n_sets) a.mask a.j a.phi_a a.phi_b _ s.gap-delta.ensures _ _ _
-    (sym e.collapsed.ensures ∙ e.if-collapsed.false)
-    (k.circle_at-circle.ensures ∙ circle_held a.c.now a.n_sets a.j s.requires.1 s.requires.0)
-    c.point_at.ensures
-    c.owned_in.ensures
+pub returns-else-not-collapsed : goal.returns-else-not-collapsed
+returns-else-not-collapsed c =
+    let a = c.args in
+    ap not c.if-not-collapsed.false
+    ∙ arc_none a.circles.now a.mask a.j a.phi_a a.phi_b _ c.gap-delta.ensures (sym c.collapsed.ensures ∙ c.if-not-collapsed.false)

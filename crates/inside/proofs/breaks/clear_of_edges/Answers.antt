@@ -1,33 +1,24 @@
 -- `breaks::clear_of_edges`: true is given only where none of the four lines crosses (`none_crossed`).
-use mathlib.Core.Path.{◌≡◌, sym, ◌∙◌}
-use mathlib.Core.Bool.{true, false}
-use native.Mathlib.Omega.{arith}
-use Prim.Native.Nat.{ℕ}
+use mathlib.Core.Path.{◌≡◌}
+use mathlib.Core.Bool.{Bool, true, false, not}
 use Rattle.inside.proofs.Breaking.{none_crossed}
 use Rattle.inside.proofs.breaks.clear_of_edges.Goals as goal
+use Rattle.inside.proofs.breaks.clear_of_edges.Goals.{then-crosses, else-crosses, then-crosses-2, else-crosses-2, then-crosses-3, else-crosses-3}
 
--- false was given
-not-clear : {A : Type 0} → false ≡ true → A
-not-clear e = let z : ◌≡◌ {A = ℕ} 0 1 = cc in absurd (omega arith)
+was_not : (r : Bool) → not r ≡ true → r ≡ false
+was_not true e = cc
+was_not false e = cc
 
 pub returns : goal.returns
-returns c = let third = c.before.before.before.before.before in
-    let second = third.before.before.before.before.before in
-    let first = second in
-    let a = first.args in
-    λ _. none_crossed a.bounds a.c (sym first.crosses.ensures ∙ first.if-crosses.false)
-    (sym second.crosses-2.ensures ∙ second.if-crosses-2.false)
-    (sym third.crosses-3.ensures ∙ third.if-crosses-3.false)
-    (sym c.crosses-4.ensures ∙ c.if-crosses-4.false)
-
-pub returns-then-crosses : goal.returns-then-crosses
-returns-then-crosses c = not-clear
-
-pub returns-then-crosses-2 : goal.returns-then-crosses-2
-returns-then-crosses-2 c = not-clear
-
-pub returns-then-crosses-3 : goal.returns-then-crosses-3
-returns-then-crosses-3 c = not-clear
-
-pub returns-then-crosses-4 : goal.returns-then-crosses-4
-returns-then-crosses-4 c = not-clear
+returns c e =
+    let none = was_not _ e in
+    elim c.if-crosses-3.branch [
+      | then-crosses-3 w ↦ cc
+      | else-crosses-3 w ↦ elim c.if-crosses-2.branch [
+        | then-crosses-2 v ↦ cc
+        | else-crosses-2 v ↦ elim c.if-crosses.branch [
+          | then-crosses u ↦ cc
+          | else-crosses u ↦ none_crossed c.args.bounds c.args.c (cc) (cc) (cc) (cc)
+        ]
+      ]
+    ]

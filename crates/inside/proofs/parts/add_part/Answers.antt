@@ -5,9 +5,9 @@ use Rattle.inside.proofs.parts.add_part.Goals as goal
 
 pub returns-then-summed : goal.returns-then-summed
 unfolding add_part
-returns-then-summed c = let t = c in
+returns-then-summed c =
     rw (
-      sym t.summed.ensures ∙ t.if-summed.true,
+      sym c.summed.ensures ∙ c.if-summed.true,
       c.sub_arc.ensures,
       c.cos-then-summed.ensures,
       c.sin-then-summed.ensures,
@@ -15,6 +15,6 @@ returns-then-summed c = let t = c in
       c.sin.ensures,
     )
 
-pub returns : goal.returns
+pub returns-else-summed : goal.returns-else-summed
 unfolding add_part
-returns c = rw (sym c.summed.ensures ∙ c.if-summed.false)
+returns-else-summed c = rw (sym c.summed.ensures ∙ c.if-summed.false)

@@ -1,6 +1,6 @@
 -- `parts::circle_in_box`: sine and cosine are at most 1, so that each coordinate stays near its side.
 use mathlib.Core.Path.{ap₂}
-use mathlib.Core.Bool.{◌&&◌, false≢true}
+use mathlib.Core.Bool.{◌&&◌}
 use Rattle.elementary.specs.Sine.{sine, cosine}
 use Rattle.elementary.proofs.sine.Promise.{sine_promise, cosine_promise}
 use Rattle.boundary.specs.Outline.{point_at}
@@ -13,6 +13,3 @@ returns-then-stays_near c e phi =
     ap₂ ◌&&◌
     (c.stays_near.ensures c.if-stays_near.true (cosine phi) (cosine_promise.size phi))
     (c.stays_near-then-stays_near.ensures e (sine phi) (sine_promise.size phi))
-
-pub returns : goal.returns
-returns c e = absurd (false≢true e)

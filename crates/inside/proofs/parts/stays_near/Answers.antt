@@ -1,42 +1,28 @@
--- `parts::stays_near`: all six tests passed.
-use mathlib.Core.Path.{sym, ◌∙◌}
-use mathlib.Core.Bool.{false≢true}
+-- `parts::stays_near`: all seven tests passed.
 use borrow.Author.Rules.{rules}
-use lib.Dec.{T}
-use lib.Ieee.{binary64, fits}
 use Rattle.inside.proofs.Within.{bounded_most, stays-near}
 use Rattle.inside.proofs.parts.stays_near.Goals as goal
-use Rattle.inside.proofs.parts.stays_near.Lts as lts
-use Rattle.inside.proofs.parts.stays_near.Reads as reads
-use Rattle.inside.proofs.parts.stays_near.Tie as tie
-
--- what is handed in fits
-fitting : (s : (lts.Start tie.the-claims reads.Pre reads.Post)) → let a = s.args in T (fits binary64 a.low) × T (fits binary64 a.high) × T (fits binary64 a.v) × T (fits binary64 a.r)
-fitting s = (search rules, search rules, search rules, search rules)
+use Rattle.inside.proofs.parts.stays_near.Goals.{then-bounded, else-bounded, then-bounded-2, else-bounded-2, then-bounded-3, else-bounded-3}
+use Rattle.inside.proofs.parts.stays_near.Goals.{then-bounded-4, else-bounded-4, then-r, else-r}
 
 pub returns-then-near_side : goal.returns-then-near_side
 returns-then-near_side c e =
-    let six = c.before in
-    let five = six.before.before in
-    let four = five.before in
-    let three = four.before.before in
-    let two = three.before.before in
-    let one = two.before.before in
-    let start = one.before.before in
-    let a = start.args in
-    let f = fitting start in
-    stays-near a.low a.high a.v a.r
-    (bounded_most a.low f.0 (sym one.bounded.ensures ∙ one.if-bounded.true))
-    (bounded_most a.high f.1 (sym two.bounded-then-bounded.ensures ∙ two.if-bounded-2.true))
-    (bounded_most a.v f.2 (sym three.bounded-then-bounded-2.ensures ∙ three.if-bounded-3.true))
-    (bounded_most a.r f.3 (sym four.bounded-then-bounded-3.ensures ∙ four.if-bounded-4.true))
-    five.if-r.true (sym six.near_side.ensures ∙ six.if-near_side.true) (sym c.near_side-then-near_side.ensures ∙ e)
-
-pub returns-else-r : goal.returns-else-r
-returns-else-r c e = absurd (false≢true e)
-
-pub returns-else-bounded-3 : goal.returns-else-bounded-3
-returns-else-bounded-3 c e = absurd (false≢true e)
-
-pub returns-else-bounded : goal.returns-else-bounded
-returns-else-bounded c e = absurd (false≢true e)
+    let a = c.args in
+    elim c.if-r.branch [
+      | else-r w ↦ cc
+      | then-r w ↦ elim c.if-bounded-4.branch [
+        | else-bounded-4 x ↦ cc
+        | then-bounded-4 x ↦ elim c.if-bounded-3.branch [
+          | else-bounded-3 y ↦ cc
+          | then-bounded-3 y ↦ elim c.if-bounded-2.branch [
+            | else-bounded-2 z ↦ cc
+            | then-bounded-2 z ↦ elim c.if-bounded.branch [
+              | else-bounded u ↦ cc
+              | then-bounded u ↦
+                  stays-near a.low a.high a.v a.r (bounded_most a.low (search rules) (cc)) (bounded_most a.high (search rules) (cc))
+                  (bounded_most a.v (search rules) (cc)) (bounded_most a.r (search rules) (cc)) (cc) (cc) (cc)
+            ]
+          ]
+        ]
+      ]
+    ]

@@ -1,69 +1,50 @@
--- `span::edge_inside_interval`: the circles from i on, with the ends so far, give the span (`Narrowed`).
-use mathlib.Core.Path.{refl, sym, ◌∙◌, ap}
-use Prim.Native.Nat.{◌<◌}
+-- `span::edge_inside_interval`: the circles not yet read, with the ends so far, give the span.
+use mathlib.Core.Path.{◌≡◌, sym, ap, ◌∙◌}
+use mathlib.Core.List.{List, map}
 use native.Mathlib.Omega.{arith}
-use mathlib.Core.List.{map}
-use lib.ListN.{length, length-take, length-map}
+use lib.ListN.{take, length-map}
 use Rattle.intersections.specs.Counted.{circle_list}
-use Rattle.lists.proofs.Arrays.{length_of_values}
-use Rattle.inside.specs.Span.{misses, seen}
+use Rattle.lists.proofs.Arrays.{length_of_values, capped_take}
+use Rattle.geometry.specs.declared.circle.Circle.{Circle}
+use Rattle.inside.specs.Span.{horizontal_span, misses, seen}
 use Rattle.inside.proofs.Spanning.{span_step, span_none, span_end, seen_at}
 use Rattle.inside.proofs.span.edge_inside_interval.Goals as goal
+use Rattle.inside.proofs.span.edge_inside_interval.Goals.{After-min}
 
-pub loop-i-init : goal.loop-i-init
-loop-i-init c = record { places = search length_of_values; count = refl; few = omega arith; within = omega arith; rest = refl }
-
-pub returns-then-n-i : goal.returns-then-n-i
-returns-then-n-i c = let d = c in
-    let a = d.args in
-    let set = a.set in
-    let cs = map (seen a.upright) (circle_list set) in
-    let many = length-map (circle_list set) (seen a.upright) in
-    c.open_between.ensures
-    ∙ sym (span_end a.at d.loop-i.lo d.loop-i.hi cs d.loop-i.i (omega (arith, many, length-take set.n set.circles)))
-    ∙ d.loop-i.invariant.rest
+-- the circles read are the set's
+these : (c : After-min) → take c.min.result c.args.set.circles ≡ circle_list c.args.set
+these c = rw c.min.ensures (capped_take c.args.set.circles c.args.set.n 10 (search length_of_values))
 
 pub returns-then-misses : goal.returns-then-misses
-returns-then-misses c = let d = c in
-    let a = d.args in
-    let set = a.set in
-    let cs = map (seen a.upright) (circle_list set) in
-    let below : d.loop-i.i < length (circle_list set) = omega (arith, length-take set.n set.circles) in
-    let here = seen_at a.upright set.n set.circles d.loop-i.i (omega arith) below in
-    let e = ap (misses a.at) (sym here) ∙ ap (misses a.at) (sym c.seen-c.ensures) ∙ sym c.misses.ensures ∙ c.if-misses.true in
-    sym (span_none a.at d.loop-i.lo d.loop-i.hi cs d.loop-i.i (omega (arith, length-map (circle_list set) (seen a.upright))) e) ∙ d.loop-i.invariant.rest
+returns-then-misses c =
+    let a = c.args in
+    let l = c.loop-circle in
+    let circles : List Circle = take c.min.result a.set.circles in
+    let cs = map (seen a.upright) circles in
+    let e = ap (misses a.at) (sym (c.seen-c.ensures ∙ seen_at a.upright circles l.circle-index c.loop-circle-test.true)) ∙ sym c.misses.ensures ∙ c.if-misses.true in
+    sym (span_none a.at l.lo l.hi cs l.circle-index (omega (arith, length-map circles (seen a.upright))) e) ∙ l.invariant
+    ∙ ap (λ t. horizontal_span a.at a.from a.to (map (seen a.upright) t)) (these (goal.at.returns-then-misses c).After-min)
 
-pub loop-i-preserved : goal.loop-i-preserved
-loop-i-preserved c = let d = c in
-    let a = d.args in
-    let set = a.set in
-    let cs = map (seen a.upright) (circle_list set) in
-    let below : d.loop-i.i < length (circle_list set) = omega (arith, length-take set.n set.circles) in
-    let here = seen_at a.upright set.n set.circles d.loop-i.i (omega arith) below in
-    let m = c in
-    let e = sym m.misses.ensures ∙ c.if-misses.false in
-    record {
-      places = d.loop-i.invariant.places;
-      count = refl;
-      few = omega arith;
-      within = omega arith;
-      rest =
-          span_step a.at d.loop-i.lo d.loop-i.hi cs d.loop-i.i _ _ _ _
-          (omega (arith, length-map (circle_list set) (seen a.upright)))
-          (m.seen-c.ensures ∙ here)
-          e
-          c.half_chord-half.ensures
-          c.raised-lo.ensures
-          c.lowered-hi.ensures
-          ∙ d.loop-i.invariant.rest;
-    }
+pub loop-circle-preserved : goal.loop-circle-preserved
+loop-circle-preserved c =
+    let a = c.args in
+    let l = c.loop-circle in
+    let circles : List Circle = take c.min.result a.set.circles in
+    span_step a.at l.lo l.hi (map (seen a.upright) circles) l.circle-index _ _ _ _
+    (omega (arith, length-map circles (seen a.upright)))
+    (c.seen-c.ensures ∙ seen_at a.upright circles l.circle-index c.loop-circle-test.true)
+    (sym c.misses.ensures ∙ c.if-misses.false)
+    c.half_chord-half.ensures
+    c.raised-lo.ensures
+    c.lowered-hi.ensures
+    ∙ l.invariant
 
 pub returns : goal.returns
-returns c = let d = c in
-    let a = d.args in
-    let set = a.set in
-    let cs = map (seen a.upright) (circle_list set) in
-    let many = length-map (circle_list set) (seen a.upright) in
-    c.open_between-2.ensures
-    ∙ sym (span_end a.at d.loop-i.lo d.loop-i.hi cs d.loop-i.i (omega (arith, many, length-take set.n set.circles)))
-    ∙ d.loop-i.invariant.rest
+returns c =
+    let a = c.args in
+    let l = c.loop-circle in
+    let circles : List Circle = take c.min.result a.set.circles in
+    c.open_between.ensures
+    ∙ sym (span_end a.at l.lo l.hi (map (seen a.upright) circles) l.circle-index (omega (arith, length-map circles (seen a.upright))))
+    ∙ l.invariant
+    ∙ ap (λ t. horizontal_span a.at a.from a.to (map (seen a.upright) t)) (these (goal.at.returns c).After-min)

@@ -6,6 +6,6 @@ pub returns-then-upright : goal.returns-then-upright
 unfolding seen swapped
 returns-then-upright c = cc
 
-pub returns : goal.returns
+pub returns-else-upright : goal.returns-else-upright
 unfolding seen swapped
-returns c = cc
+returns-else-upright c = cc

@@ -4,18 +4,15 @@ use Rattle.outline.proofs.gradient.arc_slopes.Goals as goal
 
 pub returns : goal.returns
 unfolding arc_slopes
-returns c = let s3 = c.before.before.before in
-    let s2 = s3.before.before.before.before in
-    let s1 = s2.before.before.before.before.before.before in
-    let s0 = s1 in
+returns c =
     rw (
       c.add_at-2.ensures,
-      s3.abs.ensures,
-      s2.sub_at.ensures,
-      s2.cos-2.ensures,
-      s2.cos.ensures,
-      s1.add_at.ensures,
-      s1.sin-2.ensures,
-      s1.sin.ensures,
-      s0.signum-sign.ensures,
+      c.abs.ensures,
+      c.sub_at.ensures,
+      c.cos-2.ensures,
+      c.cos.ensures,
+      c.add_at.ensures,
+      c.sin-2.ensures,
+      c.sin.ensures,
+      c.signum-sign.ensures,
     )

@@ -1,47 +1,48 @@
--- `outline::numbered_arcs`: the arcs are copied, each with its head's number (Copied).
-use mathlib.Core.Path.{◌≡◌, refl, ◌∙◌}
+-- `outline::numbered_arcs`: the arcs below i are written, each with its head's number.
+use mathlib.Core.Path.{◌≡◌, sym, ap, ◌∙◌}
+use mathlib.Core.List.{List, map}
+use Prim.Native.Nat.{ℕ, min}
 use native.Mathlib.Omega.{arith}
-use lib.ListN.{length, get_or, length-set, length-replicate}
-use Rattle.lists.proofs.Arrays.{length_of_values}
+use lib.ListN.{length, get_or, take, length-replicate, length-map, length-take, drop}
+use lib.Seq.{take_all, take-append-le}
+use Rattle.std.proofs.lemmas.List.{take-map, take_min}
+use Rattle.lists.specs.Written.{tab, written}
+use Rattle.lists.proofs.Writing.{length_tab, written_none, write_next, tab_map}
 use Rattle.boundary.specs.declared.arcs.BoundaryArc.{BoundaryArc}
-use Rattle.boundary.specs.Set.{no_arc}
-use Rattle.boundary.proofs.Copying.{copied_next, copied_by_count, copied_by_room, copied_many}
+use Rattle.boundary.specs.Set.{numbered, no_arc, arcs_held}
 use Rattle.outline.proofs.outline.numbered_arcs.Goals as goal
 
-pub loop-i-init : goal.loop-i-init
-loop-i-init c =
-    let long : length c.args.arcs.all ≡ 320 = search length_of_values in
-    let places = length-replicate {A = BoundaryArc} 180 (get_or c.args.arcs.all 0 no_arc) in (
-      long,
-      places,
-      record { long = omega (arith, long); places = omega (arith, places); count = refl; most = omega arith; within = omega arith; same = refl },
-    )
+-- the first m of a list whose first m are written
+first_written : {A : Type 0} (f : ℕ → A) (m : ℕ) (l : List A) → take m (written f m l) ≡ tab f m
+first_written f m l = rw (take-append-le m (tab f m) (drop m l) (omega (arith, length_tab f m))) (take_all m (tab f m) (omega (arith, length_tab f m)))
 
-pub returns-then-n-i : goal.returns-then-n-i
-returns-then-n-i c = let inv = c.loop-i.invariant.2 in record { result_value = copied_by_count inv (omega arith); n_value = copied_many inv }
+-- the first of a mapped list, as many as there are up to so many
+capped_map : {A B : Type 0} (f : A → B) (l : List A) (m : ℕ) → map f (take (min (length l) m) l) ≡ take m (map f l)
+capped_map f l m =
+    let e : min (length l) m ≡ min m (length (map f l)) = omega (arith, length-map l f) in
+    sym (take-map f (min (length l) m) l) ∙ rw e (take_min m (map f l))
+
+pub loop-i-init : goal.loop-i-init
+loop-i-init c = written_none _ _
 
 pub loop-i-preserved : goal.loop-i-preserved
-loop-i-preserved c =
-    let l = c.loop-i in
-    (l.invariant.0, length-set l.all l.i _ ∙ l.invariant.1, copied_next l.invariant.2 _ (omega arith) (omega arith) c.numbered-arc.ensures)
+loop-i-preserved c = rw c.loop-i.invariant (write_next _ _ _ _ no_arc (omega (arith, length-replicate {A = BoundaryArc} 180)) c.numbered.ensures)
 
-pub returns : goal.returns
-returns c = let inv = c.loop-i.invariant.2 in record { result_value = copied_by_room inv (omega arith); n_value = copied_many inv }
+-- so many arcs are listed
+module _ (heads : List ℕ) (arcs all before : List BoundaryArc) (n i : ℕ) (e : n ≡ min (length arcs) 180) (f : i ≡ n)
+    (inv : all ≡ written (λ k. numbered heads (get_or arcs k no_arc)) i before) where
+  listed : take n all ≡ take arcs_held (map (numbered heads) arcs)
+  listed =
+      rw (inv, f) (first_written (λ k. numbered heads (get_or arcs k no_arc)) n before ∙ tab_map (numbered heads) arcs no_arc n (omega (arith, e))
+      ∙ rw e (capped_map (numbered heads) arcs 180))
 
-pub offset_bounds-arcs-i : goal.offset_bounds-arcs-i
-offset_bounds-arcs-i c = omega arith
+  listed_many : n ≡ length (take n all)
+  listed_many = omega (arith, e, ap length listed, length-take 180 (map (numbered heads) arcs), length-map arcs (numbered heads))
 
-pub bounds-arcs-i : goal.bounds-arcs-i
-bounds-arcs-i c = omega arith
+pub returns-clause-result_value : goal.returns-clause-result_value
+returns-clause-result_value c =
+    listed c.args.heads.now c.args.arcs.now c.loop-i.all _ c.min-n.result c.loop-i.i c.min-n.ensures (omega arith) c.loop-i.invariant
 
-pub offset_bounds-all-i : goal.offset_bounds-all-i
-offset_bounds-all-i c = omega arith
-
-pub bounds-all-i : goal.bounds-all-i
-bounds-all-i c = omega arith
-
-pub overflow_add-i : goal.overflow_add-i
-overflow_add-i c = omega arith
-
-pub loop-i-smaller : goal.loop-i-smaller
-loop-i-smaller c = omega arith
+pub returns-clause-n_value : goal.returns-clause-n_value
+returns-clause-n_value c =
+    listed_many c.args.heads.now c.args.arcs.now c.loop-i.all _ c.min-n.result c.loop-i.i c.min-n.ensures (omega arith) c.loop-i.invariant

@@ -1,14 +1,13 @@
 -- `plan::check::check` meets its contract. Assumes nothing.
+use borrow.Author.Rules.{rules}
 use Rattle.plan.proofs.Answers.{plan-answer}
 use Rattle.plan.proofs.check.check.Goals as goal
 
+pub returns-in_err-examine : goal.returns-in_err-examine
+returns-in_err-examine c = rw (plan-answer _) (search rules)
+
+pub returns-in_err-check_ground : goal.returns-in_err-check_ground
+returns-in_err-check_ground c = rw (plan-answer _) (search rules)
+
 pub returns : goal.returns
-returns c =
-    rw (
-      plan-answer,
-      c.first_of-2.ensures,
-      c.first_of.ensures,
-      c.check_heads.ensures,
-      c.check_ground.ensures,
-      c.examine-count.ensures,
-    )
+returns c = rw (plan-answer _) (search rules)

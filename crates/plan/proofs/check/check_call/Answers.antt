@@ -1,9 +1,17 @@
 -- `plan::check::check_call` meets its contract. Assumes nothing.
-use Rattle.plan.proofs.Answers.{call_few}
+use mathlib.Core.Path.{sym, ◌∙◌}
+use borrow.Author.Rules.{rules}
+use Rattle.plan.proofs.Answers.{call-answer, few_heads, few_rows}
 use Rattle.plan.proofs.check.check_call.Goals as goal
+
+pub returns-in_err-check : goal.returns-in_err-check
+returns-in_err-check c = rw (call-answer _ _ _) (search rules)
+
+pub row_width-requires : goal.row_width-requires
+row_width-requires c = few_heads c.args.plan (sym c.check.ensures ∙ c.in_ok-check.was)
 
 pub returns : goal.returns
 returns c =
-    let a = c.args in
-    rw (c.first_of.ensures, c.examine.ensures, c.check.ensures)
-    (call_few a.plan a.lent _ c.rows_needed.ensures a.gradients _ c.row_width.ensures)
+    let p = c.args.plan in
+    let taken = sym c.check.ensures ∙ c.in_ok-check.was in
+    rw (call-answer p _ _, taken, c.examine.ensures, few_rows p _ taken c.rows_needed.ensures, c.row_width.ensures)

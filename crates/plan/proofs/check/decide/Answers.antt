@@ -1,22 +1,26 @@
 -- `plan::check::decide` meets its contract. Assumes nothing.
-use Rattle.plan.proofs.Answers.{edit_few}
-use Rattle.heads.proofs.Signed.{read_back}
+use mathlib.Core.Path.{◌≡◌, sym, ◌∙◌}
+use native.Mathlib.Nat.{le_refl, max-eq_left}
+use borrow.Author.Rules.{rules}
+use Rattle.std.specs.Prelude.{Ok}
+use Rattle.plan.specs.Checks.{first_failed, field_items}
+use Rattle.plan.proofs.Answers.{edit-answer, few_rows}
 use Rattle.plan.proofs.check.decide.Goals as goal
+
+pub returns-in_err-check : goal.returns-in_err-check
+returns-in_err-check c = rw (edit-answer _ _ _) (search rules)
+
+pub returns-in_err-examine : goal.returns-in_err-examine
+returns-in_err-examine c = rw (edit-answer _ _ _) (search rules)
+
+pub returns-in_err-check_head : goal.returns-in_err-check_head
+returns-in_err-check_head c = rw (edit-answer _ _ _) (search rules)
 
 pub returns : goal.returns
 returns c =
-    let at_fields = c.before.before.before.before.before.before in
-    let told = at_fields.struct_told-3-1.given in
-    let a = at_fields.args in
-    let e = a.edit in
-    rw (
-      c.first_of-3.ensures,
-      c.first_of-2.ensures,
-      c.first_of.ensures,
-      c.check.ensures,
-      c.examine-tables.ensures,
-      at_fields.check_fields-fields.ensures,
-      at_fields.examine-number.ensures,
-    )
-    (simp (read_back e.x told.1.0.1, read_back e.y told.1.1.0.1, read_back e.radius told.1.1.1.0.1)
-    (edit_few a.plan a.lent _ c.rows_needed.ensures e))
+    let p = c.args.plan in
+    let e = c.args.edit in
+    let taken = sym c.check.ensures ∙ c.in_ok-check.was in
+    let fields : first_failed (field_items e.x e.y e.radius) ≡ Ok tt = search rules in
+    rw (edit-answer p _ _, taken, ← c.examine.ensures, c.in_ok-examine.was, fields, max-eq_left (le_refl p.n))
+    (c.examine-2.ensures ∙ rw (few_rows p _ taken c.rows_needed.ensures))

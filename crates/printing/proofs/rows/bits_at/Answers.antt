@@ -1,21 +1,21 @@
 -- `rows::bits_at` meets its contract. What is no number has the bits of the one NaN.
-use mathlib.Core.Path.{◌≡◌, refl, sym, ap, subst, ◌∙◌}
-use mathlib.Core.Bool.{Bool, not}
-use lib.Dec.{T}
-use lib.Ieee.{nan, binary64, to_bits}
+use mathlib.Core.Path.{◌≡◌, refl, sym, ◌∙◌}
+use mathlib.Core.Bool.{true}
+use lib.Ieee.{Float, nan, inf, fin, is_nan, binary64, to_bits}
 use lib.ListN.{get_or-eq_default}
-use Rattle.binary64.proofs.Functions.{equals_itself, only_nan}
 use Rattle.printing.proofs.rows.bits_at.Goals as goal
+use Rattle.printing.proofs.rows.bits_at.Goals.{else-s-numbers-via-then-s-numbers+else-not-is_nan, else-s-numbers-via-else-s-numbers}
 
-nan-bits : 9221120237041090560 ≡ to_bits binary64 nan
-unfolding to_bits
-nan-bits = refl
-
-pub float_to_bits-result : goal.float_to_bits-result
-float_to_bits-result c = subst (λ (b : Bool). T (not b)) (sym (equals_itself _ c.if-x.true)) tt
-
-pub returns-else-x : goal.returns-else-x
-returns-else-x c = nan-bits ∙ sym (ap (to_bits binary64) (only_nan _ c.if-x.false))
+bits_of_nan : (x : Float) → is_nan x ≡ true → 9221120237041090560 ≡ to_bits binary64 x
+unfolding is_nan to_bits
+bits_of_nan nan e = refl
+bits_of_nan (inf s) e = cc
+bits_of_nan (fin s m p) e = cc
 
 pub returns-else-s-numbers : goal.returns-else-s-numbers
-returns-else-s-numbers c = let a = c.args in nan-bits ∙ sym (ap (to_bits binary64) (get_or-eq_default a.numbers.now nan c.if-s-numbers.false))
+unfolding is_nan
+returns-else-s-numbers c =
+    elim c.else-s-numbers.branch [
+      | else-s-numbers-via-then-s-numbers+else-not-is_nan w ↦ bits_of_nan _ (sym w.is_nan.ensures.value ∙ w.if-not-is_nan.false)
+      | else-s-numbers-via-else-s-numbers w ↦ let e = get_or-eq_default c.args.numbers.now nan w.if-s-numbers.false in rw e (bits_of_nan nan refl)
+    ]

@@ -8,4 +8,4 @@ returns c =
     let s = c in
     let container = s.container.ensures in
     let circles = s.circles_of.ensures in
-    let e = s.compute_exclusive_regions_clipped_with_gradient.ensures in record { value = e.value ∙ rw circles; presence_after = e.presence_after ∙ rw circles; exclusives_after = e.exclusives_after ∙ rw (container, circles); gradients_after = e.gradients_after ∙ rw (container, circles) }
+    let e = s.compute_exclusive_regions_clipped_with_gradient.ensures in record { value = rw (s.rows_number.ensures, e.value, circles); presence_after = e.presence_after ∙ rw circles; exclusives_after = e.exclusives_after ∙ rw (container, circles); gradients_after = e.gradients_after ∙ rw (container, circles) }

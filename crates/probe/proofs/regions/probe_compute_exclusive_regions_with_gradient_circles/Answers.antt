@@ -7,4 +7,4 @@ pub returns : goal.returns
 returns c =
     let s = c in
     let circles = s.circles_of.ensures in
-    let e = s.compute_exclusive_regions_with_gradient_circles.ensures in record { value = e.value ∙ rw circles; presence_after = e.presence_after ∙ rw circles; exclusives_after = e.exclusives_after ∙ rw circles; gradients_after = e.gradients_after ∙ rw circles }
+    let e = s.compute_exclusive_regions_with_gradient_circles.ensures in record { value = rw (s.rows_number.ensures, e.value, circles); presence_after = e.presence_after ∙ rw circles; exclusives_after = e.exclusives_after ∙ rw circles; gradients_after = e.gradients_after ∙ rw circles }

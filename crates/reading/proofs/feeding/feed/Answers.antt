@@ -1,66 +1,36 @@
--- `feeding::feed` meets its contract. The invariant: the rest of the piece leads from here to what the whole piece leads to.
-use mathlib.Core.Path.{◌≡◌, refl, sym, ap, ◌∙◌}
-use Prim.Native.Nat.{◌+◌, ◌-◌, ◌≤◌, ◌<◌}
-use native.Mathlib.Omega.{arith}
-use lib.ListN.{length, drop, get_or}
-use Rattle.regions.specs.Slices.{plan_slices}
+-- `feeding::feed` meets its contract. The invariant: the state is that after the bytes so far.
+use mathlib.Core.Path.{◌≡◌, sym, ap, ◌∙◌}
+use Rattle.std.proofs.lemmas.List.{take_all}
+use lib.ListN.{get_or, take}
 use Rattle.table.specs.Method.{clipped_table}
-use Rattle.reading.specs.Reading.{state_of, read_bytes}
-use Rattle.reading.proofs.Bytes.{bytes_next, bytes_past, byte_read, piece_reads}
-use borrow.Author.Rules.{rules}
-use Rattle.file.proofs.reader.step.Reads as step-reads
-use Rattle.reading.proofs.feeding.hand.Reads as hand-reads
+use Rattle.table.specs.Tables.{plan_tables}
+use Rattle.table.proofs.Calls.{same_self, same_then}
+use Rattle.reading.specs.Reading.{state_in, read_byte, read_bytes}
+use Rattle.reading.proofs.Bytes.{bytes_first, bytes_next, byte_read, piece_reads}
 use Rattle.reading.proofs.feeding.feed.Goals as goal
 
-pub overflow_add-i : goal.overflow_add-i
-overflow_add-i c =
-    let at-hand = c.before.before.before.before.before.before.before.before in
-    let at_test = at-hand in
-    let test = at_test.loop-i-test.true in
-    let good = at_test.well_formed in
-    omega arith
+pub loop-byte-init : goal.loop-byte-init
+loop-byte-init c = record { state = sym (bytes_first clipped_table _); same_slices = same_self _ }
 
-pub loop-i-preserved : goal.loop-i-preserved
-loop-i-preserved c =
-    let at-hand = c.before.before.before.before.before.before.before.before in
-    let at-step = at-hand.before.before.before.before.before.before in
-    let at_test = at-step in
-    let l = at_test.loop-i in
-    let a = at_test.args in
-    let bytes = a.bytes.now in
-    let test : l.i < length bytes = at_test.loop-i-test.true in
-    let left = plan_slices l.plan l.presence l.rows l.exclusive_presence l.exclusives in
-    let next = at-step.step-next in
-    let h = at-hand.hand-plan in (
-      omega arith,
-      ap (λ s. read_bytes clipped_table s (drop (l.i + 1) bytes))
-          (byte_read clipped_table l.reader next.result left _ (get_or bytes l.i 0) next.ensures h.ensures)
-          ∙ sym (bytes_next clipped_table (state_of l.reader left) bytes l.i test) ∙ l.invariant.1,
-      h.auto.presence ∙ l.invariant.2,
-      h.auto.rows ∙ l.invariant.3,
-      h.auto.exclusive_presence ∙ l.invariant.4,
-      h.auto.exclusives ∙ l.invariant.5,
-    )
+pub loop-byte-preserved : goal.loop-byte-preserved
+loop-byte-preserved c =
+    let l = c.loop-byte in
+    let a = c.args in
+    let b = get_or a.bytes.now l.byte-index 0 in
+    let h = c.hand-plan.ensures in record {
+      state = byte_read clipped_table l.reader c.step-reader.result (plan_tables l.plan l.tables) _ b c.step-reader.ensures h.left
+          ∙ ap (λ s. read_byte clipped_table s b) l.invariant.state
+          ∙ sym (bytes_next clipped_table (state_in a.reading a.tables.now) a.bytes.now l.byte-index c.loop-byte-test.true);
+      same_slices = same_then l.invariant.same_slices h.same_slices;
+    }
 
 pub returns : goal.returns
 returns c =
-    let l = c.loop-i in
+    let l = c.loop-byte in
     let bytes = c.args.bytes.now in
-    let past : length bytes ≤ l.i = c.loop-i-test.false in
-    let left = plan_slices l.plan l.presence l.rows l.exclusive_presence l.exclusives in
-    let read = sym (bytes_past clipped_table (state_of l.reader left) bytes l.i past) ∙ l.invariant.1 in record { exclusives_after = read; after_bytes = λ t s before. read ∙ piece_reads clipped_table t s bytes _ before }
-
-pub loop-i-init : goal.loop-i-init
-loop-i-init c = (omega arith, refl, refl, refl, refl, refl)
-
-pub shape_of-presence : goal.shape_of-presence
-shape_of-presence c = c.loop-i.invariant.2
-
-pub shape_of-rows : goal.shape_of-rows
-shape_of-rows c = c.loop-i.invariant.3
-
-pub shape_of-exclusive_presence : goal.shape_of-exclusive_presence
-shape_of-exclusive_presence c = c.loop-i.invariant.4
-
-pub shape_of-exclusives : goal.shape_of-exclusives
-shape_of-exclusives c = c.loop-i.invariant.5
+    let all : take l.byte-index bytes ≡ bytes = take_all l.byte-index bytes c.loop-byte-test.false in
+    let read = l.invariant.state ∙ ap (read_bytes clipped_table (state_in c.args.reading c.args.tables.now)) all in record {
+      state_after = read;
+      after_bytes = λ t s before. read ∙ piece_reads clipped_table t s bytes _ before;
+      same_slices = l.invariant.same_slices;
+    }

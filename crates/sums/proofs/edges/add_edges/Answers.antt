@@ -6,20 +6,13 @@ use Rattle.sums.proofs.edges.add_edges.Goals as goal
 pub returns : goal.returns
 unfolding edges_from
 returns c =
-    let c4 = c.before.before in
-    let s3 = c4.before in
-    let c3 = s3.before in
-    let s2 = c3.before in
-    let c2 = s2.before in
-    let s1 = c2.before in
-    let c1 = s1 in
     c.add_span.ensures
     ∙ rw (
-      c4.chord_span-left.ensures,
-      s3.add_span-with_top.ensures,
-      c3.chord_span-top.ensures,
-      s2.add_span-with_right.ensures,
-      c2.chord_span-right.ensures,
-      s1.add_span-with_bottom.ensures,
-      c1.chord_span-bottom.ensures,
+      c.chord_span-left.ensures,
+      c.add_span-with_top.ensures,
+      c.chord_span-top.ensures,
+      c.add_span-with_right.ensures,
+      c.chord_span-right.ensures,
+      c.add_span-with_bottom.ensures,
+      c.chord_span-bottom.ensures,
     )

@@ -12,9 +12,8 @@ loop-mask-init c = (omega arith, λ S h is. absurd (omega arith), λ n h. omega 
 
 pub loop-mask-preserved : goal.loop-mask-preserved
 loop-mask-preserved c =
-    let d = c in
-    let l = d.loop-mask in
-    let a = d.args in
+    let l = c.loop-mask in
+    let a = c.args in
     elim c.if-wanted-mask-eq1.branch [
       | then-wanted-mask-eq1 w ↦ (
         omega arith,
@@ -30,5 +29,4 @@ loop-mask-preserved c =
 
 pub returns : goal.returns
 returns c =
-    let d = c in
-    let e : d.loop-mask.mask ≡ d.args.count = omega arith in record { of_wanted = rw e at d.loop-mask.invariant.1; by_index = d.loop-mask.invariant.2 }
+    let e : c.loop-mask.mask ≡ c.args.count = omega arith in record { of_wanted = rw e at c.loop-mask.invariant.1; by_index = c.loop-mask.invariant.2 }

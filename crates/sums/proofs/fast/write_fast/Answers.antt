@@ -1,48 +1,53 @@
--- `fast::write_fast`: the numbers of the circles, the heads of the wanted rows, their arrays, and the rows.
-use borrow.Author.Rules.{rules}
-use mathlib.Core.Path.{sym}
-use lib.ListN.{length}
-use mathlib.Core.Path.{subst}
+-- `fast::write_fast`: the heads of the wanted rows, their marks, and the rows.
+use mathlib.Core.Path.{ap, ◌∙◌}
+use Prim.Native.Nat.{ℕ}
+use lib.ListN.{length, take}
+use lib.Ieee.{Float}
+use Rattle.lists.specs.Written.{written}
 use Rattle.masks.specs.Presence.{stands}
-use Rattle.intersections.specs.Counted.{point_list}
 use Rattle.intersections.specs.Members.{members_of}
-use Rattle.gaps.proofs.Circles.{circles_many}
-use Rattle.sums.specs.Rows.{area_of}
-use Rattle.sums.specs.Walk.{Few}
+use Rattle.outline.specs.Area.{open_area}
+use Rattle.clip.specs.Area.{clipped_area}
+use Rattle.sums.specs.Rows.{number_at}
 use Rattle.sums.proofs.Counts.{count_few}
-use Rattle.sums.proofs.Passing.{written_alike}
+use Rattle.sums.proofs.Valuing.{first_many}
 use Rattle.sums.proofs.fast.write_fast.Goals as goal
 
 pub wanted_heads-needed-requires : goal.wanted_heads-needed-requires
-wanted_heads-needed-requires c =
-    let s = c in
-    (count_few s.args.n_sets _ (length s.args.areas.now) s.requires.0 c.row_count-count.ensures).0
+wanted_heads-needed-requires c = (count_few c.args.n_sets _ (length c.args.areas.now) c.requires.0 c.row_count-count.ensures).0
 
-pub fill_heads-requires : goal.fill_heads-requires
-fill_heads-requires c =
-    let n = c.before.before.before.before.before.before.before.before in
-    let s = n in record { n_sets_bound = (s.requires.0, subst (λ cs. Few cs (point_list s.args.points)) (sym n.numbers_of-c.ensures) s.requires.1); long = record { counts_long = search rules; owners_long = search rules; phi_long = search rules; adopters_long = search rules; lets_long = search rules } }
+pub write_in_box-requires : goal.write_in_box-requires
+write_in_box-requires c =
+    let a = c.args in
+    let counted = count_few a.n_sets _ (length a.areas.now) c.requires.0 c.row_count-count.ensures in
+    let heads = c.wanted_heads-needed.ensures in
+    record {
+      n_sets_bound = (c.requires.0, counted.1);
+      needed_bound = (heads.by_index a.n_sets counted.1.0, heads.of_wanted);
+      ready = λ j h i. c.fill_heads.ensures.ready j (rw (first_many a.circles.now a.n_sets c.told-circles c.requires.0) at h) i;
+    }
 
-pub write_marked-requires : goal.write_marked-requires
-write_marked-requires c =
-    let f = c.before.before.before.before.before.before.before in
-    let w = f.before.before.before.before.before.before.before in
-    let r = w.before in
-    let n = r.before in
-    let s = n in
-    let a = s.args in
-    let counted = count_few a.n_sets _ (length a.areas.now) s.requires.0 r.row_count-count.ensures in record { n_sets_bound = (s.requires.0, counted.1); needed_bound = (w.wanted_heads-needed.ensures.by_index a.n_sets counted.1.0, (w.wanted_heads-needed.ensures.of_wanted, n.numbers_of-c.ensures)); ready = λ j h i. f.fill_heads.ensures.marked.ready j (rw (circles_many _ a.n_sets) at h) i }
+pub returns-then-clipped : goal.returns-then-clipped
+returns-then-clipped c =
+    let a = c.args in
+    let points = a.points.now in
+    let row : ℕ → Float = number_at (stands a.wanted.now) (λ S. clipped_area a.bounds (members_of (take a.n_sets a.circles.now) points S)) a.areas.now in
+    rw c.if-clipped.true (c.write_in_box.ensures points (c.requires.1, λ j h i. c.fill_heads.ensures.marks j (rw (first_many a.circles.now a.n_sets c.told-circles c.requires.0) at h) i) ∙ ap (λ (m : ℕ). written row m a.areas.now) c.row_count-count.ensures)
+
+pub write_open-requires : goal.write_open-requires
+write_open-requires c =
+    let a = c.args in
+    let counted = count_few a.n_sets _ (length a.areas.now) c.requires.0 c.row_count-count.ensures in
+    let heads = c.wanted_heads-needed.ensures in
+    record {
+      n_sets_bound = (c.requires.0, counted.1);
+      needed_bound = (heads.by_index a.n_sets counted.1.0, heads.of_wanted);
+      ready = λ j h i. c.fill_heads.ensures.ready j (rw (first_many a.circles.now a.n_sets c.told-circles c.requires.0) at h) i;
+    }
 
 pub returns : goal.returns
 returns c =
-    let m = c.before.before in
-    let f = m.before.before.before.before.before.before.before.before in
-    let n = f.before.before.before.before.before.before.before.before.before in
-    let s = n in
-    let a = s.args in
-    let points = point_list a.points in
-    written_alike (λ cs S. area_of a.clipped a.bounds (members_of cs points S)) (stands a.wanted.now) a.areas.now
-    (m.write_marked.ensures points (subst (λ cs. Few cs points) (sym n.numbers_of-c.ensures) s.requires.1)
-    (λ j h i. f.fill_heads.ensures.marked.marks j (rw (circles_many _ a.n_sets) at h) i))
-    n.numbers_of-c.ensures
-    f.row_count-count.ensures
+    let a = c.args in
+    let points = a.points.now in
+    let row : ℕ → Float = number_at (stands a.wanted.now) (λ S. open_area (members_of (take a.n_sets a.circles.now) points S)) a.areas.now in
+    rw c.if-clipped.false (c.write_open.ensures points (c.requires.1, λ j h i. c.fill_heads.ensures.marks j (rw (first_many a.circles.now a.n_sets c.told-circles c.requires.0) at h) i) ∙ ap (λ (m : ℕ). written row m a.areas.now) c.row_count-count.ensures)

@@ -1,25 +1,22 @@
+-- `fill::gap_letters`: nobody, or those that let the head have the midpoint.
 use mathlib.Core.Path.{sym, ◌∙◌}
-use Rattle.gaps.specs.Gaps.{circles_in}
-use Rattle.gaps.proofs.Circles.{circle_held}
+use lib.ListN.{take}
+use lib.Seq.{get_or-take}
+use Rattle.intersections.specs.Members.{no_circle}
 use Rattle.sums.proofs.Owning.{nobody_lets, these_let}
 use Rattle.sums.proofs.fill.gap_letters.Goals as goal
 
--- src/fill.rt:51:9
 pub returns-then-collapsed : goal.returns-then-collapsed
 returns-then-collapsed c =
     let a = c.args in
-    nobody_lets (circles_in a.c.now a.n_sets) a.j a.phi_a a.phi_b _ c.gap-delta.ensures
+    nobody_lets (take a.n_sets a.circles.now) a.j a.phi_a a.phi_b _ c.gap-delta.ensures
     (sym c.collapsed.ensures ∙ c.if-collapsed.true)
 
--- src/fill.rt:45:1
 pub returns : goal.returns
 returns c =
-    let k = c.before.before in
-    let e = k.before in
-    let s = e in
-    let a = s.args in
-    these_let (circles_in a.c.now a.n_sets) a.j a.phi_a a.phi_b _ s.gap-delta.ensures _ _ _
-    (sym e.collapsed.ensures ∙ e.if-collapsed.false)
-    (k.circle_at-circle.ensures ∙ circle_held a.c.now a.n_sets a.j s.requires.1 s.requires.0)
+    let a = c.args in
+    these_let (take a.n_sets a.circles.now) a.j a.phi_a a.phi_b _ c.gap-delta.ensures _ _ _
+    (sym c.collapsed.ensures ∙ c.if-collapsed.false)
+    (sym (get_or-take a.n_sets a.circles.now a.j no_circle c.requires.1))
     c.point_at.ensures
     c.letters.ensures

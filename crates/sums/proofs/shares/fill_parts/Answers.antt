@@ -1,10 +1,11 @@
 -- `shares::fill_parts`: of the arcs with a number below p the parts are held, before `used` (`PartsTo`).
-use mathlib.Core.Path.{◌≡◌, sym, ◌∙◌}
+use borrow.Author.Rules.{rules}
+use mathlib.Core.Path.{◌≡◌, sym, ap, ◌∙◌}
 use mathlib.Core.Bool.{true, true≢false}
-use Prim.Native.Nat.{ℕ, ◌≤◌, ◌<◌}
+use Prim.Native.Nat.{ℕ, ◌+◌, ◌≤◌, ◌<◌}
 use native.Mathlib.Omega.{arith}
-use lib.ListN.{length-set}
-use Rattle.gaps.proofs.Circles.{circle_first}
+use lib.ListN.{get_or, length-set}
+use Rattle.intersections.specs.Members.{no_circle}
 use Rattle.sums.specs.Values.{standing}
 use Rattle.sums.proofs.Valuing.{standing_below, standing_readable}
 use Rattle.sums.proofs.Sloping.{parts_none, parts_jump, parts_put, parts_all, put_is}
@@ -12,81 +13,58 @@ use Rattle.sums.proofs.shares.fill_parts.Goals as goal
 
 pub loop-p-init : goal.loop-p-init
 loop-p-init c =
-    let a = c.requires.first_len in
-    let b = c.requires.xs_len in
-    (a.0, a.1.0, a.1.1, b.0, b.1.0, b.1.1, omega arith, omega arith, parts_none)
+    let next = c.next_standing-p.ensures in
+    let none : (q : ℕ) → 0 ≤ q → q < _ → standing c.args.needed c.args.marks.now.counts q ≡ true → ⊥ = λ q h k is. true≢false (sym is ∙ next.none q h k) in
+    (search rules, search rules, search rules, next.within, omega arith, parts_jump parts_none none, next.here)
 
-pub returns-then-used-gt615 : goal.returns-then-used-gt615
-returns-then-used-gt615 c = let i = c.loop-p.invariant in parts_all i.6 i.8
+pub offset_bounds-circles-head_of : goal.offset_bounds-circles-head_of
+offset_bounds-circles-head_of c =
+    let a = c.args in
+    let head = standing_below a.n_sets a.needed a.marks.now.counts c.requires.1.0 c.requires.1.1 c.loop-p.p c.loop-p-test.true (c.loop-p.invariant.6 c.loop-p-test.true) in
+    omega (arith, c.head_of.ensures, head, c.requires.0)
+
+pub bounds-circles-head_of : goal.bounds-circles-head_of
+bounds-circles-head_of c =
+    let a = c.args in
+    let head = standing_below a.n_sets a.needed a.marks.now.counts c.requires.1.0 c.requires.1.1 c.loop-p.p c.loop-p-test.true (c.loop-p.invariant.6 c.loop-p-test.true) in
+    omega (arith, c.head_of.ensures, head, c.requires.0)
 
 pub arc_at-arc-requires : goal.arc_at-arc-requires
 arc_at-arc-requires c =
-    let i = c.before.before.before in
-    let d = i.before.before in
-    let s = d in
-    let a = s.args in
-    let is = sym i.is_standing.ensures ∙ c.if-is_standing.true in
-    standing_readable a.n_sets a.needed a.counts.now s.requires.n_sets_bound.1.0 s.requires.n_sets_bound.1.1 d.loop-p.p d.loop-p-test.true is
+    let a = c.args in
+    standing_readable a.n_sets a.needed a.marks.now.counts c.requires.1.0 c.requires.1.1 c.loop-p.p c.loop-p-test.true (c.loop-p.invariant.6 c.loop-p-test.true)
 
 pub put_parts-along-requires : goal.put_parts-along-requires
-put_parts-along-requires c =
-    let e = c in
-    let i = e.loop-p.invariant in record { used_bound = omega (arith, e.if-used-gt615.false); xs_len = (i.3, (i.4, i.5)) }
+put_parts-along-requires c = omega (arith, c.if-used-le615.true)
 
 pub overflow_add-used : goal.overflow_add-used
-overflow_add-used c =
-    let pp = c.before in
-    let e = pp in
-    omega (arith, pp.put_parts-along.ensures.many_bound, e.if-used-gt615.false)
-
-pub loop-p-preserved-then-is_standing : goal.loop-p-preserved-then-is_standing
-loop-p-preserved-then-is_standing c =
-    let pp = c.before in
-    let k = pp.before.before.before.before in
-    let q = k.before in
-    let h = q.before in
-    let t = h.before in
-    let w = t.before in
-    let e = w.before in
-    let d = e.before in
-    let s = d in
-    let a = s.args in
-    let l = d.loop-p in
-    let i = l.invariant in
-    let is = sym w.is_standing.ensures ∙ t.if-is_standing.true in
-    let head = standing_below a.n_sets a.needed a.counts.now s.requires.n_sets_bound.1.0 s.requires.n_sets_bound.1.1 l.p d.loop-p-test.true is in
-    let circle = q.circle_at-circle.ensures ∙ circle_first a.c.now h.head_of.ensures (omega (arith, head, s.requires.n_sets_bound.0)) in
-    let put = pp.put_parts-along.ensures in
-    let kept = put.by_index in (
-      length-set l.first l.p _ ∙ i.0,
-      length-set l.many l.p _ ∙ i.1,
-      length-set l.sums l.p _ ∙ i.2,
-      put.xs_len_2.0,
-      put.xs_len_2.1.0,
-      put.xs_len_2.1.1,
-      omega (arith, d.loop-p-test.true),
-      omega (arith, put.many_bound, e.if-used-gt615.false),
-      parts_put i.8 _ _ _ _ _ (omega (arith, i.0, d.loop-p-test.true)) (omega (arith, i.1, d.loop-p-test.true)) (omega (arith, i.2, d.loop-p-test.true))
-          (omega (arith, put.many_bound, e.if-used-gt615.false)) (λ r b. (kept r b).0) (λ r b. (kept r b).1.0) (λ r b. (kept r b).1.1)
-          (put_is a.bounds a.c.now a.n_sets a.counts.now a.phi.now l.p head circle k.arc_at-arc.ensures _ _ _ _ _ _ put.g_after),
-    )
-
-pub loop-p-smaller : goal.loop-p-smaller
-loop-p-smaller c = omega (arith, c.past-p.ensures.lower_bound.0, c.past-p.ensures.lower_bound.1)
+overflow_add-used c = omega (arith, c.put_parts-along.ensures.many_bound, c.loop-p.invariant.4)
 
 pub loop-p-preserved : goal.loop-p-preserved
 loop-p-preserved c =
-    let w = c.before.before in
-    let d = w in
-    let l = d.loop-p in
+    let a = c.args in
+    let l = c.loop-p in
     let i = l.invariant in
-    let a = d.args in
-    let none : (q : ℕ) → l.p ≤ q → q < _ → standing a.needed a.counts.now q ≡ true → ⊥ =
-    λ q h k is. true≢false (sym is ∙ c.past-p.ensures.by_index a.needed a.counts.now (sym w.is_standing.ensures ∙ c.if-is_standing.false) q h k) in
-    (i.0, i.1, i.2, i.3, i.4, i.5, omega (arith, c.past-p.ensures.lower_bound.1), i.7, parts_jump i.8 none)
+    let is = i.6 c.loop-p-test.true in
+    let next = c.next_standing-p-in-loop-p.ensures in
+    let none : (q : ℕ) → l.p + 1 ≤ q → q < _ → standing a.needed a.marks.now.counts q ≡ true → ⊥ = λ q h k is. true≢false (sym is ∙ next.none q h k) in
+    let head = standing_below a.n_sets a.needed a.marks.now.counts c.requires.1.0 c.requires.1.1 l.p c.loop-p-test.true is in
+    let circle = ap (λ i. get_or a.circles.now i no_circle) c.head_of.ensures in
+    let put = c.put_parts-along.ensures in
+    let kept = put.by_index in (
+      length-set l.parts.first l.p _ ∙ i.0,
+      length-set l.parts.many l.p _ ∙ i.1,
+      length-set l.parts.sums l.p _ ∙ i.2,
+      next.within,
+      omega (arith, put.many_bound, c.if-used-le615.true),
+      parts_jump (parts_put i.5 _ _ _ _ _ (omega (arith, i.0, c.loop-p-test.true)) (omega (arith, i.1, c.loop-p-test.true)) (omega (arith, i.2, c.loop-p-test.true))
+          (omega (arith, put.many_bound, c.if-used-le615.true)) (λ r b. (kept r b).0) (λ r b. (kept r b).1.0) (λ r b. (kept r b).1.1)
+          (put_is a.bounds a.circles.now a.n_sets a.marks.now.counts a.marks.now.phi l.p head circle c.arc_at-arc.ensures _ _ _ _ _ _ put.g_after)) none,
+      next.here,
+    )
+
+pub loop-p-smaller : goal.loop-p-smaller
+loop-p-smaller c = omega (arith, c.next_standing-p-in-loop-p.ensures.from, c.next_standing-p-in-loop-p.ensures.within)
 
 pub returns : goal.returns
-returns c =
-    let l = c.loop-p in
-    let e : l.p ≡ 330 = omega (arith, l.invariant.6, c.loop-p-test.false) in
-    parts_all (omega arith) (rw e at l.invariant.8)
+returns c = let i = c.loop-p.invariant in parts_all i.3 i.5

@@ -9,17 +9,16 @@ use Rattle.sums.proofs.values.is_standing.Goals as goal
 
 pub returns-then-needed-j-eq1 : goal.returns-then-needed-j-eq1
 returns-then-needed-j-eq1 c =
-    let s = c in
-    let a = s.args in
-    sym (standing_near a.needed a.counts.now a.place (omega arith) ∙ rw (sym (in_by_shift a.needed (a.place / 32)) ∙ eq-eqb _ _ c.if-needed-j-eq1.true))
+    let a = c.args in
+    sym (standing_near a.needed a.marks.now.counts a.place (omega arith) ∙ rw (sym (in_by_shift a.needed (a.place / 32)) ∙ eq-eqb _ _ c.if-needed-j-eq1.true))
 
-pub returns-then-place-lt320 : goal.returns-then-place-lt320
-returns-then-place-lt320 c =
-    let s = c in
-    let a = s.args in
-    sym (standing_near a.needed a.counts.now a.place (omega arith) ∙ rw (sym (in_by_shift a.needed (a.place / 32)) ∙ ne_eqb _ _ c.if-needed-j-eq1.false))
+pub returns-else-needed-j-eq1 : goal.returns-else-needed-j-eq1
+returns-else-needed-j-eq1 c =
+    let a = c.args in
+    let none = ne_eqb _ _ c.if-needed-j-eq1.false in
+    none ∙ sym (standing_near a.needed a.marks.now.counts a.place (omega arith) ∙ rw (sym (in_by_shift a.needed (a.place / 32)) ∙ none))
 
 pub returns : goal.returns
 returns c =
     let a = c.args in
-    in_by_shift a.needed (a.place - 320) ∙ sym (standing_whole a.needed a.counts.now a.place (omega arith))
+    in_by_shift a.needed (a.place - 320) ∙ sym (standing_whole a.needed a.marks.now.counts a.place (omega arith))

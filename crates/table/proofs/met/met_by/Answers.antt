@@ -14,18 +14,16 @@ use Rattle.table.proofs.met.met_by.Goals.{then-is_met, else-is_met}
 
 pub loop-j-init : goal.loop-j-init
 unfolding gather
-loop-j-init c = (omega arith, refl)
+loop-j-init c = refl
 
 pub loop-j-preserved : goal.loop-j-preserved
 loop-j-preserved c =
     let l = c.loop-j in
     let a = c.args in
     let p : ℕ → Bool = λ i. not (eqb i a.k) && meets_any (get_or a.heads a.k no_head ∷ a.head ∷ []) (get_or a.heads i no_head) in
-    let test = c.is_met.ensures in (
-      omega arith,
-      elim c.if-is_met.branch [ then-is_met w ↦ rw (w.mask-is, l.invariant.1) (gather_with p l.j (omega arith) (sym test ∙ w.if-is_met.true)) | else-is_met w ↦ rw (w.mask-is, l.invariant.1) (gather_without p l.j (sym test ∙ w.if-is_met.false)) ],
-    )
+    let test = c.is_met.ensures in
+    elim c.if-is_met.branch [ then-is_met w ↦ rw (w.mask-is, l.invariant) (gather_with p l.j (omega arith) (sym test ∙ w.if-is_met.true)) | else-is_met w ↦ rw (w.mask-is, l.invariant) (gather_without p l.j (sym test ∙ w.if-is_met.false)) ]
 
 pub returns : goal.returns
 unfolding met
-returns c = let e : c.loop-j.j ≡ c.args.n = omega arith in rw e at c.loop-j.invariant.1
+returns c = let e : c.loop-j.j ≡ c.args.n = omega arith in rw e at c.loop-j.invariant

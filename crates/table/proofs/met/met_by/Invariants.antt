@@ -1,5 +1,4 @@
 use mathlib.Core.Path.{◌≡◌}
-use Prim.Native.Nat.{◌-◌, ◌≤◌}
 use mathlib.Core.Bool.{not, ◌&&◌}
 use mathlib.Core.List.{[], ◌∷◌}
 use lib.Dec.{eqb}
@@ -10,7 +9,4 @@ use Rattle.regions.specs.Edit.{meets_any}
 use Rattle.table.proofs.met.met_by.Given as goal
 
 abbrev pub invariant-loop-j : goal.invariant-loop-j
-invariant-loop-j l = (l.j ≤ l.n) × (l.mask ≡ gather l.j (λ i. not (eqb i l.k) && meets_any (get_or l.heads l.k no_head ∷ l.head ∷ []) (get_or l.heads i no_head)))
-
-abbrev pub decreases-loop-j : goal.decreases-loop-j
-decreases-loop-j l = l.n - l.j
+invariant-loop-j l = l.mask ≡ gather l.j (λ i. not (eqb i l.k) && meets_any (get_or l.heads l.k no_head ∷ l.head ∷ []) (get_or l.heads i no_head))

@@ -1,6 +1,5 @@
 -- The invariant: the bytes below mask are written, the others 0.
 use mathlib.Core.Path.{◌≡◌}
-use Prim.Native.Nat.{◌-◌, ◌≤◌}
 use lib.ListN.{replicate}
 use Rattle.lists.specs.Written.{written}
 use Rattle.masks.specs.Presence.{byte, stands}
@@ -9,7 +8,4 @@ use Rattle.table.proofs.rows.rows_worked_out.Given as goal
 
 abbrev pub invariant-loop-mask : goal.invariant-loop-mask
 invariant-loop-mask l =
-    (l.mask ≤ l.count) × (l.count ≤ 1024) × (l.wanted ≡ written (λ S. byte (worked_out l.change (stands l.earlier) (stands l.later) S)) l.mask (replicate 1024 0))
-
-abbrev pub decreases-loop-mask : goal.decreases-loop-mask
-decreases-loop-mask l = l.count - l.mask
+    l.wanted ≡ written (λ S. byte (worked_out l.change (stands l.earlier) (stands l.later) S)) l.mask (replicate 1024 0)

@@ -1,6 +1,5 @@
--- `Circle::contains` meets its contract: where the root alone is above the radius the sum is, and else the sum is the definition's.
-use mathlib.Core.Path.{sym, ap, ◌∙◌}
-use borrow.Author.Rules.{rules}
+-- `Circle::contains` meets its contract: where the root alone is above the radius the sum is.
+use Rattle.std.proofs.Common.{sym, ap, ◌∙◌, rules}
 use lib.Ieee.{Float}
 use Rattle.binary64.specs.Floats.{◌+ᶠ◌, ◌≤ᶠ◌}
 use Rattle.elementary.proofs.root.Values.{root_minus}
@@ -9,15 +8,8 @@ use Rattle.geometry.proofs.circle.Circle.contains.Goals as goal
 
 pub returns-then-root_above : goal.returns-then-root_above
 returns-then-root_above c =
-    let r = c.before in
-    let m = r.before.before in
-    let q = m.before in
-    let a = q.args in
-    sym (ap (λ (d : Float). d +ᶠ a.other.radius ≤ᶠ a.self.radius) (sym q.squared_distance-squared.ensures)
-    ∙ sum_past _ _ _ (r.root_above.ensures c.if-root_above.true) (root_minus q.squared_distance-squared.result (search rules)) (search rules)
-    (sym m.moderate.ensures ∙ r.if-moderate.true))
-
-pub returns : goal.returns
-returns c =
-    let r = c.before.before in
-    rw (r.root.ensures, r.squared_distance-squared.ensures)
+    let a = c.args in
+    let squared = c.squared_distance-squared in
+    sym (ap (λ (d : Float). d +ᶠ a.other.radius ≤ᶠ a.self.radius) (sym squared.ensures)
+    ∙ sum_past _ _ _ (c.root_above.ensures c.if-root_above.true) (root_minus squared.result (search rules)) (search rules)
+    (sym c.moderate.ensures ∙ c.if-moderate.true))

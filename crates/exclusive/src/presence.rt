@@ -1,0 +1,21 @@
+// The presence bytes of a table, where there is one for each row of at most ten heads.
+ghost use Rattle.std.specs.Prelude.{◌≡◌, ◌≤◌, ◌^◌, length};
+
+// The presence bytes of n heads, one a row; what stands beyond the 2^n rows is not looked at.
+#[derive(Clone, Copy)]
+pub struct Presence<'a> {
+    pub n: usize,
+    pub bytes: &'a [u8],
+    pub ghost few: { n ≤ 10 },
+    pub ghost room: { 2 ^ n ≤ length bytes.now },
+}
+
+impl Presence<'_> {
+    // How many rows there are. The length changes nothing, but of a bound that it sees to be a power of two the compiler
+    // makes a shift in each turn of a loop, and does not vectorise it.
+    pub fn row_count(&self) -> usize
+        ensures { result ≡ 2 ^ self.now.n }
+    {
+        (1usize << self.n).min(self.bytes.len())
+    }
+}

@@ -1,0 +1,3 @@
+pub mod Line
+pub mod Counts
+pub mod Numbers
