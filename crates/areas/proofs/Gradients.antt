@@ -8,7 +8,7 @@ use native.Mathlib.Omega.{arith}
 use lib.ListN.{length, get_or, replicate, length-append, length-replicate, get_or-replicate}
 use lib.Ieee.{Float, nan}
 use Rattle.binary64.specs.Constants.{zero64}
-use Rattle.binary64.proofs.Naturals.{lt_or_ge}
+use Rattle.std.proofs.lemmas.Bool.{cases_lt}
 use Rattle.geometry.specs.Rectangle.{area}
 use Rattle.masks.specs.Mask.{in_set}
 use Rattle.lists.specs.Every.{Every, every_append, every_map}
@@ -86,7 +86,7 @@ module _ (n : ℕ) (a : Float) where
       ∙ get_or-replicate (n * 3 + 4) i zero64 nan (omega arith)
 
   zero_others : (i : ℕ) → i < n * 3 + 4 → (i ≡ n * 3 + 2 → ⊥) → get_or (scatter_clipped [] n (box_slopes a)) i nan ≡ zero64
-  zero_others i h other = go (lt_or_ge i (n * 3))
+  zero_others i h other = go (cases_lt i (n * 3))
     where
       at : (k : ℕ) → k < 4 → get_or (box_slopes a) k nan ≡ zero64 → i ≡ n * 3 + k → get_or (scatter_clipped [] n (box_slopes a)) i nan ≡ zero64
       at k l z e = rw e (zero_box k l ∙ z)

@@ -34,10 +34,6 @@ pub pi_most : Most 4 1074 pi
 unfolding of_bits mag pow2
 pi_most = literal_most 0x4009_21FB_5444_2D18 4 1074 tt tt
 
-pub pi_least : Least 3 1074 pi
-unfolding of_bits mag pow2
-pi_least = literal_least 0x4009_21FB_5444_2D18 3 1074 tt tt
-
 pub two_pi_most : Most 7 1074 two_pi
 unfolding of_bits mag pow2
 two_pi_most = literal_most 0x4019_21FB_5444_2D18 7 1074 tt tt

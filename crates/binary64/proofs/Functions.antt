@@ -1,28 +1,21 @@
--- What the proofs of the small functions of f64 rest on, the test for a NaN and the sign bit of a float's bits, and laws that callers cite:
--- sizes and signs of what the functions give, and larger and smaller of whole numbers.
-use Rattle.std.proofs.Common.{◌≡◌, ℕ, ◌+◌, ◌^◌, ◌≤◌, Bool, true, false, cond, not, ◌||◌, T, leb, ℤ, nat_abs, sym, refl, ap, ◌∙◌, subst, ap₂, true≢false, le_trans, le_of_eq, add-zero}
+-- What the proofs of the small functions of f64 rest on, the test for a NaN and the sign bit of a float's bits, and
+-- laws that callers cite: sizes and signs of what the functions give.
+use Rattle.std.proofs.Common.{◌≡◌, ℕ, ◌+◌, Bool, true, false, cond, not, ◌||◌, T}
+use Rattle.std.proofs.Common.{leb, sym, refl, ap, ◌∙◌, subst, ap₂, true≢false, le_trans, le_of_eq, add-zero}
 use mathlib.Core.Bool.{false≢true}
 use Rattle.std.specs.Float.{is_sign_negative, float_with_sign}
-use lib.Signed.{lt_z}
-use lib.Ieee.{Float, nan, inf, fin, binary64, is_nan, fits, of_bits, neg, lt, le, eq, of_int, ne}
+use lib.Ieee.{Float, nan, inf, fin, binary64, is_nan, fits, of_bits, neg, lt, le, eq, ne}
 use lib.Ieee.Bits.{is_false}
 use lib.Ieee.Compare.{differs_from_itself}
 use Rattle.binary64.specs.Units.{Finite, mag, negative, plus, minus}
 use Rattle.binary64.specs.Constants.{zero64}
-use Rattle.binary64.specs.Magnitude.{Most, Least}
-use Rattle.binary64.specs.Functions.{absolute, unit, signum_of, clamp_to_zero, larger_of, smaller_of}
-use Rattle.binary64.proofs.Units.{neg_finite, plus_is, zero64_finite, zero64_sign, zero64_plus, zero64_minus, above_zero, not_above_zero, not_nan, le_units}
-use Rattle.binary64.proofs.Magnitude.{most_either, most_zero}
-use Rattle.binary64.proofs.Whole.{of_int_finite, lt_of_int}
+use Rattle.binary64.specs.Magnitude.{Most}
+use Rattle.binary64.specs.Functions.{absolute, unit, signum_of, larger_of, smaller_of}
+use Rattle.binary64.proofs.Units.{neg_finite, plus_is}
+use Rattle.binary64.proofs.Units.{not_nan, le_units}
+use Rattle.binary64.proofs.Magnitude.{most_either}
 
 -- ---- x == x fails just for a NaN
-
--- what passes the test is no NaN
-pub equals_itself : (x : Float) → eq x x ≡ true → is_nan x ≡ false
-unfolding eq is_nan
-equals_itself nan e = sym e
-equals_itself (inf s) e = refl
-equals_itself (fin s m e) h = refl
 
 -- what fails it is a NaN
 pub only_nan : (x : Float) → eq x x ≡ false → x ≡ nan
@@ -101,10 +94,8 @@ absolute_finite {x} h = go (negative x) refl
 
 -- |x| is as large as x, and above zero.
 pub absolute_most : {j a : ℕ} {x : Float} → Most j a x → Most j a (absolute x)
-absolute_most {x = x} m = record { finite = absolute_finite m.finite; bound = le_trans (le_of_eq (absolute_mag x)) m.bound }
-
-pub absolute_least : {j a : ℕ} {x : Float} → Least j a x → Least j a (absolute x)
-absolute_least {x = x} m = record { finite = absolute_finite m.finite; bound = le_trans m.bound (le_of_eq (sym (absolute_mag x))) }
+absolute_most {x =
+    x} m = record { finite = absolute_finite m.finite; bound = le_trans (le_of_eq (absolute_mag x)) m.bound }
 
 -- All of |x| is above zero.
 pub absolute_parts : (x : Float) → (plus (absolute x) ≡ mag x) × (minus (absolute x) ≡ 0)
@@ -125,7 +116,8 @@ absolute_test {x} {y} f h s =
     let w = absolute_parts x in
     let b = plus_is y s in
     le_units (absolute_finite f) h
-    ∙ ap₂ leb (ap₂ (λ (i k : ℕ). i + k) w.0 b.1 ∙ add-zero (mag x)) (ap₂ (λ (i k : ℕ). i + k) b.0 w.1 ∙ add-zero (mag y))
+    ∙ ap₂ leb (ap₂ (λ (i k : ℕ). i + k) w.0 b.1 ∙ add-zero (mag x))
+    (ap₂ (λ (i k : ℕ). i + k) b.0 w.1 ∙ add-zero (mag y))
 
 -- ---- the clamp
 
@@ -138,34 +130,11 @@ above_sign (inf false) e = (refl, refl)
 above_sign (fin true m d) e = absurd (false≢true e)
 above_sign (fin false m d) e = (refl, refl)
 
--- It is neither -0 nor below zero, and no NaN, whatever x is.
-pub clamp_sign : (x : Float) → (negative (clamp_to_zero x) ≡ false) × (is_nan (clamp_to_zero x) ≡ false)
-clamp_sign x = go (lt zero64 x) refl
-  where
-    go : (b : Bool) → lt zero64 x ≡ b → (negative (cond b x zero64) ≡ false) × (is_nan (cond b x zero64) ≡ false)
-    go true e = above_sign x e
-    go false e = (zero64_sign, number zero64_finite)
-
--- It is no larger than x.
-pub clamp_most : {j a : ℕ} {x : Float} → Most j a x → Most j a (clamp_to_zero x)
-clamp_most {x = x} m = most_either (lt zero64 x) m most_zero
-
--- It is x where x is above zero, and otherwise +0.
-pub clamp_parts : {x : Float} → Finite x → (plus (clamp_to_zero x) ≡ plus x) × (minus (clamp_to_zero x) ≡ 0)
-clamp_parts {x} h = go (lt zero64 x) refl
-  where
-    go : (b : Bool) → lt zero64 x ≡ b → (plus (cond b x zero64) ≡ plus x) × (minus (cond b x zero64) ≡ 0)
-    go true e = (refl, (above_zero h e).1)
-    go false e = (zero64_plus ∙ sym (not_above_zero h e), zero64_minus)
-
 -- ---- larger and smaller
 
--- Of numbers they are picked by one test.
+-- Of numbers the larger is picked by one test.
 pub larger_is : (x y : Float) → is_nan x ≡ false → larger_of x y ≡ cond (lt x y) y x
 larger_is x y e = rw e
-
-pub smaller_is : (x y : Float) → is_nan x ≡ false → smaller_of x y ≡ cond (lt y x) y x
-smaller_is x y e = rw e
 
 -- They are bounded as both are.
 pub larger_most : {j a : ℕ} {x y : Float} → Most j a x → Most j a y → Most j a (larger_of x y)
@@ -173,16 +142,3 @@ larger_most {x = x} {y = y} m n = most_either (is_nan x || lt x y) n m
 
 pub smaller_most : {j a : ℕ} {x y : Float} → Most j a x → Most j a y → Most j a (smaller_of x y)
 smaller_most {x = x} {y = y} m n = most_either (is_nan x || lt y x) n m
-
-picked : (t : Bool) (a b : ℤ) → cond t (of_int binary64 a) (of_int binary64 b) ≡ of_int binary64 (cond t a b)
-picked true a b = refl
-picked false a b = refl
-
--- of whole numbers
-module _ (a b : ℤ) (h : nat_abs a ≤ 2 ^ 53) (k : nat_abs b ≤ 2 ^ 53) where
-  -- They are the larger and the smaller whole number.
-  pub larger_of_int : larger_of (of_int binary64 a) (of_int binary64 b) ≡ of_int binary64 (cond (lt_z a b) b a)
-  larger_of_int = larger_is (of_int binary64 a) (of_int binary64 b) (number (of_int_finite a h)) ∙ rw (lt_of_int a b h k) (picked (lt_z a b) b a)
-
-  pub smaller_of_int : smaller_of (of_int binary64 a) (of_int binary64 b) ≡ of_int binary64 (cond (lt_z b a) b a)
-  smaller_of_int = smaller_is (of_int binary64 a) (of_int binary64 b) (number (of_int_finite a h)) ∙ rw (lt_of_int b a k h) (picked (lt_z b a) b a)

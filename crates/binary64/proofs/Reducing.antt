@@ -1,6 +1,9 @@
--- The remainder as the code works it out: that by twice m first, and then less m where that leaves something. Twice m is exact, or an infinity that
--- is no smaller than any number; the difference is exact. Rests on Remainder, Operations and Units.
-use Rattle.std.proofs.Common.{lit<, ◌≡◌, ℕ, zero, suc, ◌+◌, ◌-◌, ◌*◌, ◌%◌, ◌^◌, ◌<◌, ◌≤◌, Bool, true, false, cond, not, ◌&&◌, T, ltb, ◌⊎◌, sym, refl, ap, ◌∙◌, subst, ap₂, inl, inr, true≢false, le_of_eq, lt_of_lt_of_le, lt_of_le_of_lt, mod-lt, arith}
+-- The remainder as the code works it out: that by twice m first, and then less m where that leaves something. Twice m
+-- is exact, or an infinity that is no smaller than any number; the difference is exact. Rests on Remainder, Operations
+-- and Units.
+use Rattle.std.proofs.Common.{lit<, ◌≡◌, ℕ, zero, suc, ◌+◌, ◌-◌, ◌*◌, ◌%◌, ◌^◌, ◌<◌, ◌≤◌, Bool, true, false, cond, not}
+use Rattle.std.proofs.Common.{◌&&◌, T, ltb, ◌⊎◌, sym, refl, ap, ◌∙◌, subst}
+use Rattle.std.proofs.Common.{ap₂, inl, inr, true≢false, le_of_eq, lt_of_lt_of_le, lt_of_le_of_lt, mod-lt, arith}
 use mathlib.Core.Bool.{false≢true}
 use native.Mathlib.Nat.{mod-le, mod-eq_of_lt, mod-eq-sub-mod, mod-mod_of_dvd, dvd-add, dvd_refl}
 use lib.Ieee.{Float, nan, inf, fin, binary64, fits, odd, units, sum, rem, add, sub, neg, lt, le, eq}
@@ -12,9 +15,12 @@ use Rattle.binary64.specs.Units.{one, limit, Finite, mag, negative, plus, minus,
 use Rattle.std.specs.Float.{float_is_finite}
 use Rattle.binary64.specs.Constants.{zero64, zero64_is}
 use Rattle.binary64.specs.Functions.{absolute, Reducible}
-use Rattle.binary64.proofs.Naturals.{lt_or_ge}
+use Rattle.std.proofs.lemmas.Bool.{cases_lt}
 use Rattle.binary64.proofs.Values.{add_values}
-use Rattle.binary64.proofs.Units.{one_pos, mag_value, mag_digits, mag_limit, of_units_mag, of_units_sign, of_units_finite, of_units_zero, is_of_units, is_zero, above_zero, not_above_zero, same_float, neg_mag, neg_sign, plus_is, neg_finite, neg_plus, neg_minus, units_of_le, units_of_lt, le_not_lt}
+use Rattle.binary64.proofs.Units.{one_pos, mag_value, mag_digits, mag_limit, of_units_mag}
+use Rattle.binary64.proofs.Units.{of_units_sign, of_units_finite, of_units_zero, is_of_units, is_zero, above_zero}
+use Rattle.binary64.proofs.Units.{not_above_zero, same_float, neg_mag, neg_sign, plus_is}
+use Rattle.binary64.proofs.Units.{neg_finite, neg_plus, neg_minus, units_of_le, units_of_lt, le_not_lt}
 use Rattle.binary64.proofs.Rounding.{rnd_exact}
 use Rattle.binary64.proofs.Operations.{round_below, sub_is, sub_result, result_plus, add_zero_sum}
 use Rattle.binary64.proofs.Functions.{absolute_sign, absolute_mag, absolute_finite, absolute_parts}
@@ -36,7 +42,12 @@ none_left a b h = by_half a b ∙ mod-eq_of_lt h
 
 -- twice a number of 53 digits
 twice_digits : {n : ℕ} → Digits53 n → Digits53 (n + n)
-twice_digits d = record { digits = d.digits; zeros = suc d.zeros; few = d.few; is = ap₂ (λ (x y : ℕ). x + y) d.is d.is ∙ twice d.digits d.zeros }
+twice_digits d = record {
+  digits = d.digits;
+  zeros = suc d.zeros;
+  few = d.few;
+  is = ap₂ (λ (x y : ℕ). x + y) d.is d.is ∙ twice d.digits d.zeros;
+}
   where
     twice : (q k : ℕ) → q * 2 ^ k + q * 2 ^ k ≡ q * 2 ^ suc k
     twice q k = grind arith
@@ -52,7 +63,9 @@ units_or_infinity : (q k : ℕ) → (T (finite (units binary64 false q k))) ⊎ 
 unfolding units
 units_or_infinity q k = go (ltb (q * 2 ^ k) (2 ^ 2098))
   where
-    go : (b : Bool) → (T (finite (cond b (odd 54 false q k 1074) (inf false)))) ⊎ (cond b (odd 54 false q k 1074) (inf false) ≡ inf false)
+    go : (b : Bool)
+        → (T (finite (cond b (odd 54 false q k 1074) (inf false))))
+        ⊎ (cond b (odd 54 false q k 1074) (inf false) ≡ inf false)
     go true = inl (odd_finite q k)
     go false = inr refl
 
@@ -60,7 +73,8 @@ number_or_infinity : (w : ℕ) → (T (finite (of_units false w))) ⊎ (of_units
 number_or_infinity w =
     let q = kept 53 (w * 2 ^ 1074) one in
     let k = drop 53 (w * 2 ^ 1074) one in
-    subst (λ (z : Float). (T (finite z)) ⊎ (z ≡ inf false)) (sym (round_is binary64 false w one)) (units_or_infinity q k)
+    subst (λ (z : Float). (T (finite z)) ⊎ (z ≡ inf false)) (sym (round_is binary64 false w one))
+    (units_or_infinity q k)
 
 above_numbers : (x : Float) → Finite x → le (inf false) x ≡ false
 unfolding le lt eq
@@ -105,7 +119,8 @@ module _ {x m : Float} (h : Reducible x m) where
     few = go (number_or_infinity (M + M))
       where
         go : (T (finite (of_units false (M + M)))) ⊎ (of_units false (M + M) ≡ inf false) → M + M < limit
-        go (inl t) = subst (λ (n : ℕ). n < limit) (rnd_exact (M + M) one one_pos digits) (round_below false (M + M) one t)
+        go (inl t) =
+            subst (λ (n : ℕ). n < limit) (rnd_exact (M + M) one one_pos digits) (round_below false (M + M) one t)
         go (inr i) = absurd (true≢false (sym e ∙ ap (λ (z : Float). le z x) (twice_is ∙ i) ∙ above_numbers x h.number))
 
     pub twice_mag : mag twice ≡ M + M
@@ -134,7 +149,7 @@ module _ {x m : Float} (h : Reducible x m) where
 
   -- otherwise it is above x
   twice_above : le twice x ≡ false → X < M + M
-  twice_above e = go (lt_or_ge (M + M) limit)
+  twice_above e = go (cases_lt (M + M) limit)
     where
       go : (M + M < limit) ⊎ (limit ≤ M + M) → X < M + M
       go (inr l) = lt_of_lt_of_le (mag_limit h.number) l
@@ -183,18 +198,22 @@ module _ {x m : Float} (h : Reducible x m) where
     pub rest_less : le m r ≡ true → sub binary64 r m ≡ rem binary64 x m
     rest_less e =
         let l = units_of_le h.by r_finite e in
-        let more : X % M ≡ Q - M = more_left X M h.by_nonzero (omega (arith, l, m_parts.0, m_parts.1, r_parts.0, r_parts.1)) in
+        let more : X % M ≡ Q - M =
+        more_left X M h.by_nonzero (omega (arith, l, m_parts.0, m_parts.1, r_parts.0, r_parts.1)) in
         let at_least : M ≤ Q = omega (arith, l, m_parts.0, m_parts.1, r_parts.0, r_parts.1) in
-        go (lt_or_ge 0 (X % M)) more at_least ∙ sym rem_units
+        go (cases_lt 0 (X % M)) more at_least ∙ sym rem_units
       where
         go : (0 < X % M) ⊎ (X % M ≤ 0) → X % M ≡ Q - M → M ≤ Q → sub binary64 r m ≡ of_units false (X % M)
         go (inl W) more a =
-            result_plus (lit< tt) (sub_result r_finite h.by) W (mod_digits X M h.by_nonzero (mag_digits h.number) (mag_digits h.by))
-            (lt_of_le_of_lt (mod-le X M) (mag_limit h.number)) (omega (arith, more, a, m_parts.0, m_parts.1, r_parts.0, r_parts.1))
+            result_plus (lit< tt) (sub_result r_finite h.by) W
+            (mod_digits X M h.by_nonzero (mag_digits h.number) (mag_digits h.by))
+            (lt_of_le_of_lt (mod-le X M) (mag_limit h.number))
+            (omega (arith, more, a, m_parts.0, m_parts.1, r_parts.0, r_parts.1))
         go (inr W) more a =
             let n : X % M ≡ 0 = omega (arith, W) in
             sub_is r m
-            ∙ add_zero_sum r_finite (neg_finite h.by) (omega (arith, n, more, a, neg_plus h.by, neg_minus h.by, m_parts.0, m_parts.1, r_parts.0, r_parts.1))
+            ∙ add_zero_sum r_finite (neg_finite h.by)
+            (omega (arith, n, more, a, neg_plus h.by, neg_minus h.by, m_parts.0, m_parts.1, r_parts.0, r_parts.1))
             ∙ ap (λ (s : Bool). signed_zero (s && negative (neg m))) r_sign
             ∙ sym (of_units_zero false)
             ∙ ap (of_units false) (sym n)
@@ -204,7 +223,8 @@ module _ {x m : Float} (h : Reducible x m) where
     rest_same e =
         let g : lt r m ≡ true = from_not (lt r m) (sym (le_not_lt h.by r_finite) ∙ e) in
         let l = units_of_lt r_finite h.by g in
-        i ∙ ap (of_units false) (sym (none_left X M (omega (arith, l, m_parts.0, m_parts.1, r_parts.0, r_parts.1)))) ∙ sym rem_units
+        i ∙ ap (of_units false) (sym (none_left X M (omega (arith, l, m_parts.0, m_parts.1, r_parts.0, r_parts.1))))
+        ∙ sym rem_units
 
 -- ---- any floats
 
@@ -234,7 +254,8 @@ by_nothing (fin s k d) (fin t j l) f e =
     sym (ap (rem binary64 (fin s k d)) (is_zero h none))
 
 -- m is an infinity
-pub by_infinity : (x m : Float) → float_is_finite x ≡ true → lt zero64 (absolute m) ≡ true → float_is_finite m ≡ false → x ≡ rem binary64 x m
+pub by_infinity : (x m : Float) → float_is_finite x ≡ true → lt zero64 (absolute m) ≡ true → float_is_finite m ≡ false
+    → x ≡ rem binary64 x m
 unfolding rem lt float_is_finite
 by_infinity nan m e a i = absurd (false≢true e)
 by_infinity (inf s) m e a i = absurd (false≢true e)
@@ -243,7 +264,8 @@ by_infinity (fin s k d) (inf t) e a i = refl
 by_infinity (fin s k d) (fin t j l) e a i = absurd (true≢false i)
 
 -- Both are numbers, and m is no zero: then by their sizes, and with the sign of x.
-module _ (x m : Float) (f : T (fits binary64 x)) (g : T (fits binary64 m)) (e : float_is_finite x ≡ true) (i : float_is_finite m ≡ true) (a : lt zero64 (absolute m) ≡ true) where
+module _ (x m : Float) (f : T (fits binary64 x)) (g : T (fits binary64 m)) (e : float_is_finite x ≡ true)
+    (i : float_is_finite m ≡ true) (a : lt zero64 (absolute m) ≡ true) where
   x_number : Finite x
   x_number = finite_float x f e
 
@@ -271,7 +293,8 @@ module _ (x m : Float) (f : T (fits binary64 x)) (g : T (fits binary64 m)) (e : 
   sizes_rest : rem binary64 (absolute x) (absolute m) ≡ of_units false (mag x % mag m)
   sizes_rest = rem_units sizes_reducible ∙ ap₂ (λ (p q : ℕ). of_units false (p % q)) (absolute_mag x) (absolute_mag m)
 
-  pub signed_rest : (r : Float) → negative x ≡ true → r ≡ rem binary64 (absolute x) (absolute m) → neg r ≡ rem binary64 x m
+  pub signed_rest : (r : Float) → negative x ≡ true → r ≡ rem binary64 (absolute x) (absolute m)
+      → neg r ≡ rem binary64 x m
   signed_rest r s is =
       let w = mag x % mag m in
       let j = is ∙ sizes_rest in
@@ -282,6 +305,7 @@ module _ (x m : Float) (f : T (fits binary64 x)) (g : T (fits binary64 m)) (e : 
       (neg_mag (of_units false w) ∙ of_units_mag false w w_digits w_limit ∙ sym (of_units_mag true w w_digits w_limit))
       ∙ sym (rem_is x_number m_number nonzero ∙ ap (λ (b : Bool). of_units b w) s)
 
-  pub unsigned_rest : (r : Float) → negative x ≡ false → r ≡ rem binary64 (absolute x) (absolute m) → r ≡ rem binary64 x m
+  pub unsigned_rest : (r : Float) → negative x ≡ false → r ≡ rem binary64 (absolute x) (absolute m)
+      → r ≡ rem binary64 x m
   unsigned_rest r s is =
       is ∙ sizes_rest ∙ sym (rem_is x_number m_number nonzero ∙ ap (λ (b : Bool). of_units b (mag x % mag m)) s)

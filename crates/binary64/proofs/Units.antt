@@ -1,15 +1,24 @@
--- A finite f64 in units of 2^-1074: that the division in `mag` is exact, which numbers of units are magnitudes, that sign and magnitude
--- determine a float, and comparisons as comparisons of natural numbers. Rests on lib.Ieee.{Exact, Fits, Bits}.
-use Rattle.std.proofs.Common.{◌≡◌, ℕ, zero, suc, ◌+◌, ◌-◌, ◌*◌, ◌/◌, ◌%◌, ◌^◌, ◌<◌, ◌≤◌, Bool, true, false, cond, not, ◌&&◌, T, eqb, ltb, leb, ◌⊎◌, ℤ, pos, negsuc, sym, refl, ap, ◌∙◌, subst, ap₂, inl, inr, ⊎_elim, zero-le, le_trans, le_of_eq, lt_of_lt_of_le, lt_of_le_of_lt, add-zero, lt_irrefl, mul-le-mul_right, mul_assoc, add_comm, lt_of_mul-lt-mul_right, eq-or-lt_of_le, mul-lt-mul_of_pos_right, mul-pos, one-mul, zero-add, zero-mul, mul-one, mul_right_comm, div-one, mul-div_cancel, arith, lit<, le→leb, eqb→eq, ltb→lt, lt→ltb, leb→le, nltb→le, pow_pos, pow_mono, pow-add, shl_lt}
+-- A finite f64 in units of 2^-1074: that the division in `mag` is exact, which numbers of units are magnitudes, that
+-- sign and magnitude determine a float, and comparisons as comparisons of natural numbers. Rests on lib.Ieee.{Exact,
+-- Fits, Bits}.
+use Rattle.std.proofs.Common.{◌≡◌, ℕ, zero, suc, ◌+◌, ◌-◌, ◌*◌, ◌/◌, ◌%◌, ◌^◌, ◌<◌, ◌≤◌, Bool, true, false, cond, not}
+use Rattle.std.proofs.Common.{◌&&◌, T, eqb, ltb, leb, ◌⊎◌, ℤ, pos, negsuc, sym, refl, ap, ◌∙◌, subst, ap₂, inl, inr}
+use Rattle.std.proofs.Common.{⊎_elim, zero-le, le_trans, le_of_eq, lt_of_lt_of_le, lt_of_le_of_lt, add-zero, lt_irrefl}
+use Rattle.std.proofs.Common.{mul-le-mul_right, mul_assoc, add_comm, lt_of_mul-lt-mul_right}
+use Rattle.std.proofs.Common.{eq-or-lt_of_le, mul-lt-mul_of_pos_right, mul-pos, one-mul, zero-add}
+use Rattle.std.proofs.Common.{zero-mul, mul-one, mul_right_comm, div-one, mul-div_cancel, arith, lit<, le→leb}
+use Rattle.std.proofs.Common.{eqb→eq, ltb→lt, lt→ltb, leb→le, nltb→le, pow_pos, pow_mono, pow-add, shl_lt}
 use native.Mathlib.Nat.{pow-succ'}
 use lib.Dec.{not_T}
 use lib.Arith.{le→nltb}
-use lib.Ieee.{Float, nan, inf, fin, binary64, up, down, size, below, level, fits, is_nan, of_bits, to_bits, lt, le, eq, neg}
+use lib.Ieee.{Float, nan, inf, fin, binary64, up, down, size, below}
+use lib.Ieee.{level, fits, is_nan, of_bits, to_bits, lt, le, eq, neg}
 use lib.Ieee.Digits.{back}
 use lib.Ieee.Exact.{HasValue, round_exact}
 use lib.Ieee.Fits.{up_pos, down_pos, and_l, and_r, eq→eqb, round-fits, neg-fits}
 use lib.Ieee.Bits.{of_bits-to_bits, is_true, is_false}
-use Rattle.binary64.proofs.Naturals.{same_test, lt_or_eq, and-true, both_zero, not_ltb, pow_le_back}
+use Rattle.binary64.proofs.Naturals.{same_test, lt_or_eq, both_zero, not_ltb, pow_le_back}
+use Rattle.std.proofs.Math.Bool.{and-true}
 use Rattle.binary64.proofs.Values.{lt_values, eq_values}
 use Rattle.binary64.specs.Constants.{zero64, zero64_is}
 use Rattle.binary64.specs.Units.{pow2, one, limit, Finite, mag, negative, plus, minus, of_units, signed_zero, Digits53}
@@ -62,7 +71,10 @@ held : (s : Bool) (m : ℕ) (e : ℤ) → T (fits binary64 (fin s m e)) → Held
 unfolding fits
 held s zero e t = record {
   small = pow_pos 53;
-  low = le_trans (le_of_eq (sym (one-mul (down e)))) (le_trans (mul-le-mul_right (down e) (up_pos e)) (le_trans (le_of_eq (eqb→eq (up e * down e) 1 t)) (pow_pos 1074)));
+  low =
+      le_trans (le_of_eq (sym (one-mul (down e))))
+      (le_trans (mul-le-mul_right (down e) (up_pos e))
+      (le_trans (le_of_eq (eqb→eq (up e * down e) 1 t)) (pow_pos 1074)));
   high = subst (λ (x : ℕ). x < 2 ^ 1024 * down e) (sym (zero-mul (up e))) (mul-pos (pow_pos 1024) (down_pos e));
 }
 held s (suc m) e t =
@@ -82,15 +94,20 @@ held s (suc m) e t =
 place : (m l : ℕ) (e : ℤ) → down e ≤ 2 ^ l → (j : ℕ) × (m * up e * 2 ^ l ≡ m * 2 ^ j * down e)
 place m l (pos k) h = (k + l, simp (mul_assoc, mul-one, pow-add))
 place m l (negsuc k) h =
-    let j = l - suc k in
-    (j, ap (λ (x : ℕ). m * 1 * x) (ap (λ (x : ℕ). 2 ^ x) (sym (back l (suc k) (pow_le_back (suc k) l h))) ∙ pow-add 2 j (suc k)) ∙ simp (mul_assoc, mul-one))
+    let j = l - suc k in (
+      j,
+      ap (λ (x : ℕ). m * 1 * x)
+          (ap (λ (x : ℕ). 2 ^ x) (sym (back l (suc k) (pow_le_back (suc k) l h))) ∙ pow-add 2 j (suc k))
+          ∙ simp (mul_assoc, mul-one),
+    )
 
 mag_fin : (s : Bool) (m : ℕ) (e : ℤ) → mag (fin s m e) ≡ m * up e * one / down e
 unfolding mag
 mag_fin s m e = refl
 
 -- x's magnitude is m * 2 ^ j units
-place_mag : (s : Bool) (m : ℕ) (e : ℤ) → T (fits binary64 (fin s m e)) → (j : ℕ) × (mag (fin s m e) ≡ m * 2 ^ j) × (m * up e * one ≡ m * 2 ^ j * down e)
+place_mag : (s : Bool) (m : ℕ) (e : ℤ) → T (fits binary64 (fin s m e))
+    → (j : ℕ) × (mag (fin s m e) ≡ m * 2 ^ j) × (m * up e * one ≡ m * 2 ^ j * down e)
 place_mag s m e t =
     let p = place m 1074 e (held s m e t).low in
     let q : m * up e * one ≡ m * 2 ^ p.0 * down e = ap (λ (x : ℕ). m * up e * x) one_is ∙ p.1 in
@@ -128,7 +145,13 @@ value_finite (fin u m e) s a c t h = record { fit = t; number = tt }
 pub mag_digits : {x : Float} → Finite x → Digits53 (mag x)
 mag_digits {x = nan} h = absurd h.number
 mag_digits {x = inf s} h = absurd h.number
-mag_digits {x = fin s m e} h = let p = place_mag s m e h.fit in record { digits = m; zeros = p.0; few = (held s m e h.fit).small; is = p.1 }
+mag_digits {x =
+    fin s m e} h = let p = place_mag s m e h.fit in record {
+      digits = m;
+      zeros = p.0;
+      few = (held s m e h.fit).small;
+      is = p.1;
+    }
 
 pub mag_limit : {x : Float} → Finite x → mag x < limit
 mag_limit {x = nan} h = absurd h.number
@@ -136,7 +159,8 @@ mag_limit {x = inf s} h = absurd h.number
 mag_limit {x = fin s m e} h =
     lt_of_mul-lt-mul_right (down e)
     (subst (λ (y : ℕ). y < limit * down e) (sym (mag_exact s m e h.fit))
-    (subst (λ (y : ℕ). m * up e * one < y) (mul_right_comm (2 ^ 1024) (down e) one ∙ ap (λ (y : ℕ). y * down e) (sym limit_is))
+    (subst (λ (y : ℕ). m * up e * one < y)
+    (mul_right_comm (2 ^ 1024) (down e) one ∙ ap (λ (y : ℕ). y * down e) (sym limit_is))
     (mul-lt-mul_of_pos_right (held s m e h.fit).high one_pos)))
 
 -- conversely, `of_units s n` is a float of just n units
@@ -160,10 +184,12 @@ pub digits53 : (j a : ℕ) → j ≤ 2 ^ 53 → Digits53 (j * 2 ^ a)
 digits53 j a h = go (eq-or-lt_of_le h)
   where
     go : (j ≡ 2 ^ 53) ⊎ (j < 2 ^ 53) → Digits53 (j * 2 ^ a)
-    go (inl p) = record { digits = 2 ^ 52; zeros = suc a; few = lit< tt; is = ap (λ (x : ℕ). x * 2 ^ a) p ∙ double (2 ^ 52) ∙ sym (ap (λ (x : ℕ). 2 ^ 52 * x) (pow-succ' 2 a)) }
-      where
-        double : (x : ℕ) → 2 * x * 2 ^ a ≡ x * (2 * 2 ^ a)
-        double x = omega arith
+    go (inl p) = record {
+      digits = 2 ^ 52;
+      zeros = suc a;
+      few = lit< tt;
+      is = ap (λ (x : ℕ). x * 2 ^ a) p ∙ (omega arith) ∙ sym (ap (λ (x : ℕ). 2 ^ 52 * x) (pow-succ' 2 a));
+    }
     go (inr l) = record { digits = j; zeros = a; few = l; is = refl }
 
 -- j * 2 ^ a is below the limit for such a j and an a up to 2044
@@ -178,7 +204,8 @@ below_limit j a h k =
 -- ---- sign and magnitude determine a float
 
 -- the bits of a finite float, by its sign and magnitude
-pub bits_mag : {x : Float} → Finite x → to_bits binary64 x ≡ cond (negative x) (2 ^ 63) 0 + (size (mag x) - 53) * 2 ^ 52 + mag x / 2 ^ (size (mag x) - 53)
+pub bits_mag : {x : Float} → Finite x
+    → to_bits binary64 x ≡ cond (negative x) (2 ^ 63) 0 + (size (mag x) - 53) * 2 ^ 52 + mag x / 2 ^ (size (mag x) - 53)
 bits_mag {x = nan} h = absurd h.number
 bits_mag {x = inf s} h = absurd h.number
 bits_mag {x = fin s m e} h = unfold to_bits mag pow2 in refl
@@ -187,7 +214,9 @@ bits_mag {x = fin s m e} h = unfold to_bits mag pow2 in refl
 pub same_float : {x y : Float} → Finite x → Finite y → negative x ≡ negative y → mag x ≡ mag y → x ≡ y
 same_float {x} {y} h k s n =
     sym (of_bits-to_bits binary64 x h.fit)
-    ∙ ap (λ (b : ℕ). of_bits binary64 b) (bits_mag h ∙ ap₂ (λ (t : Bool) (a : ℕ). cond t (2 ^ 63) 0 + (size a - 53) * 2 ^ 52 + a / 2 ^ (size a - 53)) s n ∙ sym (bits_mag k))
+    ∙ ap (λ (b : ℕ). of_bits binary64 b)
+    (bits_mag h ∙ ap₂ (λ (t : Bool) (a : ℕ). cond t (2 ^ 63) 0 + (size a - 53) * 2 ^ 52 + a / 2 ^ (size a - 53)) s n
+    ∙ sym (bits_mag k))
     ∙ of_bits-to_bits binary64 y k.fit
 
 -- every finite float is made from its sign and its magnitude
@@ -195,7 +224,8 @@ pub is_of_units : {x : Float} → Finite x → x ≡ of_units (negative x) (mag 
 is_of_units {x} h =
     let d = mag_digits h in
     let l = mag_limit h in
-    same_float h (of_units_finite (negative x) (mag x) d l) (sym (of_units_sign (negative x) (mag x) d l)) (sym (of_units_mag (negative x) (mag x) d l))
+    same_float h (of_units_finite (negative x) (mag x) d l) (sym (of_units_sign (negative x) (mag x) d l))
+    (sym (of_units_mag (negative x) (mag x) d l))
 
 -- a finite float is no NaN, which is what `to_bits` asks
 pub not_nan : {x : Float} → Finite x → T (not (is_nan x))
@@ -322,10 +352,8 @@ eqb_sym a b = same_test (eqb a b) (eqb b a) (λ t. eq→eqb (sym (eqb→eq a b t
 -- ±a < ±b and ±a = ±b, by the parts above and below zero
 below_parts : (s t : Bool) (a b : ℕ) → below s a t b ≡ ltb (cond s 0 a + cond t b 0) (cond t 0 b + cond s a 0)
 below_parts false false a b = rw (add-zero a, add-zero b)
-below_parts false true a b = sym (is_false (ltb (a + b) 0) (not_T (ltb (a + b) 0) (λ t. never (a + b) (ltb→lt (a + b) 0 t))))
-  where
-    never : (n : ℕ) → n < 0 → ⊥
-    never n h = omega arith
+below_parts false true a b =
+    sym (is_false (ltb (a + b) 0) (not_T (ltb (a + b) 0) (λ t. omega (arith, ltb→lt (a + b) 0 t))))
 below_parts true false a b = ap (λ (n : ℕ). ltb 0 n) (add_comm a b)
 below_parts true true a b = rw (zero-add a, zero-add b)
 
@@ -338,12 +366,16 @@ level_parts true true a b = rw (zero-add a, zero-add b) (and-true (eqb a b) ∙ 
 -- x < y, x = y, x ≤ y: as comparisons of whole numbers of units
 pub lt_units : {x y : Float} → Finite x → Finite y → lt x y ≡ ltb (plus x + minus y) (plus y + minus x)
 unfolding plus minus
-lt_units {x} {y} h k = lt_values x y (negative x) (negative y) (mag x) (mag y) one one_pos (mag_value h) (mag_value k) ∙ below_parts (negative x) (negative y) (mag x) (mag y)
+lt_units {x} {y} h k =
+    lt_values x y (negative x) (negative y) (mag x) (mag y) one one_pos (mag_value h) (mag_value k)
+    ∙ below_parts (negative x) (negative y) (mag x) (mag y)
 
 -- x = y: -0 equals +0
 pub eq_units : {x y : Float} → Finite x → Finite y → eq x y ≡ eqb (plus x + minus y) (plus y + minus x)
 unfolding plus minus
-eq_units {x} {y} h k = eq_values x y (negative x) (negative y) (mag x) (mag y) one one_pos (mag_value h) (mag_value k) ∙ level_parts (negative x) (negative y) (mag x) (mag y)
+eq_units {x} {y} h k =
+    eq_values x y (negative x) (negative y) (mag x) (mag y) one one_pos (mag_value h) (mag_value k)
+    ∙ level_parts (negative x) (negative y) (mag x) (mag y)
 
 pub le_units : {x y : Float} → Finite x → Finite y → le x y ≡ leb (plus x + minus y) (plus y + minus x)
 unfolding le
@@ -351,31 +383,32 @@ le_units {x} {y} h k = rw (lt_units h k, eq_units h k) (lt_or_eq (plus x + minus
 
 -- what a test of the code says, and what it takes to pass or fail it
 pub units_of_lt : {x y : Float} → Finite x → Finite y → lt x y ≡ true → plus x + minus y < plus y + minus x
-units_of_lt {x} {y} h k e = ltb→lt (plus x + minus y) (plus y + minus x) (subst (λ (b : Bool). T b) (sym e ∙ lt_units h k) tt)
+units_of_lt {x} {y} h k e =
+    ltb→lt (plus x + minus y) (plus y + minus x) (subst (λ (b : Bool). T b) (sym e ∙ lt_units h k) tt)
 
 pub units_of_not_lt : {x y : Float} → Finite x → Finite y → lt x y ≡ false → plus y + minus x ≤ plus x + minus y
-units_of_not_lt {x} {y} h k e = nltb→le (plus x + minus y) (plus y + minus x) (subst (λ (b : Bool). T (not b)) (sym e ∙ lt_units h k) tt)
+units_of_not_lt {x} {y} h k e =
+    nltb→le (plus x + minus y) (plus y + minus x) (subst (λ (b : Bool). T (not b)) (sym e ∙ lt_units h k) tt)
 
 pub lt_of_units : {x y : Float} → Finite x → Finite y → plus x + minus y < plus y + minus x → lt x y ≡ true
-lt_of_units {x} {y} h k l = lt_units h k ∙ is_true (ltb (plus x + minus y) (plus y + minus x)) (lt→ltb (plus x + minus y) (plus y + minus x) l)
+lt_of_units {x} {y} h k l =
+    lt_units h k ∙ is_true (ltb (plus x + minus y) (plus y + minus x)) (lt→ltb (plus x + minus y) (plus y + minus x) l)
 
 pub not_lt_of_units : {x y : Float} → Finite x → Finite y → plus y + minus x ≤ plus x + minus y → lt x y ≡ false
-not_lt_of_units {x} {y} h k l = lt_units h k ∙ is_false (ltb (plus x + minus y) (plus y + minus x)) (le→nltb (plus x + minus y) (plus y + minus x) l)
+not_lt_of_units {x} {y} h k l =
+    lt_units h k
+    ∙ is_false (ltb (plus x + minus y) (plus y + minus x)) (le→nltb (plus x + minus y) (plus y + minus x) l)
 
 pub units_of_le : {x y : Float} → Finite x → Finite y → le x y ≡ true → plus x + minus y ≤ plus y + minus x
-units_of_le {x} {y} h k e = leb→le (plus x + minus y) (plus y + minus x) (subst (λ (b : Bool). T b) (sym e ∙ le_units h k) tt)
+units_of_le {x} {y} h k e =
+    leb→le (plus x + minus y) (plus y + minus x) (subst (λ (b : Bool). T b) (sym e ∙ le_units h k) tt)
 
 pub le_of_units : {x y : Float} → Finite x → Finite y → plus x + minus y ≤ plus y + minus x → le x y ≡ true
-le_of_units {x} {y} h k l = le_units h k ∙ is_true (leb (plus x + minus y) (plus y + minus x)) (le→leb (plus x + minus y) (plus y + minus x) l)
+le_of_units {x} {y} h k l =
+    le_units h k ∙ is_true (leb (plus x + minus y) (plus y + minus x)) (le→leb (plus x + minus y) (plus y + minus x) l)
 
 pub eq_of_units : {x y : Float} → Finite x → Finite y → plus x + minus y ≡ plus y + minus x → eq x y ≡ true
 eq_of_units {x} {y} h k e = eq_units h k ∙ is_true (eqb (plus x + minus y) (plus y + minus x)) (eq→eqb e)
-
--- what is below is not equal
-pub lt_not_eq : {x y : Float} → Finite x → Finite y → lt x y ≡ true → eq x y ≡ false
-lt_not_eq {x} {y} h k e =
-    let l = units_of_lt h k e in
-    eq_units h k ∙ is_false (eqb (plus x + minus y) (plus y + minus x)) (not_T (eqb (plus x + minus y) (plus y + minus x)) (λ t. let q = eqb→eq (plus x + minus y) (plus y + minus x) t in omega arith))
 
 -- among finite floats x ≤ y just where y < x fails
 pub le_not_lt : {x y : Float} → Finite x → Finite y → le x y ≡ not (lt y x)
@@ -409,7 +442,9 @@ no_minus x l = ⊎_elim (λ s. s.1) (λ s. omega (arith, s)) (one_sided x)
 module _ {x : Float} (h : Finite x) where
   -- x < 0.0
   pub below_zero : lt x zero64 ≡ true → (plus x ≡ 0) × (0 < minus x)
-  below_zero e = let l : plus x < minus x = omega (arith, units_of_lt h zero64_finite e, zero64_plus, zero64_minus) in (no_plus x (omega arith), omega arith)
+  below_zero e =
+      let l : plus x < minus x = omega (arith, units_of_lt h zero64_finite e, zero64_plus, zero64_minus) in
+      (no_plus x (omega arith), omega arith)
 
   -- x < 0.0 fails: x is a zero or above
   pub not_below_zero : lt x zero64 ≡ false → minus x ≡ 0
@@ -417,7 +452,9 @@ module _ {x : Float} (h : Finite x) where
 
   -- 0.0 < x
   pub above_zero : lt zero64 x ≡ true → (0 < plus x) × (minus x ≡ 0)
-  above_zero e = let l : minus x < plus x = omega (arith, units_of_lt zero64_finite h e, zero64_plus, zero64_minus) in (omega arith, no_minus x (omega arith))
+  above_zero e =
+      let l : minus x < plus x = omega (arith, units_of_lt zero64_finite h e, zero64_plus, zero64_minus) in
+      (omega arith, no_minus x (omega arith))
 
   -- 0.0 < x fails: x is a zero or below
   pub not_above_zero : lt zero64 x ≡ false → plus x ≡ 0

@@ -1,9 +1,15 @@
--- Whole numbers up to 2 ^ 53 as floats: sums, differences and products of `of_int` are the `of_int` of the whole result, as data; comparisons are those
--- of whole numbers; magnitudes. With `whole` in place of `of_int` the sign of a zero is followed too. Rests on Values and lib.Ieee.Back.
-use Rattle.std.proofs.Common.{◌≡◌, ℕ, zero, suc, ◌+◌, ◌-◌, ◌*◌, ◌^◌, ◌<◌, ◌≤◌, Bool, true, false, cond, not, T, eqb, ltb, ℤ, pos, negsuc, ◌+ℤ◌, ◌-ℤ◌, ◌*ℤ◌, neg_ℤ, nat_abs, sym, refl, ap, ◌∙◌, subst, le_trans, le_of_eq, le_refl, lt_irrefl, mul-le-mul_right, mul-pos, arith, eqb→eq, ltb→lt, lt→ltb, nltb→le}
-use lib.Signed.{lt_z, le_z}
+-- Whole numbers up to 2 ^ 53 as floats: sums, differences and products of `of_int` are the `of_int` of the whole
+-- result, as data; comparisons are those of whole numbers; magnitudes. With `whole` in place of `of_int` the sign of a
+-- zero is followed too. Rests on Values and lib.Ieee.Back.
+use Rattle.std.proofs.Common.{◌≡◌, ℕ, zero, suc, ◌+◌, ◌-◌, ◌*◌, ◌^◌, ◌<◌, ◌≤◌}
+use Rattle.std.proofs.Common.{Bool, true, false, cond, not, T, eqb, ltb, ℤ, pos, negsuc}
+use Rattle.std.proofs.Common.{◌+ℤ◌, ◌-ℤ◌, neg_ℤ, nat_abs, sym, refl, ap, ◌∙◌, subst}
+use Rattle.std.proofs.Common.{le_trans, le_of_eq, le_refl, lt_irrefl, mul-le-mul_right}
+use Rattle.std.proofs.Common.{arith, eqb→eq, ltb→lt, lt→ltb, nltb→le}
+use lib.Signed.{lt_z}
 use lib.Dec.{not_T, leb-suc-suc, leb-suc-zero, leb-zero, eqb-suc-suc}
-use lib.Ieee.{Float, nan, inf, fin, binary64, up, down, unlike, below, level, round, sum, add, sub, mul, neg, lt, le, eq, of_int}
+use lib.Ieee.{Float, nan, inf, fin, binary64, up, down, unlike, below, level}
+use lib.Ieee.{round, sum, add, sub, mul, neg, lt, eq, of_int}
 use lib.Ieee.Back.{round_whole}
 use lib.Ieee.Bits.{is_true, is_false}
 use lib.Ieee.Exact.{HasValue}
@@ -11,9 +17,10 @@ use lib.Ieee.Fits.{round-fits}
 use Rattle.binary64.specs.Units.{one, Finite, mag, negative, plus, minus}
 use Rattle.binary64.specs.Magnitude.{Most, Least}
 use Rattle.binary64.specs.Whole.{whole, below0, eq_z}
-use Rattle.binary64.proofs.Naturals.{and-true, both_zero, not_ltb}
+use Rattle.binary64.proofs.Naturals.{both_zero}
+use Rattle.std.proofs.Math.Bool.{and-true}
 use Rattle.binary64.proofs.Values.{add_values, mul_values, lt_values, eq_values}
-use Rattle.binary64.proofs.Units.{plus_is, minus_is, value_mag, value_sign, value_finite, le_not_lt}
+use Rattle.binary64.proofs.Units.{plus_is, value_mag, value_sign, value_finite}
 use Rattle.binary64.proofs.Operations.{sub_is}
 
 -- ---- an integer as a float
@@ -29,7 +36,9 @@ pub whole_value : (s : Bool) (n : ℕ) → n ≤ 2 ^ 53 → HasValue (whole s n)
 whole_value s n h = round_whole binary64 s n h
 
 pub of_int_value : (z : ℤ) → nat_abs z ≤ 2 ^ 53 → HasValue (of_int binary64 z) (below0 z) (nat_abs z) 1
-of_int_value z h = subst (λ (x : Float). HasValue x (below0 z) (nat_abs z) 1) (sym (of_int_whole z)) (whole_value (below0 z) (nat_abs z) h)
+of_int_value z h =
+    subst (λ (x : Float). HasValue x (below0 z) (nat_abs z) 1) (sym (of_int_whole z))
+    (whole_value (below0 z) (nat_abs z) h)
 
 -- over the denominator `one` too
 in_units : (x : Float) (s : Bool) (n : ℕ) → HasValue x s n 1 → HasValue x s (n * one) one
@@ -75,20 +84,21 @@ module _ (z : ℤ) (h : nat_abs z ≤ 2 ^ 53) where
   of_int_least l = rw (of_int_whole z) (whole_least (below0 z) (nat_abs z) h l)
 
 -- the parts above and below zero
-pub of_int_pos : (n : ℕ) → n ≤ 2 ^ 53 → (plus (of_int binary64 (pos n)) ≡ n * one) × (minus (of_int binary64 (pos n)) ≡ 0)
+pub of_int_pos : (n : ℕ) → n ≤ 2 ^ 53
+    → (plus (of_int binary64 (pos n)) ≡ n * one) × (minus (of_int binary64 (pos n)) ≡ 0)
 of_int_pos n h = let w = plus_is (of_int binary64 (pos n)) (of_int_sign (pos n) h) in (w.0 ∙ of_int_mag (pos n) h, w.1)
-
-pub of_int_negsuc : (n : ℕ) → suc n ≤ 2 ^ 53 → (plus (of_int binary64 (negsuc n)) ≡ 0) × (minus (of_int binary64 (negsuc n)) ≡ suc n * one)
-of_int_negsuc n h = let w = minus_is (of_int binary64 (negsuc n)) (of_int_sign (negsuc n) h) in (w.0, w.1 ∙ of_int_mag (negsuc n) h)
 
 -- ---- operations: exact as long as the result is at most 2 ^ 53, and otherwise rounded once, as `of_int` rounds
 
 -- the product, with the sign of a zero
-pub mul_whole : (s t : Bool) (a b : ℕ) → a ≤ 2 ^ 53 → b ≤ 2 ^ 53 → mul binary64 (whole s a) (whole t b) ≡ whole (unlike s t) (a * b)
-mul_whole s t a b h k = mul_values (whole s a) (whole t b) s t a b 1 1 (le_refl 1) (le_refl 1) (whole_value s a h) (whole_value t b k)
+pub mul_whole : (s t : Bool) (a b : ℕ) → a ≤ 2 ^ 53 → b ≤ 2 ^ 53
+    → mul binary64 (whole s a) (whole t b) ≡ whole (unlike s t) (a * b)
+mul_whole s t a b h k =
+    mul_values (whole s a) (whole t b) s t a b 1 1 (le_refl 1) (le_refl 1) (whole_value s a h) (whole_value t b k)
 
 -- the sum and the difference, by lib.Ieee's `sum`: a zero is -0 only as the sum of two
-pub add_whole : (s t : Bool) (a b : ℕ) → a ≤ 2 ^ 53 → b ≤ 2 ^ 53 → add binary64 (whole s a) (whole t b) ≡ sum binary64 s a t b 1
+pub add_whole : (s t : Bool) (a b : ℕ) → a ≤ 2 ^ 53 → b ≤ 2 ^ 53
+    → add binary64 (whole s a) (whole t b) ≡ sum binary64 s a t b 1
 add_whole s t a b h k = add_values (whole s a) (whole t b) s t a b 1 (le_refl 1) (whole_value s a h) (whole_value t b k)
 
 neg_value : (x : Float) (s : Bool) (a c : ℕ) → HasValue x s a c → HasValue (neg x) (not s) a c
@@ -97,9 +107,12 @@ neg_value nan s a c h = h
 neg_value (inf t) s a c h = h
 neg_value (fin t m e) s a c h = (ap not h.0, h.1)
 
-pub sub_whole : (s t : Bool) (a b : ℕ) → a ≤ 2 ^ 53 → b ≤ 2 ^ 53 → sub binary64 (whole s a) (whole t b) ≡ sum binary64 s a (not t) b 1
+pub sub_whole : (s t : Bool) (a b : ℕ) → a ≤ 2 ^ 53 → b ≤ 2 ^ 53
+    → sub binary64 (whole s a) (whole t b) ≡ sum binary64 s a (not t) b 1
 sub_whole s t a b h k =
-    sub_is (whole s a) (whole t b) ∙ add_values (whole s a) (neg (whole t b)) s (not t) a b 1 (le_refl 1) (whole_value s a h) (neg_value (whole t b) t b 1 (whole_value t b k))
+    sub_is (whole s a) (whole t b)
+    ∙ add_values (whole s a) (neg (whole t b)) s (not t) a b 1 (le_refl 1) (whole_value s a h)
+    (neg_value (whole t b) t b 1 (whole_value t b k))
 
 -- a sum of signed whole numbers, as an integer
 sum_of_int : (a b : ℤ) → sum binary64 (below0 a) (nat_abs a) (below0 b) (nat_abs b) 1 ≡ of_int binary64 (a +ℤ b)
@@ -107,53 +120,81 @@ unfolding sum of_int
 sum_of_int (pos a) (pos b) = refl
 sum_of_int (pos a) (negsuc b) = go (ltb a (suc b)) (ltb→lt a (suc b))
   where
-    go : (l : Bool) → (T l → a < suc b) → cond l (round binary64 true (suc b - a) 1) (round binary64 false (a - suc b) 1) ≡ of_int binary64 (cond l (negsuc (suc b - suc a)) (pos (a - suc b)))
-    go true f = let h = f tt in let e : suc b - a ≡ suc (suc b - suc a) = omega arith in ap (λ (n : ℕ). round binary64 true n 1) e
+    go : (l : Bool) → (T l → a < suc b)
+        → cond l (round binary64 true (suc b - a) 1) (round binary64 false (a - suc b) 1)
+        ≡ of_int binary64 (cond l (negsuc (suc b - suc a)) (pos (a - suc b)))
+    go true f =
+        let h = f tt in let e : suc b - a ≡ suc (suc b - suc a) = omega arith in
+        ap (λ (n : ℕ). round binary64 true n 1) e
     go false f = refl
-sum_of_int (negsuc a) (pos b) = go (ltb (suc a) b) (ltb b (suc a)) (ltb→lt (suc a) b) (nltb→le (suc a) b) (ltb→lt b (suc a)) (nltb→le b (suc a))
+sum_of_int (negsuc a) (pos b) =
+    go (ltb (suc a) b) (ltb b (suc a)) (ltb→lt (suc a) b) (nltb→le (suc a) b) (ltb→lt b (suc a)) (nltb→le b (suc a))
   where
     go : (l m : Bool) → (T l → suc a < b) → (T (not l) → b ≤ suc a) → (T m → b < suc a) → (T (not m) → suc a ≤ b)
-        → cond l (round binary64 false (b - suc a) 1) (round binary64 m (suc a - b) 1) ≡ of_int binary64 (cond m (negsuc (suc a - suc b)) (pos (b - suc a)))
+        → cond l (round binary64 false (b - suc a) 1) (round binary64 m (suc a - b) 1)
+        ≡ of_int binary64 (cond m (negsuc (suc a - suc b)) (pos (b - suc a)))
     go true true f f' g g' = let h = f tt in let k = g tt in absurd (omega arith)
     go true false f f' g g' = refl
-    go false true f f' g g' = let h = g tt in let e : suc a - b ≡ suc (suc a - suc b) = omega arith in ap (λ (n : ℕ). round binary64 true n 1) e
-    go false false f f' g g' = let h = f' tt in let k = g' tt in let e : suc a - b ≡ b - suc a = omega arith in ap (λ (n : ℕ). round binary64 false n 1) e
-sum_of_int (negsuc a) (negsuc b) = let e : suc a + suc b ≡ suc (suc (a + b)) = omega arith in ap (λ (n : ℕ). round binary64 true n 1) e
+    go false true f f' g g' =
+        let h = g tt in let e : suc a - b ≡ suc (suc a - suc b) = omega arith in
+        ap (λ (n : ℕ). round binary64 true n 1) e
+    go false false f f' g g' =
+        let h = f' tt in let k = g' tt in let e : suc a - b ≡ b - suc a = omega arith in
+        ap (λ (n : ℕ). round binary64 false n 1) e
+sum_of_int (negsuc a) (negsuc b) =
+    let e : suc a + suc b ≡ suc (suc (a + b)) = omega arith in ap (λ (n : ℕ). round binary64 true n 1) e
 
 less_zero : (a : ℕ) → sum binary64 false a true 0 1 ≡ of_int binary64 (pos a +ℤ pos 0)
 unfolding sum of_int
-less_zero a = let e : a - 0 ≡ a + 0 = omega arith in ap (λ (l : Bool). cond l (round binary64 true (0 - a) 1) (round binary64 false (a - 0) 1)) (leb-suc-zero a) ∙ ap (λ (n : ℕ). round binary64 false n 1) e
+less_zero a =
+    let e : a - 0 ≡ a + 0 = omega arith in
+    ap (λ (l : Bool). cond l (round binary64 true (0 - a) 1) (round binary64 false (a - 0) 1)) (leb-suc-zero a)
+    ∙ ap (λ (n : ℕ). round binary64 false n 1) e
 
 more_zero : (a : ℕ) → sum binary64 true (suc a) true 0 1 ≡ of_int binary64 (negsuc a +ℤ pos 0)
 unfolding sum of_int
-more_zero a = let e : suc a + 0 ≡ suc (suc a - 1) = omega arith in ap (λ (n : ℕ). round binary64 true n 1) e ∙ sym (ap (λ (l : Bool). of_int binary64 (cond l (negsuc (suc a - 1)) (pos (0 - suc a)))) (leb-suc-suc 0 a ∙ leb-zero a))
+more_zero a =
+    let e : suc a + 0 ≡ suc (suc a - 1) = omega arith in
+    ap (λ (n : ℕ). round binary64 true n 1) e
+    ∙ sym (ap (λ (l : Bool). of_int binary64 (cond l (negsuc (suc a - 1)) (pos (0 - suc a))))
+    (leb-suc-suc 0 a ∙ leb-zero a))
 
 -- a difference, in which a zero taken away is a -0 added
-difference_of_int : (a b : ℤ) → sum binary64 (below0 a) (nat_abs a) (not (below0 b)) (nat_abs b) 1 ≡ of_int binary64 (a -ℤ b)
+difference_of_int : (a b : ℤ)
+    → sum binary64 (below0 a) (nat_abs a) (not (below0 b)) (nat_abs b) 1 ≡ of_int binary64 (a -ℤ b)
 difference_of_int a (negsuc b) = sum_of_int a (pos (suc b))
 difference_of_int a (pos (suc b)) = sum_of_int a (negsuc b)
 difference_of_int (pos a) (pos zero) = less_zero a
 difference_of_int (negsuc a) (pos zero) = more_zero a
 
 -- The sum of two integers as floats is their sum as a float; so is the difference.
-pub add_of_int : (a b : ℤ) → nat_abs a ≤ 2 ^ 53 → nat_abs b ≤ 2 ^ 53 → add binary64 (of_int binary64 a) (of_int binary64 b) ≡ of_int binary64 (a +ℤ b)
-add_of_int a b h k = rw (of_int_whole a, of_int_whole b) (add_whole (below0 a) (below0 b) (nat_abs a) (nat_abs b) h k ∙ sum_of_int a b)
+pub add_of_int : (a b : ℤ) → nat_abs a ≤ 2 ^ 53 → nat_abs b ≤ 2 ^ 53
+    → add binary64 (of_int binary64 a) (of_int binary64 b) ≡ of_int binary64 (a +ℤ b)
+add_of_int a b h k =
+    rw (of_int_whole a, of_int_whole b) (add_whole (below0 a) (below0 b) (nat_abs a) (nat_abs b) h k ∙ sum_of_int a b)
 
-pub sub_of_int : (a b : ℤ) → nat_abs a ≤ 2 ^ 53 → nat_abs b ≤ 2 ^ 53 → sub binary64 (of_int binary64 a) (of_int binary64 b) ≡ of_int binary64 (a -ℤ b)
-sub_of_int a b h k = rw (of_int_whole a, of_int_whole b) (sub_whole (below0 a) (below0 b) (nat_abs a) (nat_abs b) h k ∙ difference_of_int a b)
+pub sub_of_int : (a b : ℤ) → nat_abs a ≤ 2 ^ 53 → nat_abs b ≤ 2 ^ 53
+    → sub binary64 (of_int binary64 a) (of_int binary64 b) ≡ of_int binary64 (a -ℤ b)
+sub_of_int a b h k =
+    rw (of_int_whole a, of_int_whole b)
+    (sub_whole (below0 a) (below0 b) (nat_abs a) (nat_abs b) h k ∙ difference_of_int a b)
 
 -- A product is the `of_int` of the whole product, but that a zero has the sign of a product.
-pub mul_of_int : (a b : ℤ) → nat_abs a ≤ 2 ^ 53 → nat_abs b ≤ 2 ^ 53 → mul binary64 (of_int binary64 a) (of_int binary64 b) ≡ whole (unlike (below0 a) (below0 b)) (nat_abs a * nat_abs b)
+pub mul_of_int : (a b : ℤ) → nat_abs a ≤ 2 ^ 53 → nat_abs b ≤ 2 ^ 53
+    → mul binary64 (of_int binary64 a) (of_int binary64 b)
+    ≡ whole (unlike (below0 a) (below0 b)) (nat_abs a * nat_abs b)
 mul_of_int a b h k = rw (of_int_whole a, of_int_whole b) (mul_whole (below0 a) (below0 b) (nat_abs a) (nat_abs b) h k)
 
 -- the square of an integer
-pub square_of_int : (a : ℤ) → nat_abs a ≤ 2 ^ 53 → mul binary64 (of_int binary64 a) (of_int binary64 a) ≡ of_int binary64 (pos (nat_abs a * nat_abs a))
+pub square_of_int : (a : ℤ) → nat_abs a ≤ 2 ^ 53
+    → mul binary64 (of_int binary64 a) (of_int binary64 a) ≡ of_int binary64 (pos (nat_abs a * nat_abs a))
 unfolding of_int
 square_of_int (pos a) h = mul_whole false false a a h h
 square_of_int (negsuc a) h = mul_whole true true (suc a) (suc a) h h
 
 -- factors that are not below zero
-pub mul_of_int_pos : (a b : ℕ) → a ≤ 2 ^ 53 → b ≤ 2 ^ 53 → mul binary64 (of_int binary64 (pos a)) (of_int binary64 (pos b)) ≡ of_int binary64 (pos (a * b))
+pub mul_of_int_pos : (a b : ℕ) → a ≤ 2 ^ 53 → b ≤ 2 ^ 53
+    → mul binary64 (of_int binary64 (pos a)) (of_int binary64 (pos b)) ≡ of_int binary64 (pos (a * b))
 unfolding of_int
 mul_of_int_pos a b h k = mul_whole false false a b h k
 
@@ -161,13 +202,6 @@ below_zero : (n : ℕ) → 0 < n → whole true n ≡ of_int binary64 (neg_ℤ (
 unfolding of_int
 below_zero zero h = absurd (lt_irrefl 0 h)
 below_zero (suc n) h = refl
-
--- factors that are not zero
-pub mul_of_int_nonzero : (a b : ℤ) → nat_abs a ≤ 2 ^ 53 → nat_abs b ≤ 2 ^ 53 → 0 < nat_abs a → 0 < nat_abs b → mul binary64 (of_int binary64 a) (of_int binary64 b) ≡ of_int binary64 (a *ℤ b)
-mul_of_int_nonzero (pos a) (pos b) h k A B = mul_of_int_pos a b h k
-mul_of_int_nonzero (pos a) (negsuc b) h k A B = mul_of_int (pos a) (negsuc b) h k ∙ below_zero (a * suc b) (mul-pos A B)
-mul_of_int_nonzero (negsuc a) (pos b) h k A B = mul_of_int (negsuc a) (pos b) h k ∙ below_zero (suc a * b) (mul-pos A B)
-mul_of_int_nonzero (negsuc a) (negsuc b) h k A B = mul_of_int (negsuc a) (negsuc b) h k ∙ sym (of_int_whole (pos (suc a * suc b)))
 
 -- ---- comparisons
 
@@ -179,23 +213,22 @@ below_lt_z (negsuc a) (negsuc b) = leb-suc-suc (suc b) a
 
 level_eq_z : (a b : ℤ) → level (below0 a) (nat_abs a) (below0 b) (nat_abs b) ≡ eq_z a b
 level_eq_z (pos a) (pos b) = and-true (eqb a b)
-level_eq_z (pos a) (negsuc b) = both_zero a (suc b) ∙ is_false (eqb (a + suc b) 0) (not_T (eqb (a + suc b) 0) (λ t. let e = eqb→eq (a + suc b) 0 t in omega arith))
-level_eq_z (negsuc a) (pos b) = both_zero (suc a) b ∙ is_false (eqb (suc a + b) 0) (not_T (eqb (suc a + b) 0) (λ t. let e = eqb→eq (suc a + b) 0 t in omega arith))
+level_eq_z (pos a) (negsuc b) =
+    both_zero a (suc b) ∙ is_false (eqb (a + suc b) 0) (not_T (eqb (a + suc b) 0) (λ t. let e =
+    eqb→eq (a + suc b) 0 t in omega arith))
+level_eq_z (negsuc a) (pos b) =
+    both_zero (suc a) b ∙ is_false (eqb (suc a + b) 0) (not_T (eqb (suc a + b) 0) (λ t. let e =
+    eqb→eq (suc a + b) 0 t in omega arith))
 level_eq_z (negsuc a) (negsuc b) = and-true (eqb (suc a) (suc b)) ∙ eqb-suc-suc a b
-
-le_z_not : (a b : ℤ) → not (lt_z b a) ≡ le_z a b
-le_z_not (pos a) (pos b) = not_ltb b a
-le_z_not (pos a) (negsuc b) = refl
-le_z_not (negsuc a) (pos b) = refl
-le_z_not (negsuc a) (negsuc b) = not_ltb a b
 
 module _ (a b : ℤ) (h : nat_abs a ≤ 2 ^ 53) (k : nat_abs b ≤ 2 ^ 53) where
   -- Integers as floats compare as integers.
   pub lt_of_int : lt (of_int binary64 a) (of_int binary64 b) ≡ lt_z a b
-  lt_of_int = lt_values (of_int binary64 a) (of_int binary64 b) (below0 a) (below0 b) (nat_abs a) (nat_abs b) 1 (le_refl 1) (of_int_value a h) (of_int_value b k) ∙ below_lt_z a b
+  lt_of_int =
+      lt_values (of_int binary64 a) (of_int binary64 b) (below0 a) (below0 b) (nat_abs a) (nat_abs b) 1 (le_refl 1)
+      (of_int_value a h) (of_int_value b k) ∙ below_lt_z a b
 
   pub eq_of_int : eq (of_int binary64 a) (of_int binary64 b) ≡ eq_z a b
-  eq_of_int = eq_values (of_int binary64 a) (of_int binary64 b) (below0 a) (below0 b) (nat_abs a) (nat_abs b) 1 (le_refl 1) (of_int_value a h) (of_int_value b k) ∙ level_eq_z a b
-
-pub le_of_int : (a b : ℤ) → nat_abs a ≤ 2 ^ 53 → nat_abs b ≤ 2 ^ 53 → le (of_int binary64 a) (of_int binary64 b) ≡ le_z a b
-le_of_int a b h k = le_not_lt (of_int_finite a h) (of_int_finite b k) ∙ ap not (lt_of_int b a k h) ∙ le_z_not a b
+  eq_of_int =
+      eq_values (of_int binary64 a) (of_int binary64 b) (below0 a) (below0 b) (nat_abs a) (nat_abs b) 1 (le_refl 1)
+      (of_int_value a h) (of_int_value b k) ∙ level_eq_z a b

@@ -1,5 +1,6 @@
--- Float constants that the geometry's code and definitions share. A float literal of the code is `of_bits binary64 BITS`, so each constant is written so,
--- and beside it stands the theorem that these are the bits of the decimal, rounded to nearest.
+-- Float constants that the geometry's code and definitions share. A float literal of the code is `of_bits binary64
+-- BITS`, so each constant is written so, and beside it stands the theorem that these are the bits of the decimal,
+-- rounded to nearest.
 use Rattle.std.specs.Prelude.{◌≡◌, ◌^◌, false, refl, Float}
 use Rattle.std.specs.Float.{binary64}
 use Rattle.std.specs.Float.Ieee.{round, mul, of_bits}

@@ -1,5 +1,5 @@
--- The small functions of f64 that the Rust calls as methods, and what each gives for a NaN and for zeros of either sign.
--- Rests on lib.Ieee. In code the functions are those of src/lib.rt.
+-- The small functions of f64 that the Rust calls as methods, and what each gives for a NaN and for zeros of either
+-- sign. Rests on lib.Ieee. In code the functions are those of src/lib.rt.
 use Rattle.std.specs.Prelude.{◌≡◌, ◌<◌, ◌≤◌, Bool, false, cond, ◌||◌, pos, is_nan}
 use lib.Ieee.{Float, nan, inf, fin, binary64, lt, add, rem}
 use Rattle.binary64.specs.Units.{Finite, mag, negative, plus, minus}
@@ -25,7 +25,8 @@ signum_of (fin s m e) = unit s
 abbrev pub clamp_to_zero : Float → Float
 clamp_to_zero x = cond (lt zero64 x) x zero64
 
--- `x.max(y)` and `x.min(y)`: of a NaN and a number the number; of two numbers that compare equal, +0 and -0 among them, the first.
+-- `x.max(y)` and `x.min(y)`: of a NaN and a number the number; of two numbers that compare equal, +0 and -0 among them,
+-- the first.
 abbrev pub larger_of : Float → Float → Float
 larger_of x y = cond (is_nan x || lt x y) y x
 

@@ -1,5 +1,5 @@
--- Rounding to binary64 over natural numbers alone: the fraction a / c, in units, kept to 53 binary digits.
--- Rests on lib.Ieee.{Nearest, Order}, whose `closest` rounds a fraction to the nearest whole number, a tie to the even one.
+-- Rounding to binary64 over natural numbers alone: the fraction a / c, in units, kept to 53 binary digits. Rests on
+-- lib.Ieee.{Nearest, Order}, whose `closest` rounds a fraction to the nearest whole number, a tie to the even one.
 use Rattle.std.specs.Prelude.{◌≡◌, ℕ, ◌+◌, ◌-◌, ◌*◌, ◌^◌, ◌<◌, ◌≤◌, Bool, true, false}
 use lib.Ieee.{Float, binary64, round}
 use Rattle.std.specs.Float.Ieee.Order.{drop, kept}
@@ -19,8 +19,8 @@ pub record Near (z : Float) (p n c h : ℕ) : Type 0 where
   pub over : plus z * c + n ≤ minus z * c + p + h * c
   pub under : minus z * c + p ≤ plus z * c + n + h * c
 
--- z is what binary64 makes of (p - n) / c units, a NaN excepted: finite, or an infinity. Its sign is `minus?`, and |p - n| is `size`;
--- `top` / `bottom` is the fraction size / c in numbers, not in units, which was handed to `round`.
+-- z is what binary64 makes of (p - n) / c units, a NaN excepted: finite, or an infinity. Its sign is `minus?`, and |p -
+-- n| is `size`; `top` / `bottom` is the fraction size / c in numbers, not in units, which was handed to `round`.
 pub record Result (z : Float) (p n c : ℕ) : Type 0 where
   pub minus? : Bool
   pub size : ℕ

@@ -1,5 +1,5 @@
--- A finite f64 as a whole number of units of 2^-1074, the smallest positive f64, with its sign: every law of this crate speaks of a float so.
--- Rests on lib.Ieee, whose `fin s m e` is the number m * 2 ^ e with the sign s.
+-- A finite f64 as a whole number of units of 2^-1074, the smallest positive f64, with its sign: every law of this crate
+-- speaks of a float so. Rests on lib.Ieee, whose `fin s m e` is the number m * 2 ^ e with the sign s.
 use Rattle.std.specs.Prelude.{◌≡◌, ℕ, ◌*◌, ◌/◌, ◌^◌, ◌<◌, Bool, false, cond, T, pos, Float}
 use Rattle.std.specs.Float.{nan, inf, fin, binary64}
 use Rattle.std.specs.Float.Ieee.{up, down, fits, round}
@@ -49,7 +49,8 @@ of_units s n = round binary64 s n one
 abbrev pub signed_zero : Bool → Float
 signed_zero s = fin s 0 (pos 0)
 
--- n has at most 53 binary digits before its closing zeros. Below `limit`, these are the magnitudes of the finite floats.
+-- n has at most 53 binary digits before its closing zeros. Below `limit`, these are the magnitudes of the finite
+-- floats.
 pub record Digits53 (n : ℕ) : Type 0 where
   pub digits : ℕ
   pub zeros : ℕ

@@ -1,4 +1,5 @@
--- Whole numbers as floats. `n as f64` of an integer n is `of_int binary64 n`; with its sign apart it is `whole`, which has a -0 too.
+-- Whole numbers as floats. `n as f64` of an integer n is `of_int binary64 n`; with its sign apart it is `whole`, which
+-- has a -0 too.
 use Rattle.std.specs.Prelude.{ℕ, Bool, true, false, ℤ, pos, negsuc, ◌==◌, Float}
 use Rattle.std.specs.Float.{binary64}
 use Rattle.std.specs.Float.Ieee.{round}

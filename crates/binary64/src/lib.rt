@@ -6,7 +6,8 @@ ghost use Rattle.std.specs.Prelude.{◌≡◌};
 ghost use Rattle.binary64.specs.Units.{negative};
 ghost use Rattle.std.specs.Float.{binary64};
 ghost use Rattle.std.specs.Float.Ieee.{rem};
-ghost use Rattle.binary64.specs.Functions.{absolute, signum_of, clamp_to_zero, larger_of, smaller_of, rem_euclid, Reducible};
+ghost use Rattle.binary64.specs.Functions.{absolute, signum_of, clamp_to_zero, larger_of, smaller_of};
+ghost use Rattle.binary64.specs.Functions.{rem_euclid, Reducible};
 
 // The sign bit: true for -0 too. A NaN has none, and gives false.
 #[tactic(auto, using(crate::proofs::Functions::sign_is, crate::proofs::Functions::nan_sign))]

@@ -1,23 +1,20 @@
 -- The arc of one gap, with the angles in an array; and the arcs of a member, gap by gap.
 use mathlib.Core.Path.{◌≡◌, refl, sym, ap, ◌∙◌}
-use mathlib.Core.Bool.{Bool, not, ◌&&◌, cond}
+use mathlib.Core.Bool.{Bool, cond}
 use mathlib.Core.List.{List, [], ◌∷◌}
-use Prim.Native.Nat.{ℕ, ◌+◌, ◌%◌, ◌≤◌, ◌<◌, max}
+use Prim.Native.Nat.{ℕ, ◌+◌, ◌%◌, ◌<◌, max}
 use native.Mathlib.Nat.{mod-lt}
 use native.Mathlib.Omega.{arith}
 use borrow.Author.Tests.{lt-ltb}
-use lib.ListN.{length, get_or, take, length-take}
-use lib.Seq.{get_or-take}
-use lib.Ieee.{Float, nan}
+use lib.ListN.{length}
+use lib.Ieee.{Float}
 use Rattle.std.specs.Prelude.{Option, None, Some, IfSome}
 use Rattle.std.specs.Option.{is_some, option_to_list}
 use Rattle.lists.specs.Lists.{up_to}
 use Rattle.lists.proofs.Lists.{up_to_cong}
 use Rattle.geometry.specs.declared.circle.Circle.{Circle}
-use Rattle.binary64.specs.Constants.{half64}
-use Rattle.binary64.specs.Floats.{◌+ᶠ◌, ◌*ᶠ◌}
 use Rattle.boundary.specs.Gaps.{gap_arc}
-use Rattle.boundary.specs.Outline.{owned, gap, collapsed, point_at, between, arc_from, arcs_at}
+use Rattle.boundary.specs.Outline.{arc_from, arcs_at}
 
 -- what `then` gives, as a list
 pub one_if : {X : Type 0} (o : Option X) (b : Bool) (x : X) → is_some o ≡ b → IfSome o (λ r. r ≡ x) → option_to_list o ≡ cond b (x ∷ []) []
@@ -27,22 +24,6 @@ one_if (Some r) b x e h = rw (← e, h)
 -- the next index round a list of n is below n
 pub next_below : (i n : ℕ) → i < n → (i + 1) % n < n
 next_below i n h = mod-lt (i + 1) {m = n} (omega arith)
-
--- Whether there is an arc after angle i, of the n that are the first m of an array.
-module _ (cs : List Circle) (k : ℕ) (c : Circle) (phi : List Float) (m n i : ℕ) (many : n ≡ length (take m phi)) (below : i < n) where
-  within : n ≤ m
-  within = omega (arith, length-take m phi, many)
-
-  pub gap-arc :
-      arc_from cs k c (take m phi) i
-      ≡ cond
-      (not (collapsed (gap (get_or phi i nan) (get_or phi ((i + 1) % n) nan)))
-      && owned k (point_at c (get_or phi i nan +ᶠ gap (get_or phi i nan) (get_or phi ((i + 1) % n) nan) *ᶠ half64)) cs)
-      (between k c (get_or phi i nan) (gap (get_or phi i nan) (get_or phi ((i + 1) % n) nan)) ∷ [])
-      []
-  unfolding arc_from
-  gap-arc =
-      rw (sym many, get_or-take m phi i nan (omega (arith, within)), get_or-take m phi ((i + 1) % n) nan (omega (arith, next_below i n below, within)))
 
 -- after an angle
 in_gap : (cs : List Circle) (k : ℕ) (c : Circle) (phis : List Float) (i : ℕ) → i < length phis → gap_arc cs k c phis i ≡ arc_from cs k c phis i

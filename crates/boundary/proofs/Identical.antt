@@ -29,7 +29,7 @@ use Rattle.intersections.specs.Members.{Member, circles_of}
 use Rattle.boundary.specs.Identical.{whole_circle, unmet, LowerOwns}
 use Rattle.boundary.specs.NoArc.{NoneOf}
 use Rattle.boundary.specs.Outline.{implicit_value, tolerance, lets, owned_from, owned, probe, full_circle, arcs_at, angles_of, outline_from, outline}
-use Rattle.boundary.specs.Sort.{sort_onto, sorted}
+use Rattle.boundary.specs.Sort.{sort_onto_by, sorted_by}
 use Rattle.boundary.proofs.OnePoint.{less_itself, none_in}
 
 -- ---- 1 as a float
@@ -224,7 +224,7 @@ module _ (x y : ℤ) (r : ℕ) (hx : nat_abs x ≤ 20000) (hy : nat_abs y ≤ 20
   first_owned = rw (own_lets 0, higher_lets 0 1 (omega arith)) refl
 
   alone : (cs : List Circle) (k : ℕ) (b : Bool) → owned k (probe c) cs ≡ b → arcs_at cs k c (angles_of (unmet c)) ≡ cond b (full_circle k c ∷ []) []
-  unfolding arcs_at angles_of sorted sort_onto
+  unfolding arcs_at angles_of sorted_by sort_onto_by
   alone cs k b e = rw e refl
 
   pair_outline : outline (unmet c ∷ unmet c ∷ []) ≡ full_circle 0 c ∷ []

@@ -22,7 +22,7 @@ use Rattle.boundary.specs.declared.arcs.BoundaryArc.{BoundaryArc}
 use Rattle.boundary.specs.NoArc.{NoneOf, OnePointNoArc}
 use Rattle.boundary.specs.Outline.{gap, collapsed, owned, point_at, probe, full_circle, between, angle_about, arc_from, arcs_at, angles_of}
 use Rattle.boundary.specs.Outline.{outline_from, outline}
-use Rattle.boundary.specs.Sort.{insert, sort_onto, sorted}
+use Rattle.boundary.specs.Sort.{sorted, insert_by, sort_onto_by, sorted_by}
 
 opposite_signs : (x : Float) → Finite x → (negative x && negative (neg x)) ≡ false
 unfolding neg
@@ -55,7 +55,7 @@ angle_finite c p = (atan2_promise.always _ _ (sub-fits binary64 _ _) (sub-fits b
 
 -- A member with one counted point gets no arc.
 pub member_no_arc : (cs : List Circle) (k : ℕ) (m : Member) → length m.points ≡ 1 → arcs_at cs k m.circle (angles_of m) ≡ []
-unfolding angles_of sorted sort_onto insert
+unfolding angles_of sorted_by sort_onto_by insert_by
 member_no_arc cs k m e = one m.points e
   where
     one : (l : List Point) → length l ≡ 1 → arcs_at cs k m.circle (sorted (map (angle_about m.circle) l)) ≡ []

@@ -10,11 +10,11 @@ use Rattle.binary64.proofs.Units.{units_of_lt, units_of_not_lt, lt_of_units, not
 use Rattle.lists.specs.Lists.{keep}
 use Rattle.lists.proofs.Lists.{keep_none}
 use Rattle.lists.specs.Every.{Every, every_both}
-use Rattle.boundary.specs.Sort.{insert, sort_onto, sorted, Ordered, level}
+use Rattle.boundary.specs.Sort.{insert, sort_onto, sorted, Ordered, level, insert_by, sort_onto_by, sorted_by}
 
 -- a property of x and of every element of l
 pub insert_every : (P : Float → Type 0) (x : Float) (l : List Float) → P x → Every P l → Every P (insert x l)
-unfolding insert
+unfolding insert_by
 insert_every P x [] h g = (h, tt)
 insert_every P x (y ∷ l) h g = by (lt x y) (insert_every P x l h g.1)
   where
@@ -23,13 +23,13 @@ insert_every P x (y ∷ l) h g = by (lt x y) (insert_every P x l h g.1)
     by false r = (g.0, r)
 
 sort_onto_every : (P : Float → Type 0) (done l : List Float) → Every P done → Every P l → Every P (sort_onto done l)
-unfolding sort_onto
+unfolding sort_onto_by
 sort_onto_every P done [] h g = h
 sort_onto_every P done (x ∷ l) h g = sort_onto_every P (insert x done) l (insert_every P x done g.0 h) g.1
 
 -- a property of every element of l
 pub sorted_every : (P : Float → Type 0) (l : List Float) → Every P l → Every P (sorted l)
-unfolding sorted
+unfolding sorted_by
 sorted_every P l g = sort_onto_every P [] l tt g
 
 -- x below y, and no z below y: no z below x
@@ -40,7 +40,7 @@ below_not : {x y : Float} → Finite x → Finite y → lt x y ≡ true → lt y
 below_not fx fy h = not_lt_of_units fy fx (omega (arith, units_of_lt fx fy h))
 
 insert_ordered : (x : Float) (l : List Float) → Finite x → Every Finite l → Ordered l → Ordered (insert x l)
-unfolding insert
+unfolding insert_by
 insert_ordered x [] fx fl o = (tt, tt)
 insert_ordered x (y ∷ l) fx fl o = by (lt x y) refl (insert_ordered x l fx fl.1 o.1)
   where
@@ -50,14 +50,14 @@ insert_ordered x (y ∷ l) fx fl o = by (lt x y) refl (insert_ordered x l fx fl.
     by false e r = (insert_every (λ z. lt z y ≡ false) x l e o.0, r)
 
 sort_onto_ordered : (done l : List Float) → Every Finite done → Every Finite l → Ordered done → Ordered (sort_onto done l)
-unfolding sort_onto
+unfolding sort_onto_by
 sort_onto_ordered done [] fd fl o = o
 sort_onto_ordered done (x ∷ l) fd fl o =
     sort_onto_ordered (insert x done) l (insert_every Finite x done fl.0 fd) fl.1 (insert_ordered x done fl.0 fd o)
 
 -- The sorted list is ordered.
 pub sorted_ordered : (l : List Float) → Every Finite l → Ordered (sorted l)
-unfolding sorted
+unfolding sorted_by
 sorted_ordered l h = sort_onto_ordered [] l tt h tt
 
 -- a z above x is not level with what is level with x
@@ -76,7 +76,7 @@ module _ (a : Float) (fa : Finite a) where
   -- put in, x is the last of those level with it
   insert_level : (x : Float) (l : List Float) → Finite x → Every Finite l → Ordered l
       → keep (level a) (insert x l) ≡ keep (level a) l ++ keep (level a) (x ∷ [])
-  unfolding insert keep
+  unfolding insert_by keep
   insert_level x [] fx fl o = refl
   insert_level x (y ∷ l) fx fl o = by (lt x y) refl (insert_level x l fx fl.1 o.1)
     where
@@ -100,7 +100,7 @@ module _ (a : Float) (fa : Finite a) where
 
   sort_onto_level : (done l : List Float) → Every Finite done → Every Finite l → Ordered done
       → keep (level a) (sort_onto done l) ≡ keep (level a) done ++ keep (level a) l
-  unfolding sort_onto keep
+  unfolding sort_onto_by keep
   sort_onto_level done [] fd fl o = sym (append-nil (keep (level a) done))
   sort_onto_level done (x ∷ l) fd fl o =
       sort_onto_level (insert x done) l (insert_every Finite x done fl.0 fd) fl.1 (insert_ordered x done fl.0 fd o)
@@ -113,5 +113,5 @@ module _ (a : Float) (fa : Finite a) where
 
   -- The sort is stable: those that are level with a stand in the order in which they came.
   pub sorted_stable : (l : List Float) → Every Finite l → keep (level a) (sorted l) ≡ keep (level a) l
-  unfolding sorted keep
+  unfolding sorted_by keep
   sorted_stable l h = sort_onto_level [] l tt h tt

@@ -3,7 +3,6 @@ pub mod Marks
 pub mod Outline
 pub mod Gaps
 pub mod Set
-pub mod Counted
 pub mod NoArc
 pub mod Identical
 pub mod Measured

@@ -14,7 +14,7 @@ use Rattle.geometry.specs.Point.{at}
 use Rattle.binary64.specs.Floats.{◌+ᶠ◌, ◌-ᶠ◌, ◌*ᶠ◌, ◌/ᶠ◌, ◌<ᶠ◌, ◌≤ᶠ◌}
 use Rattle.geometry.specs.Tolerances.{arc_eps, coincidence, coincidence_share}
 use Rattle.lists.specs.Lists.{up_to}
-use Rattle.boundary.specs.Sort.{sorted}
+use Rattle.boundary.specs.Sort.{sorted, sorted_by}
 
 -- ---- which member has a point of its edge
 
@@ -103,7 +103,7 @@ arcs_at cs k c (phi ∷ phis) = up_to (arc_from cs k c (phi ∷ phis)) (length (
 
 -- the angles of a member's points, sorted
 unfoldable pub angles_of : Member → List Float
-unfolding angle_about sorted
+unfolding angle_about sorted_by
 angles_of m = sorted (map (angle_about m.circle) m.points)
 
 -- the arcs of the members from position k on, among all the circles of the set

@@ -1,27 +1,34 @@
 -- The stable sort of angles: each is put in before the first that is greater.
-use Rattle.std.specs.Prelude.{ℕ, suc, ◌≡◌, Bool, false, not, ◌&&◌, cond, List, [], ◌∷◌, Float}
+use Rattle.std.specs.Prelude.{◌≡◌, Bool, false, not, ◌&&◌, cond, List, [], ◌∷◌, Float}
 use Rattle.lists.specs.Every.{Every}
 use Rattle.binary64.specs.Floats.{◌<ᶠ◌}
 
--- x before the first that is greater than x
-unfoldable pub insert : Float → List Float → List Float
-insert x [] = x ∷ []
-insert x (y ∷ ys) = cond (x <ᶠ y) (x ∷ y ∷ ys) (y ∷ insert x ys)
+-- of what is ordered by an angle
+module _ {A : Type 0} (angle_of : A → Float) where
+  -- x before the first of a greater angle than x
+  unfoldable pub insert_by : A → List A → List A
+  insert_by x [] = x ∷ []
+  insert_by x (y ∷ ys) = cond (angle_of x <ᶠ angle_of y) (x ∷ y ∷ ys) (y ∷ insert_by x ys)
 
--- one after another of the list, put into those before it
-unfoldable pub sort_onto : List Float → List Float → List Float
-unfolding insert
-sort_onto done [] = done
-sort_onto done (x ∷ xs) = sort_onto (insert x done) xs
+  -- one after another of the list, put into those before it
+  unfoldable pub sort_onto_by : List A → List A → List A
+  unfolding insert_by
+  sort_onto_by done [] = done
+  sort_onto_by done (x ∷ xs) = sort_onto_by (insert_by x done) xs
 
-unfoldable pub sorted : List Float → List Float
-unfolding sort_onto
-sorted l = sort_onto [] l
+  unfoldable pub sorted_by : List A → List A
+  unfolding sort_onto_by
+  sorted_by l = sort_onto_by [] l
 
--- how many stand before the first that is greater than x
-unfoldable pub place : Float → List Float → ℕ
-place x [] = 0
-place x (y ∷ ys) = cond (x <ᶠ y) 0 (suc (place x ys))
+-- angles themselves
+abbrev pub insert : Float → List Float → List Float
+insert = insert_by (λ x. x)
+
+abbrev pub sort_onto : List Float → List Float → List Float
+sort_onto = sort_onto_by (λ x. x)
+
+abbrev pub sorted : List Float → List Float
+sorted = sorted_by (λ x. x)
 
 -- ---- what is claimed of the sort, and proved in proofs/Ordering.antt: `sorted_ordered`, `sorted_stable`
 

@@ -1,29 +1,26 @@
 // The arcs of one member of a set, gap by gap. Rests on `arc_from` and `arcs_at` of specs/Outline.antt.
-ghost use Rattle.std.specs.Prelude.{◌≡◌, [], max, ◌≤◌, length};
+ghost use Rattle.std.specs.Prelude.{◌≡◌, [], max, length};
 ghost use Rattle.std.specs.Option.{option_to_list};
 ghost use Rattle.boundary.specs.Outline.{arcs_at};
 ghost use Rattle.boundary.specs.Gaps.{gap_arc};
-ghost use Rattle.intersections.specs.Counted.{circle_list};
-ghost use Rattle.boundary.specs.Counted.{angle_list};
+ghost use Rattle.intersections.specs.Heads.{circle_list};
 
 use crate::angles::{collapsed, gap, point_at, probe};
 use crate::arcs::{BoundaryArc, between, full_circle};
 use crate::ownership::owned;
-use crate::sort::{Angles, count};
 use geometry::circle::Circle;
-use intersections::members::Members;
+use intersections::members::HeadCircle;
 
 // How many gaps the angles leave: with no angle one, the whole circle.
-pub(crate) fn gaps(angles: Angles) -> usize
-    ensures value { result ≡ max 1 (length (angle_list angles)) }
-    ensures upper_bound { result ≤ 32 }
+pub(crate) fn gaps(angles: &[f64]) -> usize
+    ensures { result ≡ max 1 (length angles.now) }
 {
-    count(angles).max(1)
+    angles.len().max(1)
 }
 
 // A member with no angle: its whole circle, if the probe is its own.
-fn whole_circle(k: usize, circle: Circle, set: Members) -> Option<BoundaryArc>
-    ensures { option_to_list result ≡ arcs_at (circle_list set) k circle [] }
+fn whole_circle(k: usize, circle: Circle, set: &[HeadCircle]) -> Option<BoundaryArc>
+    ensures { option_to_list result ≡ arcs_at (circle_list set.now) k circle [] }
 {
     owned(k, probe(circle), set).then(|| full_circle(k, circle))
 }
@@ -34,18 +31,18 @@ fn whole_circle(k: usize, circle: Circle, set: Members) -> Option<BoundaryArc>
 pub(crate) fn arc_from(
     k: usize,
     circle: Circle,
-    angles: Angles,
+    angles: &[f64],
     i: usize,
-    set: Members,
+    set: &[HeadCircle],
 ) -> Option<BoundaryArc>
-    ensures { option_to_list result ≡ gap_arc (circle_list set) k circle (angle_list angles) i }
+    ensures { option_to_list result ≡ gap_arc (circle_list set.now) k circle angles.now i }
 {
-    let n = count(angles);
+    let n = angles.len();
     if n <= i {
         return whole_circle(k, circle, set);
     }
-    let phi_a = angles.phi[i];
-    let phi_b = angles.phi[(i + 1) % n];
+    let phi_a = angles[i];
+    let phi_b = angles[(i + 1) % n];
     let delta = gap(phi_a, phi_b);
     if collapsed(delta) {
         return None;

@@ -5,12 +5,12 @@ ghost use Rattle.binary64.specs.Constants.{one64};
 ghost use Rattle.binary64.specs.Floats.{◌+ᶠ◌, ◌*ᶠ◌, ◌/ᶠ◌, ◌<ᶠ◌};
 ghost use Rattle.boundary.specs.Outline.{implicit_value, tolerance, lets, owned};
 ghost use Rattle.boundary.specs.Measured.{Measured, FarIn};
-ghost use Rattle.intersections.specs.Counted.{circle_list};
+ghost use Rattle.intersections.specs.Heads.{circle_list};
 
 use binary64::{abs, larger};
 use geometry::circle::Circle;
 use geometry::point::Point;
-use intersections::members::Members;
+use intersections::members::HeadCircle;
 
 // The implicit form of a circle at a point: below 1 inside, 1 on the edge, above 1 outside.
 fn circle_implicit_value(p: Point, c: Circle) -> f64
@@ -88,11 +88,10 @@ pub fn lets(k: usize, p: Point, l: usize, c: Circle) -> bool
 }
 
 // The point p of the edge of the member at k is that member's own: every member of the set lets it have p.
-pub(crate) fn owned(k: usize, p: Point, set: Members) -> bool
-    ensures { result ≡ owned k p (circle_list set) }
+pub(crate) fn owned(k: usize, p: Point, set: &[HeadCircle]) -> bool
+    ensures { result ≡ owned k p (circle_list set.now) }
 {
-    set.circles[..set.n.min(10)]
-        .iter()
+    set.iter()
         .enumerate()
-        .all(|(l, c)| lets(k, p, l, *c))
+        .all(|(l, member)| lets(k, p, l, member.circle))
 }

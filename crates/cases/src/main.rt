@@ -14,9 +14,9 @@ ghost use Rattle.std.specs.Io.KnownBytes.{Appends};
 use file::reader::{Completed, Reader};
 use file::{fields, reader};
 use heads::Head;
-use plan::{Answer, Edit, Gradients, Ground, Lent, Plan, book, check};
-use std::io;
+use plan::{Answer, Edit, Gradients, Ground, Lent, Plan, Refused, book, check};
 use std::io::{BufWriter, Read, Write};
+use std::{array, io};
 
 // The bytes of a call in memory, after the one that says what it is.
 const CALL: usize = 155;
@@ -30,7 +30,7 @@ fn short_at(s: &[u8], i: usize) -> usize
     requires { i < 1000000 }
     ensures { result < 65536 }
 {
-    u16::from_le_bytes([byte_at(s, i), byte_at(s, i + 1)]) as usize
+    usize::from(u16::from_le_bytes([byte_at(s, i), byte_at(s, i + 1)]))
 }
 
 fn int_at(s: &[u8], i: usize) -> i32
@@ -81,12 +81,10 @@ fn print_edit<W: Write>(out: &mut W, edit: Edit) -> io::Result<()> {
 }
 
 fn print_answer<W: Write>(out: &mut W, answer: Answer) -> io::Result<()> {
-    if answer.is_ok() {
-        return writeln!(out, "taken");
+    match answer {
+        Ok(()) => writeln!(out, "taken"),
+        Err(Refused { refusal, at }) => writeln!(out, "refused {} at {at}", u8::from(refusal)),
     }
-    let number = plan::answer_number(answer);
-    let offset = plan::answer_offset(answer);
-    writeln!(out, "refused {number} at {offset}")
 }
 
 // What the last byte completed.
@@ -118,22 +116,17 @@ fn run_file<W: Write>(out: &mut W, s: &[u8]) -> io::Result<()> {
 }
 
 fn heads_at(s: &[u8]) -> [Head; 10] {
-    let mut heads = [Head {
-        x: 0,
-        y: 0,
-        radius: 0,
-    }; 10];
-    for (i, h) in heads.iter_mut().enumerate() {
+    array::from_fn(|i| {
         let at = 18 + 12 * i;
-        *h = Head {
+        Head {
             x: int_at(s, at),
             y: int_at(s, at + 4),
             radius: int_at(s, at + 8),
-        };
-    }
-    heads
+        }
+    })
 }
 
+// A byte of the list: any but 0 and 1 is the open form.
 fn gradients_of(kind: u8) -> Gradients {
     match kind {
         0 => Gradients::None,
@@ -152,11 +145,11 @@ fn run_call<W: Write>(out: &mut W, s: &[u8]) -> io::Result<()> {
     };
     let plan = Plan {
         ground,
-        n: byte_at(s, 0) as usize,
+        n: usize::from(byte_at(s, 0)),
         heads: heads_at(s),
     };
     let edit = Edit {
-        head: byte_at(s, 1) as usize,
+        head: usize::from(byte_at(s, 1)),
         x: int_at(s, 138),
         y: int_at(s, 142),
         radius: int_at(s, 146),
@@ -179,16 +172,17 @@ fn trial<W: Write>(out: &mut W, s: &[u8]) -> io::Result<usize>
     requires { 0 < length s.now }
     ensures { IfOk result (λ n. (0 < n) × (n ≤ length s.now)) }
 {
-    let file = s[0] == 0;
-    let from = if file { 3 } else { 1 };
-    let end = from + if file { short_at(s, 1) } else { CALL };
+    let end = if s[0] == 0 {
+        3 + short_at(s, 1)
+    } else {
+        1 + CALL
+    };
     if s.len() < end {
         return Ok(s.len());
     }
-    if file {
-        run_file(out, &s[from..end])?;
-    } else {
-        run_call(out, &s[from..end])?;
+    match s[0] {
+        0 => run_file(out, &s[3..end])?,
+        _ => run_call(out, &s[1..end])?,
     }
     Ok(end)
 }

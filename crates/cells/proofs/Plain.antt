@@ -1,5 +1,5 @@
--- Values of integer polynomials at an integer, lowest coefficient first: sums, products, composition, and the distance of two values by the
--- distances of the coefficients, for polynomials of any two lengths. Rests on the crate series.
+-- Values of integer polynomials at an integer, lowest coefficient first: sums, products, composition, and the distance
+-- of two values by the distances of the coefficients, for polynomials of any two lengths. Rests on the crate series.
 use mathlib.Core.Path.{◌≡◌, refl, sym, ap, ap₂, ◌∙◌, subst}
 use mathlib.Core.List.{List, [], ◌∷◌}
 use Prim.Native.Nat.{ℕ, ◌+◌, ◌*◌, ◌^◌, ◌≤◌}
@@ -7,7 +7,8 @@ use native.Mathlib.Nat.{le_refl, le_trans, le_of_eq, add-le-add, mul-le-mul, pow
 use native.Mathlib.Omega.{arith}
 use lib.ListN.{length}
 use lib.IntN.{ℤ, pos, ◌+ℤ◌, ◌-ℤ◌, ◌*ℤ◌, nat_abs, *ℤ-zero, zero-*ℤ, +ℤ_idl, +ℤ_idr}
-use Rattle.series.proofs.Integers.{parts, ⊖-eq, differences, dist, dist_self, abs_add, abs_mul, distrib, distrib_r, *ℤ-assoc, *ℤ-left-comm}
+use Rattle.series.proofs.Integers.{parts, ⊖-eq, differences, dist, dist_self}
+use Rattle.series.proofs.Integers.{abs_add, abs_mul, distrib, distrib_r, *ℤ-assoc, *ℤ-left-comm}
 use Rattle.series.proofs.Polynomial.{hval, one_pow, shift, shift_value}
 
 -- Σ c_i x^i
@@ -40,7 +41,9 @@ value_whole (c ∷ p) x = rw (value_whole p x, one_pow) (ap (λ (z : ℤ). z +�
 
 -- p shifted by b, at x, is p at x + b
 pub shifted_value : (p : List ℤ) (b : ℕ) (x : ℤ) → val (shift p b) x ≡ val p (x +ℤ pos b)
-shifted_value p b x = sym (value_whole (shift p b) x) ∙ shift_value p b x 1 ∙ ap (λ (k : ℕ). hval p (x +ℤ pos k) 1) (mul-one b) ∙ value_whole p (x +ℤ pos b)
+shifted_value p b x =
+    sym (value_whole (shift p b) x) ∙ shift_value p b x 1 ∙ ap (λ (k : ℕ). hval p (x +ℤ pos k) 1) (mul-one b)
+    ∙ value_whole p (x +ℤ pos b)
 
 -- ---- sums, products, composition
 
@@ -71,7 +74,9 @@ scaled k (c ∷ p) = (k *ℤ c) ∷ scaled k p
 pub scaled_value : (k : ℤ) (p : List ℤ) (x : ℤ) → val (scaled k p) x ≡ k *ℤ val p x
 unfolding val scaled
 scaled_value k [] x = sym (*ℤ-zero k)
-scaled_value k (c ∷ p) x = rw (scaled_value k p x) (ap (λ (z : ℤ). k *ℤ c +ℤ z) (*ℤ-left-comm x k (val p x)) ∙ sym (distrib k c (x *ℤ val p x)))
+scaled_value k (c ∷ p) x =
+    rw (scaled_value k p x)
+    (ap (λ (z : ℤ). k *ℤ c +ℤ z) (*ℤ-left-comm x k (val p x)) ∙ sym (distrib k c (x *ℤ val p x)))
 
 unfoldable pub times : List ℤ → List ℤ → List ℤ
 unfolding plus scaled
@@ -83,7 +88,9 @@ unfolding val times
 times_value [] q x = sym (zero-*ℤ (val q x))
 times_value (c ∷ p) q x =
     plus_value (scaled c q) (pos 0 ∷ times p q) x
-    ∙ ap₂ (λ (a b : ℤ). a +ℤ b) (scaled_value c q x) (+ℤ_idl (x *ℤ val (times p q) x) ∙ ap (λ (z : ℤ). x *ℤ z) (times_value p q x) ∙ sym (*ℤ-assoc x (val p x) (val q x)))
+    ∙ ap₂ (λ (a b : ℤ). a +ℤ b) (scaled_value c q x)
+    (+ℤ_idl (x *ℤ val (times p q) x) ∙ ap (λ (z : ℤ). x *ℤ z) (times_value p q x)
+    ∙ sym (*ℤ-assoc x (val p x) (val q x)))
     ∙ sym (distrib_r c (x *ℤ val p x) (val q x))
 
 -- p of b
@@ -97,7 +104,8 @@ unfolding val compose
 compose_value [] b x = refl
 compose_value (c ∷ p) b x =
     plus_value (c ∷ []) (times b (compose p b)) x
-    ∙ ap₂ (λ (a b : ℤ). a +ℤ b) (ap (λ (z : ℤ). c +ℤ z) (*ℤ-zero x) ∙ +ℤ_idr c) (times_value b (compose p b) x ∙ ap (λ (z : ℤ). val b x *ℤ z) (compose_value p b x))
+    ∙ ap₂ (λ (a b : ℤ). a +ℤ b) (ap (λ (z : ℤ). c +ℤ z) (*ℤ-zero x) ∙ +ℤ_idr c)
+    (times_value b (compose p b) x ∙ ap (λ (z : ℤ). val b x *ℤ z) (compose_value p b x))
 
 -- ---- the distance of values
 
@@ -119,7 +127,8 @@ apart : (c d x H G : ℤ) (X B : ℕ) → nat_abs x ≤ X → dist H G ≤ B →
 unfolding dist
 apart c d x H G X B h k =
     rw (gather c d x H G)
-    (le_trans (abs_add (c -ℤ d) (x *ℤ (H -ℤ G))) (add-le-add (le_refl (nat_abs (c -ℤ d))) (le_trans (le_of_eq (abs_mul x (H -ℤ G))) (mul-le-mul h k))))
+    (le_trans (abs_add (c -ℤ d) (x *ℤ (H -ℤ G)))
+    (add-le-add (le_refl (nat_abs (c -ℤ d))) (le_trans (le_of_eq (abs_mul x (H -ℤ G))) (mul-le-mul h k))))
   where
     gather : (c d x H G : ℤ) → (c +ℤ x *ℤ H) -ℤ (d +ℤ x *ℤ G) ≡ (c -ℤ d) +ℤ x *ℤ (H -ℤ G)
     gather c d x H G =
@@ -138,7 +147,9 @@ pub values_close : (p q : List ℤ) (x : ℤ) (X : ℕ) → nat_abs x ≤ X → 
 unfolding val gaps bound
 values_close [] [] x X h = le_of_eq (dist_self (pos 0))
 values_close [] (d ∷ q) x X h =
-    subst (λ (z : ℤ). dist z (d +ℤ x *ℤ val q x) ≤ dist (pos 0) d + X * bound (gaps [] q) X) (none x) (apart (pos 0) d x (pos 0) (val q x) X (bound (gaps [] q) X) h (values_close [] q x X h))
+    subst (λ (z : ℤ). dist z (d +ℤ x *ℤ val q x) ≤ dist (pos 0) d + X * bound (gaps [] q) X) (none x)
+    (apart (pos 0) d x (pos 0) (val q x) X (bound (gaps [] q) X) h (values_close [] q x X h))
 values_close (c ∷ p) [] x X h =
-    subst (λ (z : ℤ). dist (c +ℤ x *ℤ val p x) z ≤ dist c (pos 0) + X * bound (gaps p []) X) (none x) (apart c (pos 0) x (val p x) (pos 0) X (bound (gaps p []) X) h (values_close p [] x X h))
+    subst (λ (z : ℤ). dist (c +ℤ x *ℤ val p x) z ≤ dist c (pos 0) + X * bound (gaps p []) X) (none x)
+    (apart c (pos 0) x (val p x) (pos 0) X (bound (gaps p []) X) h (values_close p [] x X h))
 values_close (c ∷ p) (d ∷ q) x X h = apart c d x (val p x) (val q x) X (bound (gaps p q) X) h (values_close p q x X h)

@@ -1,4 +1,5 @@
--- The computed tests. An angle is a whole number of units of 2^-600, fine enough that on a cell the recipe's angle is an integer polynomial.
+-- The computed tests. An angle is a whole number of units of 2^-600, fine enough that on a cell the recipe's angle is
+-- an integer polynomial.
 use mathlib.Core.List.{List, [], ◌∷◌}
 use mathlib.Core.Bool.{Bool, true, false, ◌&&◌}
 use Prim.Native.Nat.{ℕ, zero, suc, ◌+◌, ◌*◌, ◌/◌, ◌^◌}
@@ -13,7 +14,8 @@ use Rattle.series.proofs.Sums.{rising, sin_from, cos_from, sin79, cos79}
 use Rattle.cells.specs.Arc.{first_arc, arcs, quarter_turn, half_turn}
 use Rattle.cells.proofs.Plain.{scaled, times, plus, compose, gaps, bound}
 
--- The recipe's polynomial without cuts, times 2^2753: its angle at a tangent n / 2^64 is the value at n, in units of 2^-62.
+-- The recipe's polynomial without cuts, times 2^2753: its angle at a tangent n / 2^64 is the value at n, in units of
+-- 2^-62.
 unfoldable pub arc_polynomial : List ℤ
 unfolding alternating
 arc_polynomial = pos 0 ∷ alternating 1 (2 ^ 128) [] (first_arc ∷ arcs)
@@ -54,7 +56,8 @@ tail p = leb (bound (gaps p (take 8 p)) reach) (128 * unit24)
 unfoldable pub residual : ℕ → List ℤ → List ℤ → List ℤ → Bool
 unfolding gaps bound unit24 compose scaled times
 residual c s k b =
-    leb (bound (gaps (scaled (pos (2 ^ 64)) (compose s b)) (times (pos c ∷ pos 1 ∷ []) (compose k b))) half) (512 * 2 ^ 64 * unit24)
+    leb (bound (gaps (scaled (pos (2 ^ 64)) (compose s b)) (times (pos c ∷ pos 1 ∷ []) (compose k b))) half)
+    (512 * 2 ^ 64 * unit24)
 
 -- on the cell about c the recipe's angle is a + b (X), to 2^-53
 unfoldable pub angle : ℕ → ℕ → List ℤ → Bool
@@ -102,19 +105,27 @@ cells_from k (suc n) = cell_at k && cells_from (suc k) n
 
 -- all 16, for tangents from 0 to 1, in four declarations
 pub lowest_cells : T (cells_from 0 4)
-unfolding cells_from cell_at cell_of cell angle spans quotients quotient arc_polynomial sine24 cosine24 unit24 tick grade reach tail residual gaps bound compose scaled times plus shift step finer negated alternating factorial sign rising sin_from cos_from sin79 cos79 dist
+unfolding cells_from cell_at cell_of cell angle spans quotients quotient arc_polynomial sine24 cosine24 unit24 tick
+    grade reach tail residual gaps bound compose scaled times plus shift step finer negated alternating factorial sign
+    rising sin_from cos_from sin79 cos79 dist
 lowest_cells = tt
 
 pub lower_cells : T (cells_from 4 4)
-unfolding cells_from cell_at cell_of cell angle spans quotients quotient arc_polynomial sine24 cosine24 unit24 tick grade reach tail residual gaps bound compose scaled times plus shift step finer negated alternating factorial sign rising sin_from cos_from sin79 cos79 dist
+unfolding cells_from cell_at cell_of cell angle spans quotients quotient arc_polynomial sine24 cosine24 unit24 tick
+    grade reach tail residual gaps bound compose scaled times plus shift step finer negated alternating factorial sign
+    rising sin_from cos_from sin79 cos79 dist
 lower_cells = tt
 
 pub upper_cells : T (cells_from 8 4)
-unfolding cells_from cell_at cell_of cell angle spans quotients quotient arc_polynomial sine24 cosine24 unit24 tick grade reach tail residual gaps bound compose scaled times plus shift step finer negated alternating factorial sign rising sin_from cos_from sin79 cos79 dist
+unfolding cells_from cell_at cell_of cell angle spans quotients quotient arc_polynomial sine24 cosine24 unit24 tick
+    grade reach tail residual gaps bound compose scaled times plus shift step finer negated alternating factorial sign
+    rising sin_from cos_from sin79 cos79 dist
 upper_cells = tt
 
 pub highest_cells : T (cells_from 12 4)
-unfolding cells_from cell_at cell_of cell angle spans quotients quotient arc_polynomial sine24 cosine24 unit24 tick grade reach tail residual gaps bound compose scaled times plus shift step finer negated alternating factorial sign rising sin_from cos_from sin79 cos79 dist
+unfolding cells_from cell_at cell_of cell angle spans quotients quotient arc_polynomial sine24 cosine24 unit24 tick
+    grade reach tail residual gaps bound compose scaled times plus shift step finer negated alternating factorial sign
+    rising sin_from cos_from sin79 cos79 dist
 highest_cells = tt
 
 -- ---- the whole sums over angles in units of 2^-600, 79! 2^48000 times as large, and 2^-61 in that scale
@@ -152,11 +163,13 @@ cosine_start = tt
 
 -- a quarter turn on, the sine is the cosine and the cosine is minus the sine
 pub quarter-sine : T (close (shift sine80 (quarter_turn * tick)) cosine80 (4 * 2 ^ 600) 64)
-unfolding close sine80 cosine80 unit80 tick gaps bound shift step finer factorial sign rising sin_from cos_from sin79 cos79 dist
+unfolding close sine80 cosine80 unit80 tick gaps bound shift step finer factorial sign rising sin_from cos_from sin79
+    cos79 dist
 quarter-sine = tt
 
 pub quarter_cosine : T (close (shift cosine80 (quarter_turn * tick)) (negated sine80) (4 * 2 ^ 600) 64)
-unfolding close sine80 cosine80 unit80 tick gaps bound shift step finer negated factorial sign rising sin_from cos_from sin79 cos79 dist
+unfolding close sine80 cosine80 unit80 tick gaps bound shift step finer negated factorial sign rising sin_from cos_from
+    sin79 cos79 dist
 quarter_cosine = tt
 
 -- half a turn on, both change sign

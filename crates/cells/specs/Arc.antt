@@ -1,11 +1,12 @@
--- The fixed-point part of the recipe of atan2: the angle from 0 to an eighth of a turn that has a given tangent. A tangent is a whole number of
--- units of 2^-64, an angle one of units of 2^-62.
--- Method: the angle is the tangent times an alternating polynomial in its square, by Horner's rule with 22 coefficients, each product cut to
--- its upper 64 bits. Error, as the residual sin - tangent × cos of the 40-term sums: below 2^-45 (measured 2^-52).
+-- The fixed-point part of the recipe of atan2: the angle from 0 to an eighth of a turn that has a given tangent. A
+-- tangent is a whole number of units of 2^-64, an angle one of units of 2^-62. Method: the angle is the tangent times
+-- an alternating polynomial in its square, by Horner's rule with 22 coefficients, each product cut to its upper 64
+-- bits. Error, as the residual sin - tangent × cos of the 40-term sums: below 2^-45 (measured 2^-52).
 use Rattle.std.specs.Prelude.{◌≡◌, refl, ℕ, ◌+◌, ◌*◌, ◌/◌, ◌^◌, List, [], ◌∷◌}
 use Rattle.series.specs.Kernel.{mulhi, horner}
 
--- The coefficients in units of 2^-63, about 1 / (2i+1), chosen for the least error from 0 to 1: the first, the twelfth, those after each.
+-- The coefficients in units of 2^-63, about 1 / (2i+1), chosen for the least error from 0 to 1: the first, the twelfth,
+-- those after each.
 abbrev pub first_arc : ℕ
 first_arc = 9223372036854775800
 

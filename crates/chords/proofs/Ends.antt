@@ -1,38 +1,44 @@
--- What `fill_chords` gives, for each head that is needed.
-use mathlib.Core.Path.{◌≡◌, ap, ◌∙◌}
-use mathlib.Core.Bool.{true}
-use mathlib.Core.List.{List}
-use Prim.Native.Nat.{ℕ, ◌/◌, ◌%◌, ◌^◌, ◌<◌}
-use lib.ListN.{take, get_or}
-use lib.Seq.{get_or-take}
+-- What `fill_chords` writes, place by place, and what it gives for each head that is needed.
+use Rattle.std.proofs.Common.{◌≡◌, refl, ap, ◌∙◌, ℕ, zero, suc, ◌/◌, ◌%◌, ◌^◌, ◌<◌, arith, true, List, [], ◌∷◌, length}
+use Rattle.std.proofs.Common.{get_or, lt-ltb}
 use Rattle.lists.specs.Written.{tab}
-use Rattle.lists.proofs.Writing.{get_d_tab}
+use Rattle.lists.proofs.Writing.{get_d_tab, written_none, write_next, written_whole}
 use Rattle.masks.specs.Mask.{in_set}
 use Rattle.geometry.specs.declared.bounds.Bounds.{Bounds}
 use Rattle.geometry.specs.declared.circle.Circle.{Circle}
-use Rattle.intersections.specs.Members.{no_circle}
+use Rattle.intersections.specs.Members.{circle_at}
 use Rattle.intersections.proofs.Masks.{head_below}
 use Rattle.chords.specs.declared.fill.Chord.{Chord}
 use Rattle.chords.specs.declared.fill.Chords.{Chords}
-use Rattle.chords.specs.Chords.{reach_of, low_of, high_of, chord_of, chord_at, no_chord, Chorded}
+use Rattle.chords.specs.declared.edges.BoxEdge.TheVariants.{Bottom, Right, Top, Left}
+use Rattle.chords.specs.Chords.{edge_number, reach_of, chord_of, chord_at, no_chord, Chorded}
+use Rattle.chords.proofs.Heads.{shift_in, shift_out}
 
-module _ (box : Bounds) (circles : List Circle) (n needed : ℕ) (below : needed < 2 ^ n) where
-  -- the heads that are needed are among the first n
-  low_first : (p : ℕ) → in_set needed (p % 10) ≡ true → (chord_at box circles needed p).low ≡ low_of box (take n circles) (p / 10) (p % 10)
-  unfolding chord_at chord_of low_of
-  low_first p i = rw (i, get_or-take n circles (p % 10) no_circle (head_below needed n (p % 10) below i))
+-- the edge at a place is the one of that number
+pub edge_at : (e : ℕ) → e < 4 → edge_number (get_or (Bottom ∷ Right ∷ Top ∷ Left ∷ []) e Bottom) ≡ e
+edge_at zero h = refl
+edge_at (suc zero) h = refl
+edge_at (suc (suc zero)) h = refl
+edge_at (suc (suc (suc zero))) h = refl
+edge_at (suc (suc (suc (suc e)))) h = absurd (omega arith)
 
-  high_first : (p : ℕ) → in_set needed (p % 10) ≡ true → (chord_at box circles needed p).high ≡ high_of box (take n circles) (p / 10) (p % 10)
-  unfolding chord_at chord_of high_of
-  high_first p i = rw (i, get_or-take n circles (p % 10) no_circle (head_below needed n (p % 10) below i))
+-- for one place, and for all
+pub ruleset places = (edge_at, shift_in, shift_out)
 
-  pub filled_chorded : (chords : Chords) → chords.reach ≡ tab (reach_of box (take n circles)) 4
-      → chords.ends ≡ tab (chord_at box circles needed) 40 → Chorded box (take n circles) needed chords
-  filled_chorded chords er ee =
-      record {
-        reaches = λ e h. ap (λ l. get_or l e 0) er ∙ get_d_tab (reach_of box (take n circles)) 4 e 0 h;
-        lows = λ p h i. ap (λ (l : List Chord). (get_or l p no_chord).low) ee
-            ∙ ap (λ (c : Chord). c.low) (get_d_tab (chord_at box circles needed) 40 p no_chord h) ∙ low_first p i;
-        highs = λ p h i. ap (λ (l : List Chord). (get_or l p no_chord).high) ee
-            ∙ ap (λ (c : Chord). c.high) (get_d_tab (chord_at box circles needed) 40 p no_chord h) ∙ high_first p i;
-      }
+pub ruleset filled = (edge_at, written_none, write_next, written_whole)
+
+-- the heads that are needed have circles
+pub filled_chorded : (box : Bounds) (circles : List Circle) (needed : ℕ) → needed < 2 ^ length circles
+    → (chords : Chords) → chords.reach ≡ tab (reach_of box circles) 4
+    → chords.ends ≡ tab (chord_at box circles needed) 40 → Chorded box circles needed chords
+unfolding chord_at
+filled_chorded box circles needed below chords reach ends =
+    record {
+      reaches = λ e h. ap (λ l. get_or l e 0) reach ∙ get_d_tab (reach_of box circles) 4 e 0 h;
+      ends = λ p h i. ap (λ (l : List Chord). get_or l p no_chord) ends
+          ∙ get_d_tab (chord_at box circles needed) 40 p no_chord h ∙ here p i;
+    }
+  where
+    here : (p : ℕ) → in_set needed (p % 10) ≡ true
+        → chord_at box circles needed p ≡ chord_of box (circle_at circles (p % 10)) (p / 10)
+    here p i = rw (i, lt-ltb _ _ (head_below needed (length circles) (p % 10) below i))

@@ -1,3 +1,3 @@
 pub mod Heads
-pub mod Spanning
 pub mod Ends
+pub mod Spanning

@@ -1,16 +1,9 @@
 -- The span of an edge for a set, from the chords of its heads.
-use mathlib.Core.Path.{◌≡◌, refl, sym, ap, ◌∙◌}
-use mathlib.Core.Bool.{Bool, true, false, not, ◌&&◌, ◌||◌, cond}
-use mathlib.Core.List.{List, [], ◌∷◌, ◌++◌, map, map-append, map-map}
-use Prim.Native.Nat.{ℕ, zero, suc, ◌+◌, ◌*◌, ◌/◌, ◌%◌, ◌<◌, ◌≤◌, ◌^◌}
-use native.Mathlib.Nat.{lt_of_lt_of_le}
-use native.Mathlib.Numerals.{add-one}
-use native.Mathlib.Omega.{arith}
-use borrow.Author.Tests.{eq-eqb, ne_eqb}
-use lib.Bits.{bit_and}
-use lib.ListN.{length, get_or}
-use lib.Pow.{pow_mono}
-use lib.Ieee.{Float}
+use Rattle.std.proofs.Common.{◌≡◌, refl, sym, ap, ◌∙◌, ℕ, zero, suc, ◌+◌, ◌*◌, ◌/◌, ◌%◌, ◌<◌, ◌≤◌, ◌^◌, arith, add-one}
+use Rattle.std.proofs.Common.{Bool, true, false, not, ◌&&◌, ◌||◌, cond, List, [], ◌∷◌, ◌++◌, map, length, get_or, Float}
+use Rattle.std.proofs.Common.{bit_and, pow_mono, lt_of_lt_of_le, eq-eqb, ne_eqb}
+use Rattle.std.proofs.Math.Bool.{and-true, or-false}
+use mathlib.Core.List.{map-append, map-map, foldl, foldl-append}
 use Rattle.masks.specs.Mask.{in_set, every, subset, Subset}
 use Rattle.masks.specs.Gather.{in_gather}
 use Rattle.masks.specs.Subset.{and_test, subset_head}
@@ -20,238 +13,187 @@ use Rattle.geometry.specs.declared.circle.Circle.{Circle}
 use Rattle.lists.specs.Lists.{up_to}
 use Rattle.intersections.specs.Members.{heads_of, circle_at}
 use Rattle.intersections.proofs.Masks.{every_cong}
-use Rattle.inside.specs.Span.{Interval, misses, missed, half_chord, raised, lowered, low_end, high_end, open-between, horizontal_span, vertical_span, seen}
+use Rattle.inside.specs.Span.{misses, missed, half_chord, raised, lowered, low_end, high_end, open-between}
+use Rattle.inside.specs.Span.{horizontal_span, vertical_span, seen}
 use Rattle.inside.proofs.Spanning.{seen_level, seen_upright}
 use Rattle.chords.specs.declared.fill.Chords.{Chords}
-use Rattle.chords.specs.Chords.{upright_edge, line_of, reach_of, low_of, high_of, low_to, high_to, span_from, lows_of, highs_of, edge_from, Chorded}
-use Rattle.chords.proofs.Heads.{heads_with, heads_without}
+use Rattle.chords.specs.Chords.{upright_edge, line_of, reach_of, chord_of, no_chord, Chorded}
+use Rattle.chords.specs.Chords.{end_to, span_from, lows_of, highs_of, edge_from}
+use Rattle.chords.proofs.Heads.{heads_with, heads_without, shift_in, shift_out}
+
+-- ---- the heads of a set one after another
 
 module _ (y : Float) where
-  missed_append : (a b : List Circle) → missed y (a ++ b) ≡ (missed y a || missed y b)
+  abbrev low : Circle → Float
+  low c = c.center.x -ᶠ half_chord y c
+
+  abbrev high : Circle → Float
+  high c = c.center.x +ᶠ half_chord y c
+
+  low_folded : (lo : Float) (cs : List Circle) → low_end y lo cs ≡ foldl (λ x c. raised x (low c)) lo cs
+  unfolding low_end
+  low_folded lo [] = refl
+  low_folded lo (c ∷ cs) = low_folded (raised lo (low c)) cs
+
+  high_folded : (hi : Float) (cs : List Circle) → high_end y hi cs ≡ foldl (λ x c. lowered x (high c)) hi cs
+  unfolding high_end
+  high_folded hi [] = refl
+  high_folded hi (c ∷ cs) = high_folded (lowered hi (high c)) cs
+
+  -- one circle more
+  reached_push : (cs : List Circle) (c : Circle)
+      → not (missed y (cs ++ c ∷ [])) ≡ (not (missed y cs) && not (misses y c))
   unfolding missed
-  missed_append [] b = refl
-  missed_append (c ∷ a) b = by (misses y c) (missed_append a b)
+  reached_push [] c = ap not (or-false (misses y c))
+  reached_push (d ∷ cs) c = by (misses y d) (reached_push cs c)
     where
-      by : (t : Bool) → missed y (a ++ b) ≡ (missed y a || missed y b) → (t || missed y (a ++ b)) ≡ ((t || missed y a) || missed y b)
+      by : (t : Bool) → not (missed y (cs ++ c ∷ [])) ≡ (not (missed y cs) && not (misses y c))
+          → not (t || missed y (cs ++ c ∷ [])) ≡ (not (t || missed y cs) && not (misses y c))
       by true r = refl
       by false r = r
 
-  low_append : (lo : Float) (a b : List Circle) → low_end y lo (a ++ b) ≡ low_end y (low_end y lo a) b
-  unfolding low_end
-  low_append lo [] b = refl
-  low_append lo (c ∷ a) b = low_append (raised lo (c.center.x -ᶠ half_chord y c)) a b
+module _ (circ : ℕ → Circle) (S : ℕ) where
+  abbrev own : ℕ → List Circle
+  own n = map circ (heads_of n S)
 
-  high_append : (hi : Float) (a b : List Circle) → high_end y hi (a ++ b) ≡ high_end y (high_end y hi a) b
-  unfolding high_end
-  high_append hi [] b = refl
-  high_append hi (c ∷ a) b = high_append (lowered hi (c.center.x +ᶠ half_chord y c)) a b
+  next : (n : ℕ) → in_set S n ≡ true → own (suc n) ≡ own n ++ circ n ∷ []
+  next n e = ap (map circ) (heads_with S n e) ∙ map-append circ (heads_of n S) (n ∷ [])
 
-  module _ (circ : ℕ → Circle) (S : ℕ) where
-    next : (n : ℕ) → in_set S n ≡ true → map circ (heads_of (suc n) S) ≡ map circ (heads_of n S) ++ (circ n ∷ [])
-    next n e = ap (map circ) (heads_with S n e) ∙ map-append circ (heads_of n S) (n ∷ [])
+  skip : (n : ℕ) → in_set S n ≡ false → own (suc n) ≡ own n
+  skip n e = ap (map circ) (heads_without S n e)
 
-    none : map circ (heads_of 0 S) ≡ []
-    unfolding heads_of up_to
-    none = refl
+  -- the heads of S below n reach the line
+  abbrev reach : Float → ℕ → Bool
+  reach y n = every n (λ l. not (in_set S l) || not (misses y (circ l)))
 
-    missed_one : (c : Circle) → missed y (c ∷ []) ≡ misses y c
-    unfolding missed
-    missed_one c = or-false (misses y c)
+  reached_heads : (y : Float) (n : ℕ) → not (missed y (own n)) ≡ reach y n
+  unfolding every missed heads_of up_to
+  reached_heads y zero = refl
+  reached_heads y (suc n) = by (in_set S n) refl (reached_heads y n)
+    where
+      by : (b : Bool) → in_set S n ≡ b → not (missed y (own n)) ≡ reach y n
+          → not (missed y (own (suc n))) ≡ (reach y n && (not b || not (misses y (circ n))))
+      by true e r = rw (next n e, reached_push y (own n) (circ n), r)
+      by false e r = rw (skip n e, r) (sym (and-true _))
+
+  -- an end, from chords that are right for the heads of S
+  module _ (move : Float → Float → Float) (at : Circle → Float) (ends : ℕ → Float) (x : Float) where
+    abbrev moved : ℕ → Float
+    moved n = foldl (λ x c. move x (at c)) x (own n)
+
+    end_heads : (n : ℕ) → ((l : ℕ) → l < n → in_set S l ≡ true → ends l ≡ at (circ l))
+        → moved n ≡ end_to move ends S x n
+    unfolding end_to heads_of up_to
+    end_heads zero h = refl
+    end_heads (suc n) h = by (in_set S n) refl (end_heads n (λ l k. h l (omega arith)))
       where
-        or-false : (a : Bool) → (a || false) ≡ a
-        or-false true = refl
-        or-false false = refl
-
-    missed_none : not (missed y []) ≡ true
-    unfolding missed
-    missed_none = refl
-
-    missed_heads : (n : ℕ) → not (missed y (map circ (heads_of n S))) ≡ every n (λ l. not (in_set S l) || not (misses y (circ l)))
-    unfolding every
-    missed_heads zero = ap (λ l. not (missed y l)) none ∙ missed_none
-    missed_heads (suc n) = by (in_set S n) refl (missed_heads n)
-      where
-        turned : (a b : Bool) → not (a || b) ≡ (not a && not b)
-        turned true b = refl
-        turned false b = refl
-
-        all : (a : Bool) → (a && true) ≡ a
-        all true = refl
-        all false = refl
-
-        by : (b : Bool) → in_set S n ≡ b → not (missed y (map circ (heads_of n S))) ≡ every n (λ l. not (in_set S l) || not (misses y (circ l)))
-            → not (missed y (map circ (heads_of (suc n) S))) ≡ (every n (λ l. not (in_set S l) || not (misses y (circ l))) && (not b || not (misses y (circ n))))
-        by true e r =
-            ap (λ l. not (missed y l)) (next n e)
-            ∙ ap not (missed_append (map circ (heads_of n S)) (circ n ∷ []))
-            ∙ turned (missed y (map circ (heads_of n S))) (missed y (circ n ∷ []))
-            ∙ ap (λ t. not (missed y (map circ (heads_of n S))) && not t) (missed_one (circ n))
-            ∙ ap (λ t. t && not (misses y (circ n))) r
-        by false e r = ap (λ l. not (missed y (map circ l))) (heads_without S n e) ∙ r ∙ sym (all (every n (λ l. not (in_set S l) || not (misses y (circ l)))))
-
-    low_one : (lo : Float) (c : Circle) → low_end y lo (c ∷ []) ≡ raised lo (c.center.x -ᶠ half_chord y c)
-    unfolding low_end
-    low_one lo c = refl
-
-    high_one : (hi : Float) (c : Circle) → high_end y hi (c ∷ []) ≡ lowered hi (c.center.x +ᶠ half_chord y c)
-    unfolding high_end
-    high_one hi c = refl
-
-    low_none : (lo : Float) → low_end y lo [] ≡ lo
-    unfolding low_end
-    low_none lo = refl
-
-    high_none : (hi : Float) → high_end y hi [] ≡ hi
-    unfolding high_end
-    high_none hi = refl
-
-    -- the ends, from chords that are right for the heads of S
-    low_heads : (low : ℕ → Float) (lo : Float) (n : ℕ) → ((l : ℕ) → l < n → in_set S l ≡ true → low l ≡ (circ l).center.x -ᶠ half_chord y (circ l))
-        → low_end y lo (map circ (heads_of n S)) ≡ low_to low S lo n
-    unfolding low_to
-    low_heads low lo zero h = ap (low_end y lo) none ∙ low_none lo
-    low_heads low lo (suc n) h = by (in_set S n) refl (low_heads low lo n (λ l k. h l (omega arith)))
-      where
-        by : (b : Bool) → in_set S n ≡ b → low_end y lo (map circ (heads_of n S)) ≡ low_to low S lo n
-            → low_end y lo (map circ (heads_of (suc n) S)) ≡ cond b (raised (low_to low S lo n) (low n)) (low_to low S lo n)
-        by true e r =
-            ap (low_end y lo) (next n e) ∙ low_append lo (map circ (heads_of n S)) (circ n ∷ []) ∙ low_one (low_end y lo (map circ (heads_of n S))) (circ n)
-            ∙ ap (λ t. raised t ((circ n).center.x -ᶠ half_chord y (circ n))) r ∙ ap (raised (low_to low S lo n)) (sym (h n (omega arith) e))
-        by false e r = ap (λ l. low_end y lo (map circ l)) (heads_without S n e) ∙ r
-
-    high_heads : (high : ℕ → Float) (hi : Float) (n : ℕ) → ((l : ℕ) → l < n → in_set S l ≡ true → high l ≡ (circ l).center.x +ᶠ half_chord y (circ l))
-        → high_end y hi (map circ (heads_of n S)) ≡ high_to high S hi n
-    unfolding high_to
-    high_heads high hi zero h = ap (high_end y hi) none ∙ high_none hi
-    high_heads high hi (suc n) h = by (in_set S n) refl (high_heads high hi n (λ l k. h l (omega arith)))
-      where
-        by : (b : Bool) → in_set S n ≡ b → high_end y hi (map circ (heads_of n S)) ≡ high_to high S hi n
-            → high_end y hi (map circ (heads_of (suc n) S)) ≡ cond b (lowered (high_to high S hi n) (high n)) (high_to high S hi n)
-        by true e r =
-            ap (high_end y hi) (next n e) ∙ high_append hi (map circ (heads_of n S)) (circ n ∷ []) ∙ high_one (high_end y hi (map circ (heads_of n S))) (circ n)
-            ∙ ap (λ t. lowered t ((circ n).center.x +ᶠ half_chord y (circ n))) r ∙ ap (lowered (high_to high S hi n)) (sym (h n (omega arith) e))
-        by false e r = ap (λ l. high_end y hi (map circ l)) (heads_without S n e) ∙ r
+        by : (b : Bool) → in_set S n ≡ b → moved n ≡ end_to move ends S x n
+            → moved (suc n) ≡ cond b (move (end_to move ends S x n) (ends n)) (end_to move ends S x n)
+        by true e r = rw (next n e, foldl-append (λ x c. move x (at c)) x (own n) (circ n ∷ []), r, h n (omega arith) e)
+        by false e r = rw (skip n e) r
 
 -- ---- the span of an edge, from what the arrays hold
 
-module _ (box : Bounds) (circles : List Circle) (n S : ℕ) (chords : Chords)
-    (many : length circles ≡ n) (few : n ≤ 10) (below : S < 2 ^ n) (held : Chorded box circles S chords) where
-  abbrev own : List Circle
-  own = map (circle_at circles) (heads_of (length circles) S)
+module _ (box : Bounds) (circles : List Circle) (S : ℕ) (chords : Chords)
+    (few : length circles ≤ 10) (below : S < 2 ^ length circles) (held : Chorded box circles S chords) where
+  abbrev n : ℕ
+  n = length circles
+
+  abbrev heads : List Circle
+  heads = map (circle_at circles) (heads_of (length circles) S)
 
   module _ (e : ℕ) (edge : e < 4) (from to : Float) where
     abbrev y : Float
     y = line_of box e
 
-    abbrev upright : Bool
-    upright = upright_edge e
-
     abbrev circ : ℕ → Circle
     circ l = seen (upright_edge e) (circle_at circles l)
 
-    abbrev lows : ℕ → Float
-    lows = lows_of chords e
-
-    abbrev highs : ℕ → Float
-    highs = highs_of chords e
-
-    reach_is : every (length circles) (λ l. not (in_set S l) || not (misses y (circ l))) ≡ subset (length circles) S (get_or chords.reach e 0)
+    reach_is : not (missed y (own circ S n)) ≡ subset 64 S (get_or chords.reach e 0)
     unfolding reach_of
     reach_is =
-        rw (held.reaches e edge)
-        (every_cong (length circles) _ _
-        (λ i k. ap (λ b. not (in_set S i) || b) (sym (in_gather (length circles) (λ l. not (misses y (circ l))) i k))))
+        let wide = lt_of_lt_of_le below (pow_mono {i = n} {j = 64} (omega (arith, few))) in
+        reached_heads circ S y n
+        ∙ every_cong n _ _ (λ i k.
+        ap (λ b. not (in_set S i) || b) (sym (in_gather n (λ l. not (misses y (circ l))) i k)))
+        ∙ rw (← held.reaches e edge) (sym (and_test n S _ below) ∙ and_test 64 S _ wide)
 
-    -- the heads of S are below n, so that the test is the same at any greater width
-    wider : (U : ℕ) → subset (length circles) S U ≡ subset 64 S U
-    wider U = sym (and_test (length circles) S U (rw many below)) ∙ and_test 64 S U (lt_of_lt_of_le below (pow_mono {i = n} {j = 64} (omega (arith, few))))
+    chord_is : (l : ℕ) → l < n → in_set S l ≡ true
+        → get_or chords.ends (e * 10 + l) no_chord ≡ chord_of box (circle_at circles l) e
+    chord_is l h i =
+        let q : (e * 10 + l) / 10 ≡ e = omega (arith, few) in
+        let r : (e * 10 + l) % 10 ≡ l = omega (arith, few) in
+        rw (q, r) at (held.ends (e * 10 + l) (omega (arith, few)) (rw r i))
 
-    low_is : (l : ℕ) → l < length circles → in_set S l ≡ true → lows l ≡ (circ l).center.x -ᶠ half_chord y (circ l)
-    unfolding low_of
-    low_is l h i =
-        let q : (e * 10 + l) / 10 ≡ e = omega (arith, many, few) in
-        let r : (e * 10 + l) % 10 ≡ l = omega (arith, many, few) in
-        rw (q, r) at (held.lows (e * 10 + l) (omega (arith, many, few)) (rw r i))
-
-    high_is : (l : ℕ) → l < length circles → in_set S l ≡ true → highs l ≡ (circ l).center.x +ᶠ half_chord y (circ l)
-    unfolding high_of
-    high_is l h i =
-        let q : (e * 10 + l) / 10 ≡ e = omega (arith, many, few) in
-        let r : (e * 10 + l) % 10 ≡ l = omega (arith, many, few) in
-        rw (q, r) at (held.highs (e * 10 + l) (omega (arith, many, few)) (rw r i))
-
-    chosen : (m : Bool) (a b : List Interval) → cond m a b ≡ cond (not m) b a
+    chosen : {A : Type 0} (m : Bool) (a b : A) → cond m a b ≡ cond (not m) b a
     chosen true a b = refl
     chosen false a b = refl
 
     -- as the edge sees the circles of the set
-    span_is : horizontal_span y from to (map (seen upright) own) ≡ span_from (length circles) (get_or chords.reach e 0) lows highs S from to
-    unfolding horizontal_span span_from
+    span_is : edge_from n chords S e from to ≡ horizontal_span y from to (map (seen (upright_edge e)) heads)
+    unfolding horizontal_span span_from chord_of
     span_is =
-        rw (map-map (seen upright) (circle_at circles) (heads_of (length circles) S))
-        (chosen (missed y (map circ (heads_of (length circles) S))) [] _
-        ∙ rw (
-          missed_heads y circ S (length circles),
-          reach_is ∙ wider (get_or chords.reach e 0),
-          low_heads y circ S lows from (length circles) low_is,
-          high_heads y circ S highs to (length circles) high_is,
-        ))
+        let cs = own circ S n in
+        sym (rw (map-map (seen (upright_edge e)) (circle_at circles) (heads_of n S)) (chosen (missed y cs) [] _ ∙ rw (
+          reach_is,
+          low_folded y from cs,
+          high_folded y to cs,
+          end_heads circ S raised (low y) (lows_of chords e) from n (λ l h i. ap (λ c. c.low) (chord_is l h i)),
+          end_heads circ S lowered (high y) (highs_of chords e) to n (λ l h i. ap (λ c. c.high) (chord_is l h i)),
+        )))
 
   -- the four edges
-  pub bottom : edge_from (length circles) chords S 0 box.x_min box.x_max ≡ horizontal_span box.y_min box.x_min box.x_max own
+  pub bottom : edge_from n chords S 0 box.x_min box.x_max ≡ horizontal_span box.y_min box.x_min box.x_max heads
   unfolding upright_edge line_of
   bottom =
-      sym (span_is 0 (omega arith) box.x_min box.x_max) ∙ ap (horizontal_span box.y_min box.x_min box.x_max) (seen_level own)
+      span_is 0 (omega arith) box.x_min box.x_max
+      ∙ ap (horizontal_span box.y_min box.x_min box.x_max) (seen_level heads)
 
-  pub right : edge_from (length circles) chords S 1 box.y_min box.y_max ≡ vertical_span box.x_max box.y_min box.y_max own
+  pub right : edge_from n chords S 1 box.y_min box.y_max ≡ vertical_span box.x_max box.y_min box.y_max heads
   unfolding upright_edge line_of
-  right = sym (span_is 1 (omega arith) box.y_min box.y_max) ∙ seen_upright box.x_max box.y_min box.y_max own
+  right = span_is 1 (omega arith) box.y_min box.y_max ∙ seen_upright box.x_max box.y_min box.y_max heads
 
-  pub top : edge_from (length circles) chords S 2 box.x_min box.x_max ≡ horizontal_span box.y_max box.x_min box.x_max own
+  pub top : edge_from n chords S 2 box.x_min box.x_max ≡ horizontal_span box.y_max box.x_min box.x_max heads
   unfolding upright_edge line_of
   top =
-      sym (span_is 2 (omega arith) box.x_min box.x_max) ∙ ap (horizontal_span box.y_max box.x_min box.x_max) (seen_level own)
+      span_is 2 (omega arith) box.x_min box.x_max
+      ∙ ap (horizontal_span box.y_max box.x_min box.x_max) (seen_level heads)
 
-  pub left : edge_from (length circles) chords S 3 box.y_min box.y_max ≡ vertical_span box.x_min box.y_min box.y_max own
+  pub left : edge_from n chords S 3 box.y_min box.y_max ≡ vertical_span box.x_min box.y_min box.y_max heads
   unfolding upright_edge line_of
-  left = sym (span_is 3 (omega arith) box.y_min box.y_max) ∙ seen_upright box.x_min box.y_min box.y_max own
+  left = span_is 3 (omega arith) box.y_min box.y_max ∙ seen_upright box.x_min box.y_min box.y_max heads
 
 -- ---- for the loop over the heads
 
--- the ends after the heads below l
-pub record EndsTo (low high : ℕ → Float) (S : ℕ) (from to lo hi : Float) (l : ℕ) : Type 0 where
-  pub lo_is : lo ≡ low_to low S from l
-  pub hi_is : hi ≡ high_to high S to l
+module _ (move : Float → Float → Float) (ends : ℕ → Float) (S : ℕ) (x : Float) where
+  pub ends_start : end_to move ends S x 0 ≡ x
+  unfolding end_to
+  ends_start = refl
 
-module _ (low high : ℕ → Float) (S : ℕ) (from to : Float) where
-  pub ends_start : EndsTo low high S from to from to 0
-  unfolding low_to high_to
-  ends_start = record { lo_is = refl; hi_is = refl }
+  module _ (l : ℕ) where
+    pub ends_in : in_set S l ≡ true → end_to move ends S x (l + 1) ≡ move (end_to move ends S x l) (ends l)
+    unfolding end_to
+    ends_in e = rw (add-one l, e)
 
-  module _ {lo hi : Float} {l : ℕ} (so_far : EndsTo low high S from to lo hi l) where
-    pub ends_in : (lo' hi' : Float) → in_set S l ≡ true → lo' ≡ raised lo (low l) → hi' ≡ lowered hi (high l) → EndsTo low high S from to lo' hi' (l + 1)
-    unfolding low_to high_to
-    ends_in lo' hi' e el eh = record { lo_is = el ∙ rw (add-one l, e, so_far.lo_is); hi_is = eh ∙ rw (add-one l, e, so_far.hi_is) }
+    pub ends_out : in_set S l ≡ false → end_to move ends S x (l + 1) ≡ end_to move ends S x l
+    unfolding end_to
+    ends_out e = rw (add-one l, e)
 
-    pub ends_out : in_set S l ≡ false → EndsTo low high S from to lo hi (l + 1)
-    unfolding low_to high_to
-    ends_out e = record { lo_is = so_far.lo_is ∙ rw (add-one l, e); hi_is = so_far.hi_is ∙ rw (add-one l, e) }
-
-    -- the span
-    pub span_open : (reach : ℕ) → S < 2 ^ 64 → bit_and S reach ≡ S → open-between lo hi ≡ span_from l reach low high S from to
-    unfolding span_from
-    span_open reach fits all = rw (sym (and_test 64 S reach fits) ∙ eq-eqb (bit_and S reach) S all, sym so_far.lo_is, sym so_far.hi_is)
-
-  pub span_missed : (n reach : ℕ) → S < 2 ^ 64 → (bit_and S reach ≡ S → ⊥) → [] ≡ span_from n reach low high S from to
+-- the span
+module _ (n reach : ℕ) (low high : ℕ → Float) (S : ℕ) (from to : Float) (fits : S < 2 ^ 64) where
+  pub span_open : bit_and S reach ≡ S
+      → span_from n reach low high S from to ≡ open-between (end_to raised low S from n) (end_to lowered high S to n)
   unfolding span_from
-  span_missed n reach fits e = rw (sym (and_test 64 S reach fits) ∙ ne_eqb (bit_and S reach) S e)
+  span_open all = rw (sym (and_test 64 S reach fits) ∙ eq-eqb (bit_and S reach) S all)
+
+  pub span_missed : (bit_and S reach ≡ S → ⊥) → span_from n reach low high S from to ≡ []
+  unfolding span_from
+  span_missed e = rw (sym (and_test 64 S reach fits) ∙ ne_eqb (bit_and S reach) S e)
+
+pub ruleset heads_in_turn = (ends_start, ends_in, ends_out, span_open, span_missed, shift_in, shift_out)
 
 -- fewer heads are asked for
 pub chorded_less : {box : Bounds} {circles : List Circle} {needed : ℕ} {chords : Chords} (S : ℕ) → Subset S needed
     → Chorded box circles needed chords → Chorded box circles S chords
 chorded_less {needed = needed} S within held =
-    record {
-      reaches = held.reaches;
-      lows = λ p h i. held.lows p h (subset_head S needed within (p % 10) i);
-      highs = λ p h i. held.highs p h (subset_head S needed within (p % 10) i);
-    }
+    record { reaches = held.reaches; ends = λ p h i. held.ends p h (subset_head S needed within (p % 10) i) }

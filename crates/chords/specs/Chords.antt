@@ -1,5 +1,6 @@
 -- The spans of the box's edges for a set, from the chords that each head cuts from each edge.
-use Rattle.std.specs.Prelude.{ℕ, zero, suc, ◌+◌, ◌*◌, ◌/◌, ◌%◌, ◌<◌, Bool, true, not, cond, ◌≡◌, List, [], eqb, length, get_or, Float}
+use Rattle.std.specs.Prelude.{ℕ, zero, suc, ◌+◌, ◌*◌, ◌/◌, ◌%◌, ◌<◌, Bool, true, not, ◌&&◌, cond, ◌≡◌, List, []}
+use Rattle.std.specs.Prelude.{eqb, ltb, length, get_or, Float}
 use Rattle.std.specs.Float.{nan}
 use Rattle.masks.specs.Mask.{in_set, subset, gather}
 use Rattle.binary64.specs.Constants.{zero64}
@@ -28,20 +29,13 @@ upright_edge e = eqb (e % 2) 1
 unfoldable pub line_of : Bounds → ℕ → Float
 line_of box e = cond (eqb e 0) box.y_min (cond (eqb e 1) box.x_max (cond (eqb e 2) box.y_max box.x_min))
 
--- the heads that reach edge e, and the ends of head l's chord there
+-- the heads that reach edge e
 unfoldable pub reach_of : Bounds → List Circle → ℕ → ℕ
 unfolding gather misses seen upright_edge line_of
-reach_of box circles e = gather (length circles) (λ l. not (misses (line_of box e) (seen (upright_edge e) (circle_at circles l))))
+reach_of box circles e =
+    gather (length circles) (λ l. not (misses (line_of box e) (seen (upright_edge e) (circle_at circles l))))
 
-unfoldable pub low_of : Bounds → List Circle → ℕ → ℕ → Float
-unfolding half_chord seen upright_edge line_of
-low_of box circles e l = let c = seen (upright_edge e) (circle_at circles l) in c.center.x -ᶠ half_chord (line_of box e) c
-
-unfoldable pub high_of : Bounds → List Circle → ℕ → ℕ → Float
-unfolding half_chord seen upright_edge line_of
-high_of box circles e l = let c = seen (upright_edge e) (circle_at circles l) in c.center.x +ᶠ half_chord (line_of box e) c
-
--- both, of a circle
+-- the chord that a circle cuts from edge e
 unfoldable pub chord_of : Bounds → Circle → ℕ → Chord
 unfolding half_chord seen upright_edge line_of
 chord_of box circle e =
@@ -49,29 +43,34 @@ chord_of box circle e =
     let half = half_chord (line_of box e) c in
     record { low = c.center.x -ᶠ half; high = c.center.x +ᶠ half }
 
--- place p, of ten an edge: the chord of head p % 10 with edge p / 10 if the head is needed, else 0 for both ends
+-- place p, of ten an edge: the chord of head p % 10 with edge p / 10 if the head is needed and has a circle, else 0 for
+-- both ends
 unfoldable pub chord_at : Bounds → List Circle → ℕ → ℕ → Chord
 unfolding chord_of
 chord_at box circles needed p =
-    cond (in_set needed (p % 10)) (chord_of box (circle_at circles (p % 10)) (p / 10)) (record { low = zero64; high = zero64 })
+    let l = p % 10 in
+    cond (in_set needed l && ltb l (length circles)) (chord_of box (circle_at circles l) (p / 10))
+    (record { low = zero64; high = zero64 })
 
 -- ---- the spans for a set
 
--- the low end raised to the low ends of the heads of S below n, and the high end lowered
-unfoldable pub low_to : (ℕ → Float) → ℕ → Float → ℕ → Float
-unfolding raised
-low_to low S lo zero = lo
-low_to low S lo (suc l) = cond (in_set S l) (raised (low_to low S lo l) (low l)) (low_to low S lo l)
+-- an end moved to those of the heads of S below n, in turn
+unfoldable pub end_to : (Float → Float → Float) → (ℕ → Float) → ℕ → Float → ℕ → Float
+end_to move ends S x zero = x
+end_to move ends S x (suc l) = cond (in_set S l) (move (end_to move ends S x l) (ends l)) (end_to move ends S x l)
 
-unfoldable pub high_to : (ℕ → Float) → ℕ → Float → ℕ → Float
-unfolding lowered
-high_to high S hi zero = hi
-high_to high S hi (suc l) = cond (in_set S l) (lowered (high_to high S hi l) (high l)) (high_to high S hi l)
+-- the low end raised to their low ends, and the high end lowered
+abbrev pub low_to : (ℕ → Float) → ℕ → Float → ℕ → Float
+low_to = end_to raised
+
+abbrev pub high_to : (ℕ → Float) → ℕ → Float → ℕ → Float
+high_to = end_to lowered
 
 -- the span for S, from the mask of those that reach the edge and the ends of their chords
 unfoldable pub span_from : ℕ → ℕ → (ℕ → Float) → (ℕ → Float) → ℕ → Float → Float → List Interval
-unfolding low_to high_to open-between
-span_from n reach low high S from to = cond (subset 64 S reach) (open-between (low_to low S from n) (high_to high S to n)) []
+unfolding end_to open-between
+span_from n reach low high S from to =
+    cond (subset 64 S reach) (open-between (low_to low S from n) (high_to high S to n)) []
 
 -- what no place holds
 abbrev pub no_chord : Chord
@@ -91,5 +90,5 @@ edge_from n chords S e = span_from n (get_or chords.reach e 0) (lows_of chords e
 -- What is held for the heads of `needed`.
 pub record Chorded (box : Bounds) (circles : List Circle) (needed : ℕ) (chords : Chords) : Type 0 where
   pub reaches : (e : ℕ) → e < 4 → get_or chords.reach e 0 ≡ reach_of box circles e
-  pub lows : (p : ℕ) → p < 40 → in_set needed (p % 10) ≡ true → (get_or chords.ends p no_chord).low ≡ low_of box circles (p / 10) (p % 10)
-  pub highs : (p : ℕ) → p < 40 → in_set needed (p % 10) ≡ true → (get_or chords.ends p no_chord).high ≡ high_of box circles (p / 10) (p % 10)
+  pub ends : (p : ℕ) → p < 40 → in_set needed (p % 10) ≡ true
+      → get_or chords.ends p no_chord ≡ chord_of box (circle_at circles (p % 10)) (p / 10)

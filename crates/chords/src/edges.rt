@@ -30,6 +30,7 @@ impl BoxEdge {
     }
 
     // Whether the edge is vertical.
+    #[tactic(auto, unfolding(crate::specs::Chords::upright_edge))]
     pub(crate) fn is_upright(self) -> bool
         ensures { result ≡ upright_edge (edge_number self) }
     {
@@ -37,6 +38,7 @@ impl BoxEdge {
     }
 
     // Where the edge is: the x of a vertical one, the y of a horizontal one.
+    #[tactic(auto, unfolding(crate::specs::Chords::line_of))]
     pub(crate) fn line(self, bounds: Bounds) -> f64
         ensures { result ≡ line_of bounds (edge_number self) }
     {

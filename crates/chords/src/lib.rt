@@ -1,4 +1,5 @@
-// The chords that the heads cut from the edges of the box, worked out once for all sets, and the span of an edge for a set from them.
+// The chords that the heads cut from the edges of the box, worked out once for all sets, and the span of an edge for a
+// set from them.
 #![tactic(auto)]
 
 pub mod edges;

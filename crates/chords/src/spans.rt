@@ -8,6 +8,7 @@ use crate::fill::Chords;
 use inside::span::{Span, lowered, open_between, raised};
 
 // The span of an edge from `from` to `to` for a set of the first n_sets heads.
+#[tactic(auto, using(crate::proofs::Spanning::heads_in_turn))]
 pub fn chord_span(
     chords: &Chords,
     mask: usize,

@@ -1,31 +1,24 @@
--- The area of a set inside the box, with and without its gradient, from the sum over its arcs.
-use mathlib.Core.Path.{◌≡◌, sym, ◌∙◌}
+-- The area of a set inside the box with its gradient, from the sum over its arcs; the circles of a set of heads, and
+-- the integral of one arc.
+use mathlib.Core.Path.{◌≡◌}
 use mathlib.Core.Bool.{true, false}
 use mathlib.Core.List.{List}
-use Prim.Native.Nat.{ℕ, ◌*◌}
+use Prim.Native.Nat.{◌*◌, ◌<◌}
+use borrow.Author.Tests.{lt-ltb}
 use lib.ListN.{length, length-map}
 use lib.Ieee.{Float}
 use Rattle.binary64.specs.Constants.{zero64, half64}
 use Rattle.binary64.specs.Floats.{◌*ᶠ◌}
 use Rattle.geometry.specs.declared.bounds.Bounds.{Bounds}
 use Rattle.geometry.specs.declared.circle.Circle.{Circle}
-use Rattle.intersections.specs.Members.{Member, circles_of}
-use Rattle.boundary.specs.Outline.{outline}
+use Rattle.intersections.specs.Heads.{members_with_heads, circles_with_heads}
 use Rattle.boundary.specs.declared.arcs.BoundaryArc.{BoundaryArc}
-use Rattle.clip.specs.Gradient.{WithGradient, with_gradient, add_clipped_arcs_with_gradient, add_edges_with_gradient, clipped_with_gradient, clipped_onto}
-use Rattle.clip.specs.Area.{empty_box, add_clipped_arcs, add_edges, clipped_area_of, clipped_area}
-
-module _ (box : Bounds) (ms : List Member) where
-  -- a box with no inside
-  pub area_of_nothing : empty_box box ≡ true → zero64 ≡ clipped_area box ms
-  unfolding clipped_area clipped_area_of
-  area_of_nothing e = rw e
-
-  -- the sum over the arcs, and the edges
-  pub area_by_sum : (cs : List Circle) (total : Float) → empty_box box ≡ false → cs ≡ circles_of ms → total ≡ add_clipped_arcs box cs zero64 (outline ms)
-      → half64 *ᶠ add_edges box cs total ≡ clipped_area box ms
-  unfolding clipped_area clipped_area_of
-  area_by_sum cs total e ec et = rw (et, ec, e)
+use Rattle.outline.proofs.Walking.{circles_of_members}
+use Rattle.inside.proofs.Breaking.{pairs_next, pairs_none}
+use Rattle.clip.specs.Gradient.{WithGradient, with_gradient, add_clipped_arcs_with_gradient, add_edges_with_gradient}
+use Rattle.clip.specs.Gradient.{clipped_arc_integral_with_gradient, clipped_with_gradient}
+use Rattle.clip.specs.Arc.{head_arc_integral_with_gradient}
+use Rattle.clip.specs.Area.{empty_box}
 
 module _ (box : Bounds) (all own : List Circle) (arcs : List BoundaryArc) (g : List Float) where
   -- a box with no inside: the gradient stays
@@ -35,22 +28,23 @@ module _ (box : Bounds) (all own : List Circle) (arcs : List BoundaryArc) (g : L
 
   -- the sum over the arcs, and the edges
   pub gradient_by_sum : (s : WithGradient) → empty_box box ≡ false
-      → s ≡ add_edges_with_gradient box own (length all * 3) (add_clipped_arcs_with_gradient box all (with_gradient zero64 g) arcs)
+      → s ≡ add_edges_with_gradient box own (length all * 3)
+      (add_clipped_arcs_with_gradient box all (with_gradient zero64 g) arcs)
       → with_gradient (half64 *ᶠ s.sum) s.grad ≡ clipped_with_gradient box all own arcs g
   unfolding clipped_with_gradient
   gradient_by_sum s e es = rw (es, e)
 
--- of the members of a set, whose circles and number are given
-pub gradient_of_members : (box : Bounds) (ms : List Member) (g : List Float) (cs : List Circle) (n : ℕ) (s t : WithGradient)
-    → empty_box box ≡ false → cs ≡ circles_of ms → n ≡ length ms
-    → t ≡ add_clipped_arcs_with_gradient box cs (with_gradient zero64 g) (outline ms)
-    → s ≡ add_edges_with_gradient box cs (n * 3) t
-    → with_gradient (half64 *ᶠ s.sum) s.grad ≡ clipped_onto box ms g
-unfolding clipped_onto
-gradient_of_members box ms g cs n s t e ec en et es =
-    gradient_by_sum box (circles_of ms) (circles_of ms) (outline ms) g s e
-    (es ∙ rw (et, ec, en, sym (length-map ms (λ m. m.circle))))
+-- ---- the circles of a set of heads
 
-pub gradient_of_members_nothing : (box : Bounds) (ms : List Member) (g : List Float) → empty_box box ≡ true → with_gradient zero64 g ≡ clipped_onto box ms g
-unfolding clipped_onto
-gradient_of_members_nothing box ms g e = gradient_of_nothing box (circles_of ms) (circles_of ms) (outline ms) g e
+pub ruleset of_heads = (circles_of_members, members_with_heads, circles_with_heads, length-map)
+
+-- ---- arcs
+
+-- the pairs of neighbours, one after another
+pub ruleset parts = (pairs_next, pairs_none)
+
+-- the integral of an arc of one of ten heads
+pub ten : (box : Bounds) (c : Circle) (arc : BoundaryArc) (g : List Float) → arc.circle < 10
+    → head_arc_integral_with_gradient box c arc g ≡ clipped_arc_integral_with_gradient box c arc g
+unfolding head_arc_integral_with_gradient
+ten box c arc g below = rw (lt-ltb arc.circle 10 below)

@@ -19,7 +19,8 @@ empty_box box = (box.x_max ≤ᶠ box.x_min) || (box.y_max ≤ᶠ box.y_min)
 -- one arc, added to a sum; an arc of no circle of the list adds nothing
 unfoldable pub add_clipped_arc : Bounds → List Circle → Float → BoundaryArc → Float
 unfolding clipped_arc_integral
-add_clipped_arc box cs total arc = cond (ltb arc.circle (length cs)) (total +ᶠ clipped_arc_integral box (get_or cs arc.circle no_circle) arc) total
+add_clipped_arc box cs total arc =
+    cond (ltb arc.circle (length cs)) (total +ᶠ clipped_arc_integral box (get_or cs arc.circle no_circle) arc) total
 
 -- the arcs one after another, onto a sum
 abbrev pub add_clipped_arcs : Bounds → List Circle → Float → List BoundaryArc → Float
@@ -41,7 +42,8 @@ add_edges box cs total =
 -- The area in the box of the set whose circles are `own`. The arcs of its outline name circles of `all`.
 unfoldable pub clipped_area_of : Bounds → List Circle → List Circle → List BoundaryArc → Float
 unfolding empty_box add_clipped_arc add_edges
-clipped_area_of box all own arcs = cond (empty_box box) zero64 (half64 *ᶠ add_edges box own (add_clipped_arcs box all zero64 arcs))
+clipped_area_of box all own arcs =
+    cond (empty_box box) zero64 (half64 *ᶠ add_edges box own (add_clipped_arcs box all zero64 arcs))
 
 -- the area that the members water together inside the box: a function of the members and the box
 unfoldable pub clipped_area : Bounds → List Member → Float

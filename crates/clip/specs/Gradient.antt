@@ -1,5 +1,6 @@
--- The area of a set inside the box together with its gradient: x, y and radius of each circle in turn, then centre x, centre y
--- and the two size parameters of the box. The area is summed from the differences of sines and cosines, as the Rust does here, and not as in specs/Area.antt.
+-- The area of a set inside the box together with its gradient: x, y and radius of each circle in turn, then centre x,
+-- centre y and the two size parameters of the box. The area is summed from the differences of sines and cosines, as the
+-- Rust does here, and not as in specs/Area.antt.
 use Rattle.std.specs.Prelude.{ℕ, ◌+◌, ◌*◌, Bool, true, false, cond, ltb, length, get_or, replicate, Float}
 use mathlib.Core.List.{List, [], ◌∷◌, foldl}
 use Rattle.std.specs.Float.Ieee.{neg}
@@ -42,7 +43,8 @@ sub_arc_by_differences c s-diff c-diff delta =
 
 -- one part's share of the gradient, in the three entries of its circle from `off` on
 unfoldable pub part_slopes : ℕ → Float → Float → Float → Float → List Float → List Float
-part_slopes off r s-diff c-diff delta g = add_at (sub_at (add_at g off (r *ᶠ s-diff)) (off + 1) (r *ᶠ c-diff)) (off + 2) (r *ᶠ delta)
+part_slopes off r s-diff c-diff delta g =
+    add_at (sub_at (add_at g off (r *ᶠ s-diff)) (off + 1) (r *ᶠ c-diff)) (off + 2) (r *ᶠ delta)
 
 -- One part: its integral and its share of the gradient, from the sine and cosine of its two ends and its length.
 unfoldable pub sub_arc_with_gradient : Circle → ℕ → Float → Float → Float → Float → Float → WithGradient → WithGradient
@@ -61,7 +63,8 @@ add_part_with_gradient box c off s a b =
 -- the integral along the parts of an arc in the box, with the gradient added to one
 unfoldable pub clipped_arc_integral_with_gradient : Bounds → Circle → BoundaryArc → List Float → WithGradient
 unfolding over_pairs add_part_with_gradient breaks
-clipped_arc_integral_with_gradient box c arc g = over_pairs (add_part_with_gradient box c (arc.circle * 3)) (with_gradient zero64 g) (breaks box c arc)
+clipped_arc_integral_with_gradient box c arc g =
+    over_pairs (add_part_with_gradient box c (arc.circle * 3)) (with_gradient zero64 g) (breaks box c arc)
 
 -- a number added to the sum
 abbrev pub onto : Float → WithGradient → WithGradient
@@ -71,7 +74,10 @@ onto total s = with_gradient (total +ᶠ s.sum) s.grad
 unfoldable pub add_clipped_arc_with_gradient : Bounds → List Circle → WithGradient → BoundaryArc → WithGradient
 unfolding clipped_arc_integral_with_gradient
 add_clipped_arc_with_gradient box cs s arc =
-    cond (ltb arc.circle (length cs)) (onto s.sum (clipped_arc_integral_with_gradient box (get_or cs arc.circle no_circle) arc s.grad)) s
+    cond
+    (ltb arc.circle (length cs))
+    (onto s.sum (clipped_arc_integral_with_gradient box (get_or cs arc.circle no_circle) arc s.grad))
+    s
 
 abbrev pub add_clipped_arcs_with_gradient : Bounds → List Circle → WithGradient → List BoundaryArc → WithGradient
 add_clipped_arcs_with_gradient box cs = foldl (add_clipped_arc_with_gradient box cs)
@@ -122,15 +128,16 @@ add_edges_with_gradient box cs at s =
 
 -- ---- a set
 
--- The area in the box of the set whose circles are `own`, with its gradient added to g. The arcs of its outline name circles
--- of `all`; the box's entries come after those of `all`.
+-- The area in the box of the set whose circles are `own`, with its gradient added to g. The arcs of its outline name
+-- circles of `all`; the box's entries come after those of `all`.
 unfoldable pub clipped_with_gradient : Bounds → List Circle → List Circle → List BoundaryArc → List Float → WithGradient
 unfolding empty_box add_clipped_arc_with_gradient add_edges_with_gradient
 clipped_with_gradient box all own arcs g =
     cond
     (empty_box box)
     (with_gradient zero64 g)
-    (let s = add_edges_with_gradient box own (length all * 3) (add_clipped_arcs_with_gradient box all (with_gradient zero64 g) arcs) in
+    (let along = add_clipped_arcs_with_gradient box all (with_gradient zero64 g) arcs in
+    let s = add_edges_with_gradient box own (length all * 3) along in
     with_gradient (half64 *ᶠ s.sum) s.grad)
 
 -- Of the members of a set, onto a gradient by position: three entries a member, then the box's four.

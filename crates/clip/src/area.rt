@@ -1,23 +1,24 @@
 // The area of a set inside the box: of a list of arcs, and of a set. Rests on specs/Area.antt.
-ghost use Rattle.std.specs.Prelude.{◌≡◌, map, take, length};
+ghost use Rattle.std.specs.Prelude.{◌≡◌, map, length};
 ghost use Rattle.binary64.specs.Constants.{zero64};
 ghost use Rattle.intersections.specs.Members.{heads_of, circle_at, members_of};
-ghost use Rattle.intersections.specs.Counted.{point_list, circle_list};
-ghost use Rattle.boundary.specs.Counted.{arc_list};
+ghost use Rattle.intersections.specs.Heads.{circle_list};
 ghost use Rattle.inside.specs.Span.{spans};
-ghost use Rattle.clip.specs.Area.{empty_box, add_clipped_arc, add_clipped_arcs, add_span, add_edges, clipped_area_of, clipped_area};
+ghost use Rattle.clip.specs.Area.{empty_box, add_clipped_arc, add_clipped_arcs, add_span, add_edges};
+ghost use Rattle.clip.specs.Area.{clipped_area_of, clipped_area};
 
 use crate::edges::edge_spans;
-use boundary::arcs::{Arcs, BoundaryArc};
+use boundary::arcs::BoundaryArc;
 use boundary::walk::outline_of;
 use geometry::bounds::Bounds;
-use geometry::circle::Circle;
+use geometry::circle::{Circle, Circles};
 use inside::parts::clipped_arc_integral;
 use inside::span::Span;
-use intersections::members::{Members, members_of};
-use intersections::points::Intersections;
+use intersections::members::{HeadCircle, circles_of, members_of};
+use intersections::points::IntersectionPoint;
 
 // Whether the box has no inside.
+#[tactic(auto, unfolding(crate::specs::Area::empty_box))]
 pub fn empty_box(bounds: Bounds) -> bool
     ensures { result ≡ empty_box bounds }
 {
@@ -25,6 +26,7 @@ pub fn empty_box(bounds: Bounds) -> bool
 }
 
 // An arc's integral in the box, added to a sum; one of no circle adds nothing.
+#[tactic(auto, unfolding(crate::specs::Area::add_clipped_arc))]
 fn add_clipped_arc(total: f64, bounds: Bounds, circles: &[Circle], arc: BoundaryArc) -> f64
     ensures { result ≡ add_clipped_arc bounds circles.now total arc }
 {
@@ -45,8 +47,9 @@ pub fn add_span(factor: f64, total: f64, span: Span) -> f64
 }
 
 // The spans of the four edges, counterclockwise from the bottom, added.
-fn add_edges(total: f64, bounds: Bounds, set: Members) -> f64
-    ensures { result ≡ add_edges bounds (circle_list set) total }
+#[tactic(auto, unfolding(crate::specs::Area::add_edges))]
+fn add_edges(total: f64, bounds: Bounds, set: &[HeadCircle]) -> f64
+    ensures { result ≡ add_edges bounds (circle_list set.now) total }
 {
     let on = edge_spans(bounds, set);
     let with_bottom = add_span(-bounds.y_min, total, on.bottom);
@@ -66,45 +69,38 @@ fn arcs_sum(arcs: &[BoundaryArc], bounds: Bounds, circles: &[Circle]) -> f64
 }
 
 // The area in the box of the set `mask`, whose arcs are given.
+#[tactic(auto, using(crate::proofs::Rows::of_heads), unfolding(crate::specs::Area::clipped_area_of))]
 pub fn area_from_clipped_arcs(
-    arcs: Arcs,
-    circles: [Circle; 10],
+    arcs: &[BoundaryArc],
+    circles: &Circles,
     bounds: Bounds,
     mask: usize,
-    n_sets: usize,
 ) -> f64
-    ensures { result ≡ clipped_area_of bounds (take n_sets circles) (map (circle_at (take n_sets circles)) (heads_of (length (take n_sets circles)) mask)) (arc_list arcs) }
+    ensures { let all = circles.now.items in
+        result ≡ clipped_area_of bounds all (map (circle_at all) (heads_of (length all) mask)) arcs.now }
 {
     if empty_box(bounds) {
         return 0.0;
     }
-    let total = arcs_sum(
-        &arcs.all[..arcs.n.min(180)],
-        bounds,
-        &circles[..n_sets.min(10)],
-    );
-    0.5 * add_edges(total, bounds, members_of(mask, circles, n_sets))
+    let total = arcs_sum(arcs, bounds, circles);
+    0.5 * add_edges(total, bounds, &members_of(mask, circles))
 }
 
 // The area that the heads of a set water together inside the box.
+#[tactic(auto, using(crate::proofs::Rows::of_heads), unfolding(crate::specs::Area::clipped_area))]
 pub fn clipped_region_area(
     mask: usize,
-    circles: [Circle; 10],
-    points: Intersections,
-    n_sets: usize,
+    circles: &Circles,
+    points: &[IntersectionPoint],
     bounds: Bounds,
 ) -> f64
-    ensures { result ≡ clipped_area bounds (members_of (take n_sets circles) (point_list points) mask) }
+    ensures { result ≡ clipped_area bounds (members_of circles.now.items points.now mask) }
 {
     if empty_box(bounds) {
         return 0.0;
     }
-    let set = members_of(mask, circles, n_sets);
-    let arcs = outline_of(mask, set, points);
-    let total = arcs_sum(
-        &arcs.all[..arcs.n.min(320)],
-        bounds,
-        &set.circles[..set.n.min(10)],
-    );
-    0.5 * add_edges(total, bounds, set)
+    let set = members_of(mask, circles);
+    let arcs = outline_of(mask, &set, points);
+    let total = arcs_sum(&arcs, bounds, &circles_of(&set));
+    0.5 * add_edges(total, bounds, &set)
 }

@@ -1,13 +1,16 @@
-// The spans of the four edges of the box, and their sum together with their shares of the gradient. Rests on specs/Gradient.antt.
-ghost use Rattle.std.specs.Prelude.{◌≡◌, min, ◌*◌, ◌≤◌};
-ghost use Rattle.intersections.specs.Counted.{circle_list};
+// The spans of the four edges of the box, and their sum together with their shares of the gradient.
+// Rests on specs/Gradient.antt.
+ghost use Rattle.std.specs.Prelude.{◌≡◌, min, ◌*◌};
+ghost use Rattle.intersections.specs.Heads.{circle_list};
 ghost use Rattle.inside.specs.Span.{spans, horizontal_span, vertical_span};
-ghost use Rattle.clip.specs.Gradient.{with_gradient, so_far, moved, edge_slopes, add_span_with_gradient, bottom_edge, right_edge, top_edge, left_edge, add_edges_with_gradient};
+ghost use Rattle.clip.specs.Gradient.{with_gradient, so_far, moved, edge_slopes, add_span_with_gradient};
+ghost use Rattle.clip.specs.Gradient.{bottom_edge, right_edge, top_edge, left_edge, add_edges_with_gradient};
 
+use crate::place::Place;
 use crate::slopes::Sum;
 use geometry::bounds::Bounds;
 use inside::span::{Span, horizontal_edge_inside_interval, vertical_edge_inside_interval};
-use intersections::members::Members;
+use intersections::members::HeadCircle;
 use outline::gradient::{add_at, sub_at};
 
 // The span of each edge of the box.
@@ -20,27 +23,22 @@ pub(crate) struct EdgeSpans {
 }
 
 // The spans of the four edges for a set.
-pub(crate) fn edge_spans(bounds: Bounds, set: Members) -> EdgeSpans
-    ensures bottom { spans result.bottom ≡ horizontal_span bounds.y_min bounds.x_min bounds.x_max (circle_list set) }
-    ensures right { spans result.right ≡ vertical_span bounds.x_max bounds.y_min bounds.y_max (circle_list set) }
-    ensures top { spans result.top ≡ horizontal_span bounds.y_max bounds.x_min bounds.x_max (circle_list set) }
-    ensures left { spans result.left ≡ vertical_span bounds.x_min bounds.y_min bounds.y_max (circle_list set) }
+pub(crate) fn edge_spans(bounds: Bounds, set: &[HeadCircle]) -> EdgeSpans
+    ensures bottom { spans result.bottom
+        ≡ horizontal_span bounds.y_min bounds.x_min bounds.x_max (circle_list set.now) }
+    ensures right { spans result.right ≡ vertical_span bounds.x_max bounds.y_min bounds.y_max (circle_list set.now) }
+    ensures top { spans result.top ≡ horizontal_span bounds.y_max bounds.x_min bounds.x_max (circle_list set.now) }
+    ensures left { spans result.left ≡ vertical_span bounds.x_min bounds.y_min bounds.y_max (circle_list set.now) }
 {
-    let Bounds {
-        x_min,
-        x_max,
-        y_min,
-        y_max,
-    } = bounds;
     EdgeSpans {
-        bottom: horizontal_edge_inside_interval(y_min, x_min, x_max, set),
-        right: vertical_edge_inside_interval(x_max, y_min, y_max, set),
-        top: horizontal_edge_inside_interval(y_max, x_min, x_max, set),
-        left: vertical_edge_inside_interval(x_min, y_min, y_max, set),
+        bottom: horizontal_edge_inside_interval(bounds.y_min, bounds.x_min, bounds.x_max, set),
+        right: vertical_edge_inside_interval(bounds.x_max, bounds.y_min, bounds.y_max, set),
+        top: horizontal_edge_inside_interval(bounds.y_max, bounds.x_min, bounds.x_max, set),
+        left: vertical_edge_inside_interval(bounds.x_min, bounds.y_min, bounds.y_max, set),
     }
 }
 
-// x added to entry i, or taken from it.
+// x added to entry i, or taken from it. The flag is a sign, with no value beside it.
 fn moved(grad: &mut [f64], added: bool, i: usize, x: f64)
     ensures { grad.new ≡ moved added grad.old i x }
 {
@@ -51,8 +49,8 @@ fn moved(grad: &mut [f64], added: bool, i: usize, x: f64)
     }
 }
 
-// An edge of the box: whether it is vertical, whether its outward side is that of greater x or y, the factor of its length in
-// the area, and the box's side across it.
+// An edge of the box: whether it is vertical, whether its outward side is that of greater x or y, the factor of its
+// length in the area, and the box's side across it. The flags are an axis and a direction, with no value beside them.
 #[derive(Clone, Copy)]
 pub struct Edge {
     pub upright: bool,
@@ -62,10 +60,11 @@ pub struct Edge {
 }
 
 // The share of a span of length l in the box's four entries.
-fn edge_slopes(grad: &mut [f64], edge: Edge, at: usize, l: f64)
-    requires { at ≤ 30 }
-    ensures { grad.new ≡ edge_slopes edge at l grad.old }
+#[tactic(auto, unfolding(crate::specs::Gradient::edge_slopes))]
+fn edge_slopes(grad: &mut [f64], edge: Edge, place: Place, l: f64)
+    ensures { grad.new ≡ edge_slopes edge place.at l grad.old }
 {
+    let at = place.at;
     let along = if edge.upright { at } else { at + 1 };
     let share = edge.across / 4.0 * l;
     moved(grad, edge.outward, along, l);
@@ -75,38 +74,40 @@ fn edge_slopes(grad: &mut [f64], edge: Edge, at: usize, l: f64)
 
 impl Sum<'_> {
     // The span of an edge, added.
-    fn add_span(&mut self, edge: Edge, at: usize, span: Span)
-        requires { at ≤ 30 }
+    #[tactic(auto, unfolding(crate::specs::Gradient::add_span_with_gradient))]
+    fn add_span(&mut self, edge: Edge, place: Place, span: Span)
         ensures same_reference { self.new.grad.ghost_name ≡ self.old.grad.ghost_name }
-        ensures added { so_far self.new ≡ add_span_with_gradient edge at (so_far self.old) (spans span) }
+        ensures added { so_far self.new ≡ add_span_with_gradient edge place.at (so_far self.old) (spans span) }
     {
         if let Span::Ends(lo, hi) = span {
             let l = hi - lo;
-            edge_slopes(self.grad, edge, at, l);
+            edge_slopes(self.grad, edge, place, l);
             self.total += edge.factor * l;
         }
     }
 
     // The spans of the four edges, counterclockwise from the bottom, added.
-    pub(crate) fn add_edges(&mut self, bounds: Bounds, set: Members, at: usize)
-        requires { at ≤ 30 }
+    #[tactic(auto, unfolding(crate::specs::Gradient::add_edges_with_gradient))]
+    pub(crate) fn add_edges(&mut self, bounds: Bounds, set: &[HeadCircle], place: Place)
         ensures same_reference { self.new.grad.ghost_name ≡ self.old.grad.ghost_name }
-        ensures added { so_far self.new ≡ add_edges_with_gradient bounds (circle_list set) at (so_far self.old) }
+        ensures added { so_far self.new
+            ≡ add_edges_with_gradient bounds (circle_list set.now) place.at (so_far self.old) }
     {
         let on = edge_spans(bounds, set);
-        self.add_span(bottom_edge(bounds), at, on.bottom);
-        self.add_span(right_edge(bounds), at, on.right);
-        self.add_span(top_edge(bounds), at, on.top);
-        self.add_span(left_edge(bounds), at, on.left);
+        self.add_span(bottom_edge(bounds), place, on.bottom);
+        self.add_span(right_edge(bounds), place, on.right);
+        self.add_span(top_edge(bounds), place, on.top);
+        self.add_span(left_edge(bounds), place, on.left);
     }
 }
 
 // The span of an edge, added: the box's four entries after three a head of n, of which at most ten count.
 pub fn add_edge_with_gradient(total: f64, grad: &mut [f64], edge: Edge, n: usize, span: Span) -> f64
-    ensures { with_gradient result grad.new ≡ add_span_with_gradient edge (min n 10 * 3) (with_gradient total grad.old) (spans span) }
+    ensures { with_gradient result grad.new
+        ≡ add_span_with_gradient edge (min n 10 * 3) (with_gradient total grad.old) (spans span) }
 {
     let mut sum = Sum { total, grad };
-    sum.add_span(edge, n.min(10) * 3, span);
+    sum.add_span(edge, Place::after(n), span);
     sum.total
 }
 

@@ -1,5 +1,5 @@
--- What the calls under the Rust's names leave in lent slices: of circles alone, and of circles in a box. Taken, rows 0 to 2^n - 1 are written;
--- refused, by 2 for n above 10 and by 7 for tables too short, nothing is.
+-- What the calls under the Rust's names leave in lent slices: of circles alone, and of circles in a box. Taken, rows 0
+-- to 2^n - 1 are written; refused, by 2 for n above 10 and by 7 for tables too short, nothing is.
 use Rattle.std.specs.Prelude.{ℕ, min, cond, List, eqb, Float, length, Result}
 use Rattle.masks.specs.Presence.{stands}
 use Rattle.geometry.specs.declared.circle.Circle.{Circle}
@@ -18,13 +18,15 @@ abbrev pub open_diagram : List Circle → Rows
 open_diagram circles = open_rows circles (collected circles) (stands (set_bytes circles (collected circles)))
 
 abbrev pub clipped_diagram : Rectangle → List Circle → Rows
-clipped_diagram box circles = clipped_rows circles (collected circles) (stands (set_bytes circles (collected circles))) box
+clipped_diagram box circles =
+    clipped_rows circles (collected circles) (stands (set_bytes circles (collected circles))) box
 
 abbrev pub open_with_gradients : List Circle → Slopes
 open_with_gradients circles = open_slopes circles (collected circles) (stands (set_bytes circles (collected circles)))
 
 abbrev pub clipped_with_gradients : Rectangle → List Circle → Slopes
-clipped_with_gradients box circles = clipped_slopes circles (collected circles) (stands (set_bytes circles (collected circles))) box
+clipped_with_gradients box circles =
+    clipped_slopes circles (collected circles) (stands (set_bytes circles (collected circles))) box
 
 -- ---- presence bytes and exclusives in two slices
 

@@ -1,5 +1,5 @@
--- The rows of a diagram, and their exclusives with and without gradients. Whether there is a box, which masks are sets, and what the row of a
--- set is are handed in: any list of sets, any areas.
+-- The rows of a diagram, and their exclusives with and without gradients. Whether there is a box, which masks are sets,
+-- and what the row of a set is are handed in: any list of sets, any areas.
 use Rattle.std.specs.Prelude.{ℕ, zero, suc, ◌*◌, ◌/◌, ◌%◌, ◌^◌, Bool, cond, List, Float, get_or, replicate}
 use Rattle.std.specs.Float.{nan}
 use Rattle.lists.specs.Written.{written}
@@ -9,7 +9,8 @@ use Rattle.sums.specs.Presence.{among}
 use Rattle.exclusive.specs.Exclusive.{exclusive_row}
 use Rattle.exclusive_gradients.specs.Gradient.{unless_replaced, exclusive_with_gradient}
 
--- The rows before anything is subtracted: row 0, "always present where there is a box", has the box's area; the row of a set has the set's.
+-- The rows before anything is subtracted: row 0, "always present where there is a box", has the box's area; the row of
+-- a set has the set's.
 pub record Rows : Type 0 where
   pub has_box : Bool
   pub box_area : Float

@@ -1,34 +1,71 @@
-// What the rows of a diagram are worked out from: circles, their meeting points, and the box where there is one.
-ghost use Rattle.std.specs.Prelude.{◌≡◌};
+// What the rows of a diagram are worked out from: circles, their meeting points, and the box where there is one. Rests
+// on specs/Drawing.antt.
+ghost use Rattle.std.specs.Prelude.{◌≡◌, ◌<◌, MatchResult, length};
+ghost use Rattle.sets.specs.Regions.{set_bytes};
 ghost use Rattle.diagram.specs.Drawing as spec;
 
-use geometry::circle::Circle;
-use geometry::point::Point;
+use exclusive::areas::RowsError;
+use geometry::bounds::Bounds;
+use geometry::circle::{Circle, Circles};
 use geometry::rectangle::Rectangle;
+use intersections::collect::collect_intersections;
 use intersections::points::Intersections;
+use sets::discover::discover_regions;
 
-// `boxed`: the rows are those in the box `container`; without it `container` is not looked at. `points`: the meeting points of the first n circles.
-#[derive(Clone, Copy)]
+// Circles with their meeting points, and the box that they are clipped to where there is one.
+#[derive(Drop)]
 pub struct Drawing {
-    pub boxed: bool,
-    pub n: usize,
-    pub circles: [Circle; 10],
+    pub circles: Circles,
     pub points: Intersections,
-    pub container: Rectangle,
+    pub container: Option<Rectangle>,
 }
 
-// What stands for the box where there is none: nothing looks at it.
-pub(crate) fn no_box() -> Rectangle {
-    Rectangle::new(Point::new(0.0, 0.0), 0.0, 0.0)
+impl Drawing {
+    // The circles drawn: more than ten are refused.
+    pub(crate) fn of(circles: &[Circle], container: Option<Rectangle>) -> Result<Drawing, RowsError>
+        ensures { MatchResult result (λ d. spec.Of circles.now container d)
+            (λ e. (e ≡ RowsError.TooManyHeads) × (10 < length circles.now)) }
+    {
+        let Ok(circles) = Circles::try_from(circles) else {
+            return Err(RowsError::TooManyHeads);
+        };
+        let points = collect_intersections(&circles);
+        Ok(Drawing {
+            circles,
+            points,
+            container,
+        })
+    }
+
+    // Which masks are among its sets.
+    pub(crate) fn sets(&self) -> [u8; 1024]
+        ensures { result ≡ set_bytes (spec.circles_of self.now) (spec.points_of self.now) }
+    {
+        discover_regions(&self.circles, &self.points)
+    }
+
+    // Where the edges of the box lie.
+    pub(crate) fn bounds(&self) -> Option<Bounds>
+        ensures { result ≡ spec.bounds_of self.now }
+    {
+        self.container.map(Rectangle::bounds)
+    }
+
+    // The area of the box.
+    pub(crate) fn box_area(&self) -> f64
+        ensures { result ≡ spec.box_area_of self.now }
+    {
+        self.container.map_or(0.0, Rectangle::area)
+    }
 }
 
 // How many numbers a gradient has: three a head, and the box's four.
-pub fn width_of(drawing: Drawing) -> usize
-    ensures { result ≡ spec.width_of drawing }
+pub fn width_of(drawing: &Drawing) -> usize
+    ensures { result ≡ spec.width_of drawing.now }
 {
-    let heads = drawing.n.min(10);
-    if drawing.boxed {
-        return heads * 3 + 4;
+    let heads = drawing.circles.len();
+    match drawing.container {
+        Some(_) => heads * 3 + 4,
+        None => 3 * heads,
     }
-    3 * heads
 }

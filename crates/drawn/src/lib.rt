@@ -1,21 +1,23 @@
-// A plan drawn: its heads as circles and its ground as a box, of f64. Rests on the plan of `plan` and the circle of a head of `exact`.
+// A plan drawn: its heads as circles and its ground as a box, of f64. Rests on the plan of `plan` and the circle of a
+// head of `exact`.
 #![tactic(auto)]
 
-ghost use Rattle.std.specs.Prelude.{◌≡◌, map};
-ghost use Rattle.exact.specs.Circle.{circle_of};
-ghost use Rattle.drawn.specs.Drawn.{box_of};
+ghost use Rattle.std.specs.Prelude.{◌≡◌};
+ghost use Rattle.drawn.specs.Drawn.{plan_circles, box_of};
 
 use exact::circle_of;
-use geometry::circle::Circle;
+use geometry::circle::Circles;
 use geometry::point::Point;
 use geometry::rectangle::Rectangle;
 use plan::{Ground, Plan};
 
-// The circles of all ten heads; the first n of them are the plan's.
-pub fn circles_of(plan: Plan) -> [Circle; 10]
-    ensures { result ≡ map circle_of plan.heads }
+// The circles of a plan's heads, by head number.
+pub fn circles_of(plan: Plan) -> Circles
+    ensures { result.items ≡ plan_circles plan }
 {
-    plan.heads.map(circle_of)
+    let mut circles = Circles::from(plan.heads.map(circle_of));
+    circles.truncate(plan.n);
+    circles
 }
 
 // The box of a plan: each of its whole numbers is an f64 as it stands.

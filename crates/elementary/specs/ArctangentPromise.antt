@@ -1,7 +1,8 @@
--- What atan2 is worth, in document 01's words: "not both zero: an angle t of magnitude at most the f64 `PI`, with |x×S - y×C| ≤ 2^-40 × (|x|+|y|)
--- and x×C + y×S > 0, where S and C are those 40-term sums at t. Zero signs follow IEEE 754"; "promised for magnitudes up to 2^20"; outside +0.
--- The proof is proofs/arctangent/Promise.antt.
-use Rattle.std.specs.Prelude.{◌≡◌, ℕ, suc, ◌+◌, ◌*◌, ◌^◌, ◌<◌, ◌≤◌, true, false, cond, T, pos, ◌-ℤ◌, ◌*ℤ◌, unsigned_abs, refl, Float}
+-- What atan2 is worth, in document 01's words: "not both zero: an angle t of magnitude at most the f64 `PI`, with |x×S
+-- - y×C| ≤ 2^-40 × (|x|+|y|) and x×C + y×S > 0, where S and C are those 40-term sums at t. Zero signs follow IEEE 754";
+-- "promised for magnitudes up to 2^20"; outside +0. The proof is proofs/arctangent/Promise.antt.
+use Rattle.std.specs.Prelude.{◌≡◌, ℕ, suc, ◌+◌, ◌*◌, ◌^◌, ◌<◌, ◌≤◌, true}
+use Rattle.std.specs.Prelude.{false, cond, T, pos, ◌-ℤ◌, ◌*ℤ◌, unsigned_abs, refl, Float}
 use Rattle.std.specs.Float.{binary64}
 use Rattle.std.specs.Float.Ieee.{fits, of_bits, neg, round}
 use Rattle.binary64.specs.Units.{Finite, mag, negative, signed_zero}
@@ -41,7 +42,8 @@ Positive f = (n : ℕ) × (f.num ≡ pos (suc n))
 
 -- ---- the promise
 
--- Magnitudes up to 2^20, not both zero. (`Most j 1074 x`: x is finite and |x| ≤ j, since 1 is 2^1074 units of the smallest float.)
+-- Magnitudes up to 2^20, not both zero. (`Most j 1074 x`: x is finite and |x| ≤ j, since 1 is 2^1074 units of the
+-- smallest float.)
 pub record Domain (y x : Float) : Type 0 where
   pub x_size : Most 1048576 1074 x
   pub y_size : Most 1048576 1074 y
@@ -54,7 +56,8 @@ pub record UpToPi (t : Float) : Type 0 where
 
 -- t is the angle of the point (x, y).
 pub record Angle (y x t : Float) : Type 0 where
-  pub residual : AtMost (exact x ⊛ sin40 (exact t) ⊝ exact y ⊛ cos40 (exact t)) (2^-40 ⊛ (size (exact x) ⊹ size (exact y)))
+  pub residual : AtMost (exact x ⊛ sin40 (exact t) ⊝ exact y ⊛ cos40 (exact t))
+      (2^-40 ⊛ (size (exact x) ⊹ size (exact y)))
   pub ahead : Positive (exact x ⊛ cos40 (exact t) ⊹ exact y ⊛ sin40 (exact t))
   pub within : UpToPi t
 
@@ -72,19 +75,22 @@ with_sign y t = cond (negative y) (neg t) t
 
 pub record Atan2Promise : Type 0 where
   pub angle : (y x : Float) → Domain y x → Angle y x (atan2 y x)
-  -- "Zero signs follow IEEE 754": the sign bit of every answer is y's, also where the angle is too small to be told from 0
+  -- "Zero signs follow IEEE 754": the sign bit of every answer is y's, also where the angle is too small to be told
+  -- from 0
   pub sign : (y x : Float) → Domain y x → negative (atan2 y x) ≡ negative y
   pub outside : (y x : Float) → T (fits binary64 y) → T (fits binary64 x) → (Domain y x → ⊥) → atan2 y x ≡ zero64
   -- whatever a program hands it
   pub always : (y x : Float) → T (fits binary64 y) → T (fits binary64 x) → UpToPi (atan2 y x)
-  -- IEEE 754's zeros, y's sign on each: atan2(±0, x) is ±0 for x above zero and ±PI for x below zero; atan2(y, ±0) is ±PI/2 for y not zero
+  -- IEEE 754's zeros, y's sign on each: atan2(±0, x) is ±0 for x above zero and ±PI for x below zero; atan2(y, ±0) is
+  -- ±PI/2 for y not zero
   pub right : (y x : Float) → Domain y x → mag y ≡ 0 → negative x ≡ false → atan2 y x ≡ signed_zero (negative y)
   pub left : (y x : Float) → Domain y x → mag y ≡ 0 → negative x ≡ true → atan2 y x ≡ with_sign y pi
   pub upright : (y x : Float) → Domain y x → mag x ≡ 0 → atan2 y x ≡ with_sign y half_pi
 
 -- ---- acos and asin
 
--- f c is atan2 of y c and x c for c from -1 to 1, and so the angle of that point; +0 outside; finite and at most PI in magnitude everywhere.
+-- f c is atan2 of y c and x c for c from -1 to 1, and so the angle of that point; +0 outside; finite and at most PI in
+-- magnitude everywhere.
 pub record InversePromise (f y x : Float → Float) : Type 0 where
   pub is : (c : Float) → Most 1 1074 c → f c ≡ atan2 (y c) (x c)
   pub angle : (c : Float) → Most 1 1074 c → Angle (y c) (x c) (f c)

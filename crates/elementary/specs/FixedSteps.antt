@@ -1,4 +1,5 @@
--- What Horner's rule gives on a list of coefficients that goes from the highest power to the constant. No public contract rests on this.
+-- What Horner's rule gives on a list of coefficients that goes from the highest power to the constant. No public
+-- contract rests on this.
 use Rattle.std.specs.Prelude.{◌≡◌, ℕ, ◌-◌, ◌/◌, ◌^◌, Bool, true, ◌&&◌, leb, List, [], ◌∷◌, reverse}
 use Rattle.std.specs.List.{fold}
 use Rattle.std.proofs.Common.{ap, ◌∙◌}

@@ -6,9 +6,10 @@ use Rattle.binary64.specs.Constants.{zero64}
 use Rattle.binary64.specs.Units.{one, mag, negative, Finite}
 use Rattle.elementary.specs.Root.{root}
 
--- r is the float nearest to the root of x, and no other float is as near. Let x, r and another float u be so many units: the exact root is that
--- of x * one, and u is farther from it than r if the root lies on r's side of the middle (u + r) / 2. So (u + r)² is compared with four times
--- x * one. The two are never equal: there is no tie to break. (A float below zero is farther than its magnitude.)
+-- r is the float nearest to the root of x, and no other float is as near. Let x, r and another float u be so many
+-- units: the exact root is that of x * one, and u is farther from it than r if the root lies on r's side of the middle
+-- (u + r) / 2. So (u + r)² is compared with four times x * one. The two are never equal: there is no tie to break. (A
+-- float below zero is farther than its magnitude.)
 pub record Nearest (x r : Float) : Type 0 where
   pub finite : Finite r
   pub sign : negative r ≡ false

@@ -1,5 +1,5 @@
--- The recipe of sine and cosine, step by step: the float v is cut to a whole number of units of 2^-59, the sine is worked out in whole numbers
--- (crate series, Kernel), and made a float. So the bits of every answer are fixed.
+-- The recipe of sine and cosine, step by step: the float v is cut to a whole number of units of 2^-59, the sine is
+-- worked out in whole numbers (crate series, Kernel), and made a float. So the bits of every answer are fixed.
 use Rattle.std.specs.Prelude.{◌≡◌, ℕ, ◌+◌, ◌^◌, Bool, false, cond, pos, refl, Float}
 use Rattle.std.specs.Float.{binary64}
 use Rattle.std.specs.Float.Ieee.{of_bits, neg, mul, lt, le, round, of_int, to_unsigned, unlike}
@@ -19,7 +19,8 @@ sine_scale = of_bits binary64 0x3C20000000000000
 
 -- These are their bits.
 pub constants_are :
-    (sixteen ≡ round binary64 false 16 1) × (angle_scale ≡ round binary64 false (2 ^ 59) 1) × (sine_scale ≡ round binary64 false 1 (2 ^ 61))
+    (sixteen ≡ round binary64 false 16 1) × (angle_scale ≡ round binary64 false (2 ^ 59) 1)
+    × (sine_scale ≡ round binary64 false 1 (2 ^ 61))
 unfolding of_bits round
 constants_are = (refl, refl, refl)
 

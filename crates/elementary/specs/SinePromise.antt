@@ -1,5 +1,6 @@
--- What sine and cosine are worth, in document 01's words: "for |v| ≤ 16: within 2^-40 of the first 40 terms of the Taylor series at v, taken
--- exactly as a fraction (terms to degree 79 and 78)"; "results lie in -1 to 1"; outside +0. The proof is proofs/sine/Promise.antt.
+-- What sine and cosine are worth, in document 01's words: "for |v| ≤ 16: within 2^-40 of the first 40 terms of the
+-- Taylor series at v, taken exactly as a fraction (terms to degree 79 and 78)"; "results lie in -1 to 1"; outside +0.
+-- The proof is proofs/sine/Promise.antt.
 use Rattle.std.specs.Prelude.{◌≡◌, ◌^◌, T, Float}
 use Rattle.std.specs.Float.{binary64}
 use Rattle.std.specs.Float.Ieee.{fits}

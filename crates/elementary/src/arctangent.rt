@@ -1,6 +1,6 @@
-// atan2 of two f64 of magnitude at most 2^20, in fixed point: a tangent is a whole number of units of 2^-64, an angle one
-// of units of 2^-62, and floats stand only at the two ends. The recipe is a definition (specs/Arctangent.antt, over the
-// crate cells), and what it is worth a theorem (specs/ArctangentPromise.antt).
+// atan2 of two f64 of magnitude at most 2^20, in fixed point: a tangent is a whole number of units of 2^-64, an angle
+// one of units of 2^-62, and floats stand only at the two ends. The recipe is a definition (specs/Arctangent.antt, over
+// the crate cells), and what it is worth a theorem (specs/ArctangentPromise.antt).
 ghost use Rattle.std.specs.Prelude.{◌≡◌, ◌≤◌};
 ghost use Rattle.cells.specs.Arc.{arc as arc_of, quarter_turn};
 ghost use Rattle.elementary.specs.Arctangent.{tangent as tangent_of, first_quarter, upper_half, in_domain};
@@ -103,8 +103,8 @@ fn in_domain(width: f64, height: f64) -> bool
 }
 
 // The angle t of the point (x, y), from -PI to PI: |x×S - y×C| ≤ 2^-40 × (|x|+|y|) and x×C + y×S > 0, with the 40-term
-// sums S and C of the sine and the cosine at t. +0 where both are zero, where a magnitude is above 2^20, and where x or y
-// is no number.
+// sums S and C of the sine and the cosine at t. +0 where both are zero, where a magnitude is above 2^20, and where x or
+// y is no number.
 #[tactic(auto, unfolding(crate::specs::Arctangent::atan2))]
 pub fn atan2(y: f64, x: f64) -> f64
     ensures { result ≡ atan2_of y x }

@@ -41,7 +41,8 @@ struct Parts {
     lead: u64,
 }
 
-// The leading digits of the positive finite number with the given bits.
+// The leading digits of the positive finite number with the given bits. The bound on the bits, and that on the digits
+// below, hold within the steps of one root: a type for each would be made and taken apart at every step.
 fn split(bits: u64) -> Parts
     requires { (0 < bits) × (bits < 2047 * 2 ^ 52) }
     ensures { Leading (mag (from_bits binary64 bits)) result.digits result.lead }

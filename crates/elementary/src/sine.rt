@@ -64,7 +64,7 @@ fn half_turned(w: u64) -> bool
     w / QUARTER / 2 % 2 == 1
 }
 
-// The sine of w, or of -w, as a float.
+// The sine of w, or of -w, as a float. `negative` is a sign and no more: no value goes with either.
 #[tactic(auto, unfolding(crate::specs::Sine::fixed_sine))]
 fn fixed_sine(negative: bool, w: u64) -> f64
     ensures { result ≡ fixed_sine negative w }

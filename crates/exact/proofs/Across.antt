@@ -1,5 +1,6 @@
--- What is left across, where the foot of the chord lies inside the circle of radius r by 2 ^ -33: r² less the square of its distance f is at least
--- 2 ^ -33, so each point lies at least 2 ^ -17 from the foot, and the two points differ. Rests on Steps and Coordinates.
+-- What is left across, where the foot of the chord lies inside the circle of radius r by 2 ^ -33: r² less the square of
+-- its distance f is at least 2 ^ -33, so each point lies at least 2 ^ -17 from the foot, and the two points differ.
+-- Rests on Steps and Coordinates.
 use mathlib.Core.Path.{◌≡◌, refl, sym, ap, ◌∙◌}
 use mathlib.Core.Logic.{◌⊎◌, inl, inr}
 use mathlib.Core.Bool.{false}
@@ -12,7 +13,7 @@ use lib.Ieee.Bits.{is_false}
 use Rattle.binary64.specs.Units.{pow2, one, Finite, mag, plus, minus}
 use Rattle.binary64.specs.Rounding.{Rounded, Near}
 use Rattle.binary64.specs.Magnitude.{Most}
-use Rattle.binary64.proofs.Naturals.{lt_or_ge}
+use Rattle.std.proofs.lemmas.Bool.{cases_lt}
 use Rattle.binary64.proofs.Units.{one_pos, pow2_pos, pow2_mono, pow2_split, plus_minus, one_sided, eq_units}
 use Rattle.binary64.proofs.Rounding.{plus_le, plus_ge, minus_none}
 use Rattle.binary64.proofs.Operations.{sub_result, result_rounded}
@@ -25,28 +26,35 @@ use Rattle.exact.proofs.Steps.{rest, across, square_is, square_parts}
 use Rattle.exact.proofs.Coordinates.{product_most, part_most, product_least, quotient_least, Leg, offset_most}
 
 module _ (r : ℕ) (P : 1 ≤ r) (L : r ≤ 20000) {f : Float} (F : Most (r * 2 ^ 33 - 1) 1041 f) where
-  -- The square of f stays below r² by 2 ^ -33: its bound is r² less one in the last of 33 or 24 digits after the point, for which r² leaves room.
+  -- The square of f stays below r² by 2 ^ -33: its bound is r² less one in the last of 33 or 24 digits after the point,
+  -- for which r² leaves room.
   squared : Finite (mul binary64 f f) × (mag (mul binary64 f f) + pow2 1041 ≤ r * r * one)
-  squared = go (r * 2 ^ 33 - 1) (omega arith) F.bound (lt_or_ge r 1024)
+  squared = go (r * 2 ^ 33 - 1) (omega arith) F.bound (cases_lt r 1024)
     where
-      by : (a v w : ℕ) → mag f ≤ w * pow2 1041 → v ≤ 2 ^ 53 → a ≤ 2044 → w * pow2 1041 * (w * pow2 1041) ≤ v * pow2 a * one → (v + 1) * pow2 a ≡ r * r * one → pow2 1041 ≤ pow2 a
+      by : (a v w : ℕ) → mag f ≤ w * pow2 1041 → v ≤ 2 ^ 53 → a ≤ 2044
+          → w * pow2 1041 * (w * pow2 1041) ≤ v * pow2 a * one → (v + 1) * pow2 a ≡ r * r * one → pow2 1041 ≤ pow2 a
           → Finite (mul binary64 f f) × (mag (mul binary64 f f) + pow2 1041 ≤ r * r * one)
       by a v w h few A l e m =
           let p = product_most F.finite F.finite {j = v} {a = a} few A (le_trans (mul-le-mul h h) l) in
           (p.finite, omega (arith, p.bound))
 
       -- w and v stand for r * 2 ^ 33 - 1 and for r² * 2 ^ 33 - 1, or r² * 2 ^ 24 - 1
-      small : (w v : ℕ) → w + 1 ≡ r * 2 ^ 33 → v + 1 ≡ r * r * 2 ^ 33 → (w * pow2 1041 * (w * pow2 1041) ≤ v * pow2 1041 * one) × ((v + 1) * pow2 1041 ≡ r * r * one)
+      small : (w v : ℕ) → w + 1 ≡ r * 2 ^ 33 → v + 1 ≡ r * r * 2 ^ 33
+          → (w * pow2 1041 * (w * pow2 1041) ≤ v * pow2 1041 * one) × ((v + 1) * pow2 1041 ≡ r * r * one)
       small w v e g =
           let h : w * w ≤ v * 2 ^ 33 = omega (arith, ap (λ (k : ℕ). k * k) e) in
-          rw (pow2_split 33 1041) (omega (arith, mul-le-mul_right (pow2 1041 * pow2 1041) h), omega (arith, ap (λ (k : ℕ). k * pow2 1041) g))
+          rw (pow2_split 33 1041)
+          (omega (arith, mul-le-mul_right (pow2 1041 * pow2 1041) h), omega (arith, ap (λ (k : ℕ). k * pow2 1041) g))
 
-      large : (w v : ℕ) → 1024 ≤ r → w + 1 ≡ r * 2 ^ 33 → v + 1 ≡ r * r * 2 ^ 24 → (w * pow2 1041 * (w * pow2 1041) ≤ v * pow2 1050 * one) × ((v + 1) * pow2 1050 ≡ r * r * one)
+      large : (w v : ℕ) → 1024 ≤ r → w + 1 ≡ r * 2 ^ 33 → v + 1 ≡ r * r * 2 ^ 24
+          → (w * pow2 1041 * (w * pow2 1041) ≤ v * pow2 1050 * one) × ((v + 1) * pow2 1050 ≡ r * r * one)
       large w v l e g =
           let h : w * w ≤ v * 2 ^ 42 = omega (arith, ap (λ (k : ℕ). k * k) e) in
-          rw (pow2_split 33 1041, pow2_split 9 1041) (omega (arith, mul-le-mul_right (pow2 1041 * pow2 1041) h), omega (arith, ap (λ (k : ℕ). k * pow2 1041) g))
+          rw (pow2_split 33 1041, pow2_split 9 1041)
+          (omega (arith, mul-le-mul_right (pow2 1041 * pow2 1041) h), omega (arith, ap (λ (k : ℕ). k * pow2 1041) g))
 
-      go : (w : ℕ) → w + 1 ≡ r * 2 ^ 33 → mag f ≤ w * pow2 1041 → (r < 1024) ⊎ (1024 ≤ r) → Finite (mul binary64 f f) × (mag (mul binary64 f f) + pow2 1041 ≤ r * r * one)
+      go : (w : ℕ) → w + 1 ≡ r * 2 ^ 33 → mag f ≤ w * pow2 1041 → (r < 1024) ⊎ (1024 ≤ r)
+          → Finite (mul binary64 f f) × (mag (mul binary64 f f) + pow2 1041 ≤ r * r * one)
       go w e h (inl l) =
           let v = r * r * 2 ^ 33 - 1 in
           let s = small w v e (omega (arith, mul-le-mul P P)) in
@@ -59,7 +67,9 @@ module _ (r : ℕ) (P : 1 ≤ r) (L : r ≤ 20000) {f : Float} (F : Most (r * 2 
   -- r² - f², of which only the last rounding is not exact
   rest_finite : Finite (rest r f)
   rest_finite =
-      (sub_most {j = 400000000} {k = 400000000} (is_most (square_is r L) (omega (arith, mul-le-mul L L))) (record { finite = squared.0; bound = omega (arith, squared.1, mul-le-mul_right one (mul-le-mul L L)) }) (omega arith) (omega arith)).finite
+      (sub_most {j = 400000000} {k = 400000000} (is_most (square_is r L) (omega (arith, mul-le-mul L L)))
+      (record { finite = squared.0; bound = omega (arith, squared.1, mul-le-mul_right one (mul-le-mul L L)) })
+      (omega arith) (omega arith)).finite
 
   rest_rounded : Rounded (rest r f) (r * r * one + 0) (0 + mag (mul binary64 f f)) 1
   rest_rounded =
@@ -72,7 +82,9 @@ module _ (r : ℕ) (P : 1 ≤ r) (L : r ≤ 20000) {f : Float} (F : Most (r * 2 
   rest_down = minus_none (le_refl 1) rest_rounded (omega (arith, squared))
 
   rest_least : 1 * pow2 1041 ≤ mag (rest r f)
-  rest_least = le_trans (plus_ge (le_refl 1) rest_rounded (bound_digits 1041 (omega arith)) (omega (arith, squared))) (omega (arith, plus_minus (rest r f)))
+  rest_least =
+      le_trans (plus_ge (le_refl 1) rest_rounded (bound_digits 1041 (omega arith)) (omega (arith, squared)))
+      (omega (arith, plus_minus (rest r f)))
 
   rest_most : mag (rest r f) ≤ r * r * one
   rest_most =
@@ -81,10 +93,17 @@ module _ (r : ℕ) (P : 1 ≤ r) (L : r ≤ 20000) {f : Float} (F : Most (r * 2 
 
   -- so the points lie from 2 ^ -17 to r across
   pub across_most : Most r 1074 (across r f)
-  across_most = record { finite = root_finite (rest r f) rest_finite.fit; bound = at_most rest_finite rest_down (r * one) (bound_digits 1074 (omega arith)) (le_trans (mul-le-mul_right one rest_most) (omega arith)) }
+  across_most = record {
+    finite = root_finite (rest r f) rest_finite.fit;
+    bound =
+        at_most rest_finite rest_down (r * one) (bound_digits 1074 (omega arith))
+        (le_trans (mul-le-mul_right one rest_most) (omega arith));
+  }
 
   pub across_least : 1 * pow2 1057 ≤ mag (across r f)
-  across_least = at_least rest_finite rest_down (1 * pow2 1057) (bound_digits 1057 (omega arith)) (le_trans (rw (pow2_split 16 1041, pow2_split 33 1041) (omega arith)) (mul-le-mul_right one rest_least))
+  across_least =
+      at_least rest_finite rest_down (1 * pow2 1057) (bound_digits 1057 (omega arith))
+      (le_trans (rw (pow2_split 16 1041, pow2_split 33 1041) (omega arith)) (mul-le-mul_right one rest_least))
 
   -- ---- the offset along an axis, for a distance below 2 ^ 16
 
@@ -100,20 +119,24 @@ module _ (r : ℕ) (P : 1 ≤ r) (L : r ≤ 20000) {f : Float} (F : Most (r * 2 
     -- across / d is at least 2 ^ -33, and so is the offset along an axis on which the centres differ
     part_least : 1 * pow2 1041 ≤ mag (div binary64 (across r f) d)
     part_least =
-        quotient_least across_most.finite M.finite 1041 (omega arith) (lt_of_lt_of_le one_pos N) (part_most M.finite N L across_most).finite
+        quotient_least across_most.finite M.finite 1041 (omega arith) (lt_of_lt_of_le one_pos N)
+        (part_most M.finite N L across_most).finite
         (le_trans (mul-le-mul_left (1 * pow2 1041) M.bound) (omega (arith, mul-le-mul_right one across_units)))
 
-    pub offset_least : {Δ : Float} {m : ℕ} → Leg Δ d m → 0 < m → 1 * pow2 1041 ≤ mag (mul binary64 Δ (div binary64 (across r f) d))
+    pub offset_least : {Δ : Float} {m : ℕ} → Leg Δ d m → 0 < m
+        → 1 * pow2 1041 ≤ mag (mul binary64 Δ (div binary64 (across r f) d))
     offset_least {m = m} leg p =
         let q = part_most M.finite N L across_most in
         let whole : one ≤ m * one = omega (arith, mul-le-mul_right one p) in
-        product_least leg.finite q.finite 1041 (omega arith) (offset_most leg M.finite N L across_most across_over).finite
+        product_least leg.finite q.finite 1041 (omega arith)
+        (offset_most leg M.finite N L across_most across_over).finite
         (le_trans (omega arith) (mul-le-mul (le_trans whole (le_of_eq (sym leg.size))) part_least))
 
 -- ---- the two points differ
 
 -- x + z and x - z are different numbers, where |z| is at least 2 ^ -33
-pub other_side : {x z : Float} → Most 40000 1074 x → Most 40000 1074 z → 1 * pow2 1041 ≤ mag z → eq (add binary64 x z) (sub binary64 x z) ≡ false
+pub other_side : {x z : Float} → Most 40000 1074 x → Most 40000 1074 z → 1 * pow2 1041 ≤ mag z
+    → eq (add binary64 x z) (sub binary64 x z) ≡ false
 other_side {x} {z} X Z l = eq_units a s ∙ is_false (eqb p q) (not_T (eqb p q) (λ t. apart (one_sided z) (eqb→eq p q t)))
   where
     a : Finite (add binary64 x z)

@@ -1,7 +1,8 @@
--- The distance of two centres is the root of D, rounded, and this is how it compares with a whole number n: as D does with n². Where the two
--- differ, the distance differs from n by at least 2 ^ -37. Rests on the root of a whole number (elementary's Integers).
+-- The distance of two centres is the root of D, rounded, and this is how it compares with a whole number n: as D does
+-- with n². Where the two differ, the distance differs from n by at least 2 ^ -37. Rests on the root of a whole number
+-- (elementary's Integers).
+use native.Mathlib.Nat.{lt_of_not-le}
 use mathlib.Core.Path.{◌≡◌, refl, sym, ◌∙◌}
-use mathlib.Core.Logic.{◌⊎◌, inl, inr}
 use Prim.Native.Nat.{ℕ, ◌+◌, ◌-◌, ◌*◌, ◌^◌, ◌≤◌, ◌<◌}
 use native.Mathlib.Nat.{le_trans, le_of_eq, mul-le-mul, mul-le-mul_right}
 use native.Mathlib.Omega.{arith}
@@ -12,7 +13,6 @@ use Rattle.heads.specs.Pair.{squared_distance}
 use Rattle.heads.specs.Distance.{InLimits}
 use Rattle.binary64.specs.Units.{pow2, one, Finite, mag, plus, minus}
 use Rattle.binary64.specs.Magnitude.{Most}
-use Rattle.binary64.proofs.Naturals.{lt_or_ge}
 use Rattle.binary64.proofs.Units.{pow2_split, plus_minus}
 use Rattle.binary64.proofs.Magnitude.{bound_digits}
 use Rattle.binary64.proofs.Whole.{of_int_finite, of_int_pos, sub_of_int}
@@ -55,14 +55,11 @@ root_of D = root (of_int binary64 (pos D))
 
 -- a difference of coordinates is below 2 ^ 16, since its square is below 2 ^ 32
 pub part_below : (m D : ℕ) → m * m ≤ D → D < 2 ^ 32 → m < 2 ^ 16
-part_below m D h L = go (lt_or_ge m (2 ^ 16))
-  where
-    go : (m < 2 ^ 16) ⊎ (2 ^ 16 ≤ m) → m < 2 ^ 16
-    go (inl l) = l
-    go (inr l) = absurd (omega (arith, mul-le-mul l l))
+part_below m D h L = lt_of_not-le (λ (l : 2 ^ 16 ≤ m). omega (arith, mul-le-mul l l))
 
 -- The distance of two heads' centres is the root of D.
-pub distance_is : {a b : Head} → InLimits a → InLimits b → squared_distance a b < 2 ^ 32 → distance (circle_of a).center (circle_of b).center ≡ root_of (squared_distance a b)
+pub distance_is : {a b : Head} → InLimits a → InLimits b → squared_distance a b < 2 ^ 32
+    → distance (circle_of a).center (circle_of b).center ≡ root_of (squared_distance a b)
 distance_is {a} {b} la lb L =
     rw (
       sub_of_int a.x b.x (omega (arith, la.x)) (omega (arith, lb.x)),
@@ -86,7 +83,10 @@ module _ (D : ℕ) (L : D < 2 ^ 32) where
 
   -- it is below 2 ^ 16
   pub root_most : Most (2 ^ 16) 1074 (root_of D)
-  root_most = record { finite = root_is_finite; bound = whole_le radicand.finite radicand.down D (is_mag radicand) (2 ^ 16) (omega arith) (omega arith) }
+  root_most = record {
+    finite = root_is_finite;
+    bound = whole_le radicand.finite radicand.down D (is_mag radicand) (2 ^ 16) (omega arith) (omega arith);
+  }
 
   -- against a whole number n: at most n, at least n, beyond n and short of n by the margin, as D and n² compare
   module _ (n : ℕ) (N : n ≤ 2 ^ 16 - 1) where
@@ -99,23 +99,28 @@ module _ (D : ℕ) (L : D < 2 ^ 32) where
     pub root_beyond : n * n < D → n * one + margin ≤ mag (root_of D)
     root_beyond h =
         le_trans (omega arith)
-        (excess radicand.finite radicand.down D (is_mag radicand) n 1 37 1037 refl (omega arith) (omega arith) (omega arith))
+        (excess radicand.finite radicand.down D (is_mag radicand) n 1 37 1037 refl (omega arith) (omega arith)
+        (omega arith))
 
     pub root_short : D < n * n → mag (root_of D) + margin ≤ n * one
     root_short h =
         le_trans (omega arith)
-        (shortfall radicand.finite radicand.down D (is_mag radicand) n 1 37 1037 refl (omega arith) (omega arith) (omega arith))
+        (shortfall radicand.finite radicand.down D (is_mag radicand) n 1 37 1037 refl (omega arith) (omega arith)
+        (omega arith))
 
   -- against v / 2 ^ 37, as D * 2 ^ 74 and v² compare
   module _ (v : ℕ) (few : v ≤ 2 ^ 53) where
     -- both squares, in units of 2 ^ -37 squared
-    squares : (mag (of_int binary64 (pos D)) * one ≡ D * 2 ^ 74 * (margin * margin)) × (v * margin * (v * margin) ≡ v * v * (margin * margin))
+    squares : (mag (of_int binary64 (pos D)) * one ≡ D * 2 ^ 74 * (margin * margin))
+        × (v * margin * (v * margin) ≡ v * v * (margin * margin))
     squares = (rw (is_mag radicand, pow2_split 37 1037) (omega arith), omega arith)
 
     pub root_at_most_fine : D * 2 ^ 74 ≤ v * v → mag (root_of D) ≤ v * margin
     root_at_most_fine h =
-        at_most radicand.finite radicand.down (v * margin) (bound_digits 1037 few) (le_trans (le_of_eq squares.0) (le_trans (mul-le-mul_right (margin * margin) h) (le_of_eq (sym squares.1))))
+        at_most radicand.finite radicand.down (v * margin) (bound_digits 1037 few)
+        (le_trans (le_of_eq squares.0) (le_trans (mul-le-mul_right (margin * margin) h) (le_of_eq (sym squares.1))))
 
     pub root_at_least_fine : v * v ≤ D * 2 ^ 74 → v * margin ≤ mag (root_of D)
     root_at_least_fine h =
-        at_least radicand.finite radicand.down (v * margin) (bound_digits 1037 few) (le_trans (le_of_eq squares.1) (le_trans (mul-le-mul_right (margin * margin) h) (le_of_eq (sym squares.0))))
+        at_least radicand.finite radicand.down (v * margin) (bound_digits 1037 few)
+        (le_trans (le_of_eq squares.1) (le_trans (mul-le-mul_right (margin * margin) h) (le_of_eq (sym squares.0))))

@@ -1,5 +1,5 @@
--- The steps of `crossing` by name, over the radii as natural numbers: the foot of the chord, what is left across. The squares of the radii and their
--- difference are exact. Rests on binary64's Rounding and Operations.
+-- The steps of `crossing` by name, over the radii as natural numbers: the foot of the chord, what is left across. The
+-- squares of the radii and their difference are exact. Rests on binary64's Rounding and Operations.
 use mathlib.Core.Path.{◌≡◌, refl, sym, ap, ◌∙◌}
 use mathlib.Core.Bool.{Bool, true, false}
 use mathlib.Core.Logic.{◌⊎◌, inl, inr}
@@ -31,7 +31,8 @@ pub record Exact (z : Float) (p n w : ℕ) : Type 0 where
   pub size : mag z ≡ w
 
 -- It is so where w has 53 digits.
-pub exact : {z : Float} {p n w : ℕ} → Result z p n 1 → Digits53 w → w < limit → (p ≡ n + w) ⊎ (n ≡ p + w) → Exact z p n w
+pub exact : {z : Float} {p n w : ℕ} → Result z p n 1 → Digits53 w → w < limit → (p ≡ n + w) ⊎ (n ≡ p + w)
+    → Exact z p n w
 exact {z} {p} {n} {w} r d l h = record { finite = f; parts = (go h).0; size = (go h).1 }
   where
     f : Finite z
@@ -43,18 +44,21 @@ exact {z} {p} {n} {w} r d l h = record { finite = f; parts = (go h).0; size = (g
 
     go : (p ≡ n + w) ⊎ (n ≡ p + w) → (plus z + n ≡ minus z + p) × (mag z ≡ w)
     go (inl e) =
-        let u = plus_exact (le_refl 1) (result_rounded (le_refl 1) r f) d (e ∙ ap (λ (k : ℕ). n + k) (sym (mul-one w))) in
+        let u = plus_exact (le_refl 1) (result_rounded (le_refl 1) r f) d (e ∙ ap (λ (k : ℕ). n + k) (sym (mul-one w)))
+        in
         let v = minus_none (le_refl 1) (result_rounded (le_refl 1) r f) (omega arith) in
         (omega arith, omega (arith, plus_minus z))
     go (inr e) =
-        let u = minus_exact (le_refl 1) (result_rounded (le_refl 1) r f) d (e ∙ ap (λ (k : ℕ). p + k) (sym (mul-one w))) in
+        let u = minus_exact (le_refl 1) (result_rounded (le_refl 1) r f) d (e ∙ ap (λ (k : ℕ). p + k) (sym (mul-one w)))
+        in
         let v = plus_none (le_refl 1) (result_rounded (le_refl 1) r f) (omega arith) in
         (omega arith, omega (arith, plus_minus z))
 
 -- ---- the squares of the radii
 
 -- The square of a float has no sign.
-pub square_parts : {f : Float} → Finite f → Finite (mul binary64 f f) → (plus (mul binary64 f f) ≡ mag (mul binary64 f f)) × (minus (mul binary64 f f) ≡ 0)
+pub square_parts : {f : Float} → Finite f → Finite (mul binary64 f f)
+    → (plus (mul binary64 f f) ≡ mag (mul binary64 f f)) × (minus (mul binary64 f f) ≡ 0)
 square_parts {f} h k = plus_is (mul binary64 f f) (mul_sign h h k ∙ alike (negative f))
   where
     alike : (s : Bool) → unlike s s ≡ false
@@ -89,13 +93,17 @@ abbrev pub across : ℕ → Float → Float
 across r₁ f = root (rest r₁ f)
 
 -- r₁² - r₂² is exact
-pub difference_exact : (r₁ r₂ : ℕ) → r₁ ≤ 20000 → r₂ ≤ 20000 → Exact (difference r₁ r₂) (r₁ * r₁ * one + 0) (0 + r₂ * r₂ * one) (gap (r₁ * r₁) (r₂ * r₂) * one)
+pub difference_exact : (r₁ r₂ : ℕ) → r₁ ≤ 20000 → r₂ ≤ 20000
+    → Exact (difference r₁ r₂) (r₁ * r₁ * one + 0) (0 + r₂ * r₂ * one) (gap (r₁ * r₁) (r₂ * r₂) * one)
 difference_exact r₁ r₂ L₁ L₂ =
     let a = square_is r₁ L₁ in
     let b = square_is r₂ L₂ in
-    let few : gap (r₁ * r₁) (r₂ * r₂) ≤ 2 ^ 53 = omega (arith, gap_le (r₁ * r₁) (r₂ * r₂), mul-le-mul L₁ L₁, mul-le-mul L₂ L₂) in
-    exact (rw (a.up, a.down, b.up, b.down) at (sub_result a.finite b.finite)) (bound_digits 1074 few) (bound_limit few (omega arith)) (go (gap (r₁ * r₁) (r₂ * r₂)) (gap_either (r₁ * r₁) (r₂ * r₂)))
+    let few : gap (r₁ * r₁) (r₂ * r₂) ≤ 2 ^ 53 =
+    omega (arith, gap_le (r₁ * r₁) (r₂ * r₂), mul-le-mul L₁ L₁, mul-le-mul L₂ L₂) in
+    exact (rw (a.up, a.down, b.up, b.down) at (sub_result a.finite b.finite)) (bound_digits 1074 few)
+    (bound_limit few (omega arith)) (go (gap (r₁ * r₁) (r₂ * r₂)) (gap_either (r₁ * r₁) (r₂ * r₂)))
   where
-    go : (w : ℕ) → (r₁ * r₁ ≡ r₂ * r₂ + w) ⊎ (r₂ * r₂ ≡ r₁ * r₁ + w) → (r₁ * r₁ * one + 0 ≡ 0 + r₂ * r₂ * one + w * one) ⊎ (0 + r₂ * r₂ * one ≡ r₁ * r₁ * one + 0 + w * one)
+    go : (w : ℕ) → (r₁ * r₁ ≡ r₂ * r₂ + w) ⊎ (r₂ * r₂ ≡ r₁ * r₁ + w)
+        → (r₁ * r₁ * one + 0 ≡ 0 + r₂ * r₂ * one + w * one) ⊎ (0 + r₂ * r₂ * one ≡ r₁ * r₁ * one + 0 + w * one)
     go w (inl h) = inl (omega (arith, ap (λ (k : ℕ). k * one) h))
     go w (inr h) = inr (omega (arith, ap (λ (k : ℕ). k * one) h))

@@ -1,5 +1,7 @@
--- The tests of the float code on two heads of the domain, each as the test on whole numbers: the distance against the sum and the difference of
--- the radii, `contains`, `intersects`, and whether two circles are identical. Rests on Distance.
+-- The tests of the float code on two heads of the domain, each as the test on whole numbers: the distance against the
+-- sum and the difference of the radii, `contains`, `intersects`, and whether two circles are identical. Rests on
+-- Distance.
+use native.Mathlib.Nat.{lt_of_not-le, le_of_suc-le-suc}
 use mathlib.Core.Path.{◌≡◌, refl, sym, ap, ap₂, ◌∙◌, subst}
 use mathlib.Core.Logic.{◌⊎◌, inl, inr}
 use mathlib.Core.Bool.{Bool, true, false, not, ◌&&◌, ◌||◌}
@@ -21,23 +23,28 @@ use Rattle.binary64.specs.Units.{one, Finite, plus, minus}
 use Rattle.binary64.specs.Rounding.{Rounded}
 use Rattle.binary64.specs.Functions.{absolute}
 use Rattle.binary64.specs.Whole.{eq_z}
-use Rattle.binary64.proofs.Naturals.{lt_or_ge, same_test, not_ltb}
-use Rattle.binary64.proofs.Units.{one_pos, pow2_pos, pow2_split, same_float, le_units, le_not_lt, lt_of_units, not_lt_of_units}
+use Rattle.std.proofs.lemmas.Bool.{cases_lt}
+use Rattle.binary64.proofs.Naturals.{same_test, not_ltb}
+use Rattle.binary64.proofs.Units.{one_pos, pow2_pos, pow2_split, same_float}
+use Rattle.binary64.proofs.Units.{le_units, le_not_lt, lt_of_units, not_lt_of_units}
 use Rattle.binary64.proofs.Rounding.{plus_le, plus_ge, minus_none}
 use Rattle.binary64.proofs.Operations.{add_result, result_rounded}
 use Rattle.binary64.proofs.Magnitude.{bound_digits, add_most}
 use Rattle.binary64.proofs.Functions.{absolute_sign, absolute_mag, absolute_most}
-use Rattle.binary64.proofs.Whole.{add_of_int, sub_of_int, eq_of_int, of_int_finite, of_int_sign, of_int_mag, of_int_most}
+use Rattle.binary64.proofs.Whole.{add_of_int, sub_of_int, eq_of_int}
+use Rattle.binary64.proofs.Whole.{of_int_finite, of_int_sign, of_int_mag, of_int_most}
 use Rattle.geometry.specs.Circle as circle
 use Rattle.geometry.specs.Point.{distance}
 use Rattle.exact.specs.Circle.{circle_of}
-use Rattle.exact.proofs.Distance.{margin, Is, whole_is, root_of, distance_is, root_is_finite, root_down, root_up, root_most, root-at-most, root_at_least, root_beyond, root_short}
+use Rattle.exact.proofs.Distance.{margin, Is, whole_is, root_of, distance_is, root_is_finite}
+use Rattle.exact.proofs.Distance.{root_down, root_up, root_most, root-at-most, root_at_least, root_beyond, root_short}
 
 -- ---- the root of D against a whole number n
 
 -- The test x < y passes just where p < q.
-lt_as : {x y : Float} → Finite x → Finite y → (p q : ℕ) → (p < q → plus x + minus y < plus y + minus x) → (q ≤ p → plus y + minus x ≤ plus x + minus y) → lt x y ≡ ltb p q
-lt_as {x} {y} h k p q f g = go (lt_or_ge p q)
+lt_as : {x y : Float} → Finite x → Finite y → (p q : ℕ) → (p < q → plus x + minus y < plus y + minus x)
+    → (q ≤ p → plus y + minus x ≤ plus x + minus y) → lt x y ≡ ltb p q
+lt_as {x} {y} h k p q f g = go (cases_lt p q)
   where
     go : (p < q) ⊎ (q ≤ p) → lt x y ≡ ltb p q
     go (inl l) = lt_of_units h k (f l) ∙ sym (lt-ltb p q l)
@@ -76,7 +83,8 @@ module _ (D n : ℕ) (L : D < 2 ^ 32) (N : n ≤ 2 ^ 16 - 1) where
 absolute_of_int : (z : ℤ) → nat_abs z ≤ 2 ^ 53 → absolute (of_int binary64 z) ≡ of_int binary64 (pos (nat_abs z))
 absolute_of_int z h =
     same_float (absolute_most (of_int_most z h (le_refl (nat_abs z)))).finite (of_int_finite (pos (nat_abs z)) h)
-    (absolute_sign (of_int binary64 z) ∙ sym (of_int_sign (pos (nat_abs z)) h)) (absolute_mag (of_int binary64 z) ∙ of_int_mag z h ∙ sym (of_int_mag (pos (nat_abs z)) h))
+    (absolute_sign (of_int binary64 z) ∙ sym (of_int_sign (pos (nat_abs z)) h))
+    (absolute_mag (of_int binary64 z) ∙ of_int_mag z h ∙ sym (of_int_mag (pos (nat_abs z)) h))
 
 -- the floats' sum and the size of their difference are those of the whole numbers
 module _ (r₁ r₂ : ℕ) (L₁ : r₁ ≤ 20000) (L₂ : r₂ ≤ 20000) where
@@ -87,7 +95,8 @@ module _ (r₁ r₂ : ℕ) (L₁ : r₁ ≤ 20000) (L₂ : r₂ ≤ 20000) where
   unfolding relation.gap
   gap_is = nat_abs_diff (pos r₁) (pos r₂)
 
-  pub difference_is : absolute (sub binary64 (of_int binary64 (pos r₁)) (of_int binary64 (pos r₂))) ≡ of_int binary64 (pos (relation.gap r₁ r₂))
+  pub difference_is : absolute (sub binary64 (of_int binary64 (pos r₁)) (of_int binary64 (pos r₂)))
+      ≡ of_int binary64 (pos (relation.gap r₁ r₂))
   difference_is =
       ap absolute (sub_of_int (pos r₁) (pos r₂) (omega arith) (omega arith))
       ∙ absolute_of_int (pos r₁ -ℤ pos r₂) (omega (arith, gap_is, gap_le r₁ r₂))
@@ -113,7 +122,8 @@ module _ (D r₁ r₂ : ℕ) (L : D < 2 ^ 32) (L₁ : r₁ ≤ 20000) (L₂ : r�
   both_finite : Finite both
   both_finite = (add_most (root_most D L) (of_int_most (pos r₂) (omega arith) L₂) (omega arith) (omega arith)).finite
 
-  both_rounded : Rounded both (plus (root_of D) + plus (of_int binary64 (pos r₂))) (minus (root_of D) + minus (of_int binary64 (pos r₂))) 1
+  both_rounded : Rounded both (plus (root_of D) + plus (of_int binary64 (pos r₂)))
+      (minus (root_of D) + minus (of_int binary64 (pos r₂))) 1
   both_rounded = result_rounded (le_refl 1) (add_result (root_is_finite D L) R₂.finite) both_finite
 
   both_down : minus both ≡ 0
@@ -123,30 +133,38 @@ module _ (D r₁ r₂ : ℕ) (L : D < 2 ^ 32) (L₁ : r₁ ≤ 20000) (L₂ : r�
   both_most : r₂ ≤ r₁ → D ≤ (r₁ - r₂) * (r₁ - r₂) → plus both ≤ r₁ * one
   both_most h k =
       let g = rest_units r₁ r₂ one h in
-      plus_le (le_refl 1) both_rounded (bound_digits 1074 (omega arith)) (omega (arith, root-at-most D L (r₁ - r₂) (omega arith) k, root_up D L, R₂.up))
+      plus_le (le_refl 1) both_rounded (bound_digits 1074 (omega arith))
+      (omega (arith, root-at-most D L (r₁ - r₂) (omega arith) k, root_up D L, R₂.up))
 
   both_least : r₁ < r₂ → r₂ * one ≤ plus both
-  both_least h = plus_ge (le_refl 1) both_rounded (bound_digits 1074 (omega arith)) (omega (arith, root_down D L, R₂.up, R₂.down))
+  both_least h =
+      plus_ge (le_refl 1) both_rounded (bound_digits 1074 (omega arith)) (omega (arith, root_down D L, R₂.up, R₂.down))
 
   both_beyond : r₂ ≤ r₁ → (r₁ - r₂) * (r₁ - r₂) < D → (r₁ * 2 ^ 37 + 1) * margin ≤ plus both
   both_beyond h k =
       let g = rest_units r₁ r₂ one h in
-      plus_ge (le_refl 1) both_rounded (bound_digits 1037 (omega arith)) (omega (arith, root_beyond D L (r₁ - r₂) (omega arith) k, pow2_split 37 1037, ap (λ (n : ℕ). r₁ * n) (pow2_split 37 1037), root_up D L, root_down D L, R₂.up, R₂.down))
+      plus_ge (le_refl 1) both_rounded (bound_digits 1037 (omega arith))
+      (omega (
+        arith,
+        root_beyond D L (r₁ - r₂) (omega arith) k,
+        pow2_split 37 1037,
+        ap (λ (n : ℕ). r₁ * n)
+            (pow2_split 37 1037),
+        root_up D L,
+        root_down D L,
+        R₂.up,
+        R₂.down,
+      ))
 
   -- so where the sum is at most the first radius, D is at most the square of the difference
   larger : plus both ≤ r₁ * one → r₂ ≤ r₁
-  larger l = go (lt_or_ge r₁ r₂)
-    where
-      go : (r₁ < r₂) ⊎ (r₂ ≤ r₁) → r₂ ≤ r₁
-      go (inl h) = absurd (omega (arith, both_least h, mul-le-mul_right one h, one_pos))
-      go (inr h) = h
+  larger l =
+      le_of_suc-le-suc (lt_of_not-le (λ (h : r₁ < r₂). omega (arith, both_least h, mul-le-mul_right one h, one_pos)))
 
   within : plus both ≤ r₁ * one → D ≤ (r₁ - r₂) * (r₁ - r₂)
-  within l = go (lt_or_ge ((r₁ - r₂) * (r₁ - r₂)) D)
-    where
-      go : ((r₁ - r₂) * (r₁ - r₂) < D) ⊎ (D ≤ (r₁ - r₂) * (r₁ - r₂)) → D ≤ (r₁ - r₂) * (r₁ - r₂)
-      go (inl h) = absurd (omega (arith, both_beyond (larger l) h, ap (λ (n : ℕ). r₁ * n) (pow2_split 37 1037), pow2_pos 1037))
-      go (inr h) = h
+  within l =
+      le_of_suc-le-suc (lt_of_not-le (λ (h : (r₁ - r₂) * (r₁ - r₂) < D).
+      omega (arith, both_beyond (larger l) h, ap (λ (n : ℕ). r₁ * n) (pow2_split 37 1037), pow2_pos 1037)))
 
   -- A contains B exactly if rA ≥ rB and D ≤ (rA - rB)².
   pub contains_is : le both (of_int binary64 (pos r₁)) ≡ relation.contains D r₁ r₂
@@ -190,13 +208,17 @@ no_squares zero (suc n) e = absurd (omega arith)
 no_squares (suc m) n e = absurd (omega arith)
 
 -- so two centres are equal exactly if D is 0
-centres : (u v s t : ℤ) → (eq_z u v && eq_z s t) ≡ eqb (nat_abs (u -ℤ v) * nat_abs (u -ℤ v) + nat_abs (s -ℤ t) * nat_abs (s -ℤ t)) 0
+centres : (u v s t : ℤ)
+    → (eq_z u v && eq_z s t) ≡ eqb (nat_abs (u -ℤ v) * nat_abs (u -ℤ v) + nat_abs (s -ℤ t) * nat_abs (s -ℤ t)) 0
 centres u v s t =
     let m = nat_abs (u -ℤ v) in
     let n = nat_abs (s -ℤ t) in
     same_test (eq_z u v && eq_z s t) (eqb (m * m + n * n) 0)
-    (λ h. eq→eqb {a = m * m + n * n} {b = 0} (ap₂ (λ (i j : ℕ). i * i + j * j) (same_of u v (and_l (eq_z u v) (eq_z s t) h)) (same_of s t (and_r (eq_z u v) (eq_z s t) h))))
-    (λ h. let z = no_squares m n (eqb→eq (m * m + n * n) 0 h) in and_i (eq_z u v) (eq_z s t) (of_same u v z.0) (of_same s t z.1))
+    (λ h. eq→eqb {a = m * m + n * n} {b = 0}
+    (ap₂ (λ (i j : ℕ). i * i + j * j) (same_of u v (and_l (eq_z u v) (eq_z s t) h))
+    (same_of s t (and_r (eq_z u v) (eq_z s t) h))))
+    (λ h. let z = no_squares m n (eqb→eq (m * m + n * n) 0 h) in and_i (eq_z u v) (eq_z s t) (of_same u v z.0)
+    (of_same s t z.1))
 
 and_assoc : (p q r : Bool) → (p && (q && r)) ≡ ((p && q) && r)
 and_assoc true q r = refl
@@ -232,28 +254,36 @@ module _ {a b : Head} (la : InLimits a) (lb : InLimits b) (L : squared_distance 
   identical_is =
       ap₂ (λ (i j : Bool). i && j) (eq_of_int a.x b.x (omega (arith, la.x)) (omega (arith, lb.x)))
       (ap₂ (λ (i j : Bool). i && j) (eq_of_int a.y b.y (omega (arith, la.y)) (omega (arith, lb.y)))
-      (ap₂ (λ (u v : ℤ). eq (of_int binary64 u) (of_int binary64 v)) la.whole lb.whole ∙ eq_of_int (pos (radius_of a)) (pos (radius_of b)) (omega (arith, la.most)) (omega (arith, lb.most))))
+      (ap₂ (λ (u v : ℤ). eq (of_int binary64 u) (of_int binary64 v)) la.whole lb.whole
+      ∙ eq_of_int (pos (radius_of a)) (pos (radius_of b)) (omega (arith, la.most)) (omega (arith, lb.most))))
       ∙ and_assoc (eq_z a.x b.x) (eq_z a.y b.y) (eqb (radius_of a) (radius_of b))
       ∙ ap (λ (i : Bool). i && eqb (radius_of a) (radius_of b)) (centres a.x b.x a.y b.y)
 
   -- the outlines do not meet, since D > s² or D < t²
   pub apart_is : circle.apart (circle_of a) (circle_of b) (root_of D) ≡ (ltb (s * s) D || ltb D (t * t))
-  apart_is = ap₂ (λ (i j : Bool). i || j) (ap (λ (z : Float). lt z (root_of D)) sum ∙ below_root D s L s_most) (ap (λ (z : Float). lt (root_of D) z) difference ∙ above_root D t L t_most)
+  apart_is =
+      ap₂ (λ (i j : Bool). i || j) (ap (λ (z : Float). lt z (root_of D)) sum ∙ below_root D s L s_most)
+      (ap (λ (z : Float). lt (root_of D) z) difference ∙ above_root D t L t_most)
 
   -- the outlines cross: t² < D < s²
   pub intersects_is : circle.intersects (circle_of a) (circle_of b) ≡ (ltb D (s * s) && ltb (t * t) D)
-  intersects_is = ap₂ (λ (i j : Bool). i && j) (ap₂ lt (distance_is la lb L) sum ∙ above_root D s L s_most) (ap₂ lt difference (distance_is la lb L) ∙ below_root D t L t_most)
+  intersects_is =
+      ap₂ (λ (i j : Bool). i && j) (ap₂ lt (distance_is la lb L) sum ∙ above_root D s L s_most)
+      (ap₂ lt difference (distance_is la lb L) ∙ below_root D t L t_most)
 
   -- a contains b: rA ≥ rB and D ≤ (rA - rB)²
   pub contains_heads : circle.contains (circle_of a) (circle_of b) ≡ contains_of a b
   contains_heads =
-      ap₂ le (ap₂ (λ (x : Float) (z : ℤ). add binary64 x (of_int binary64 z)) (distance_is la lb L) lb.whole) (ap (λ (z : ℤ). of_int binary64 z) la.whole)
+      ap₂ le (ap₂ (λ (x : Float) (z : ℤ). add binary64 x (of_int binary64 z)) (distance_is la lb L) lb.whole)
+      (ap (λ (z : ℤ). of_int binary64 z) la.whole)
       ∙ contains_is D (radius_of a) (radius_of b) L la.most lb.most
 
   -- the distance is at least the sum of the radii: D ≥ s²
-  pub beyond_is : le (add binary64 (of_int binary64 a.radius) (of_int binary64 b.radius)) (distance (circle_of a).center (circle_of b).center) ≡ leb (s * s) D
+  pub beyond_is : le (add binary64 (of_int binary64 a.radius) (of_int binary64 b.radius))
+      (distance (circle_of a).center (circle_of b).center) ≡ leb (s * s) D
   beyond_is = ap₂ le sum (distance_is la lb L) ∙ not_above_root D s L s_most
 
   -- the distance is at most their difference: D ≤ t²
-  pub within_is : le (distance (circle_of a).center (circle_of b).center) (absolute (sub binary64 (of_int binary64 a.radius) (of_int binary64 b.radius))) ≡ leb D (t * t)
+  pub within_is : le (distance (circle_of a).center (circle_of b).center)
+      (absolute (sub binary64 (of_int binary64 a.radius) (of_int binary64 b.radius))) ≡ leb D (t * t)
   within_is = ap₂ le (distance_is la lb L) difference ∙ not_below_root D t L t_most

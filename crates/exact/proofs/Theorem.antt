@@ -1,5 +1,6 @@
--- The float decisions about two heads of the domain are the whole-number ones, and all that is worked out from them is finite: the records of
--- specs/Decisions.antt, by the six cases of the relation. Rests on Tests and Meeting.
+-- The float decisions about two heads of the domain are the whole-number ones, and all that is worked out from them is
+-- finite: the records of specs/Decisions.antt, by the six cases of the relation. Rests on Tests and Meeting.
+use native.Mathlib.Nat.{lt_of_not-le}
 use mathlib.Core.Path.{◌≡◌, refl, sym, ap, ap₂, ◌∙◌, subst, subst₂}
 use mathlib.Core.Logic.{◌⊎◌, inl, inr, ◌↔◌}
 use mathlib.Core.Bool.{Bool, true, false, true≢false, false≢true, ◌&&◌, ◌||◌, cond, or-true, and_comm}
@@ -15,20 +16,22 @@ use mir.Facts.{and_yes}
 use borrow.Author.Tests.{lt-ltb, le-ltb, le-leb, leb-false, eq-eqb, ne_eqb}
 use Rattle.heads.specs.declared.Head.{Head}
 use Rattle.heads.specs.declared.Relation.{Relation}
-use Rattle.heads.specs.declared.Relation.TheVariants.{Apart, TouchingOutside, Crossing, TouchingInside, Holding, Identical}
+use Rattle.heads.specs.declared.Relation.TheVariants.{Apart, TouchingOutside, Crossing}
+use Rattle.heads.specs.declared.Relation.TheVariants.{TouchingInside, Holding, Identical}
 use Rattle.heads.specs.Relation.{gap, identical, relation, meets, meeting, touching, points}
-use Rattle.heads.specs.Cases.{Case, gap_comm, gap_le, gap_square_le, gap_zero, relation_is, case_of, meets_relation, meets_once_relation, meets_facts}
+use Rattle.heads.specs.Cases.{Case, gap_comm, gap_le, gap_square_le, gap_zero}
+use Rattle.heads.specs.Cases.{relation_is, case_of, meets_relation, meets_once_relation, meets_facts}
 use Rattle.heads.specs.Pair.{squared_distance, radius_of, relation_of, meets_of, meets_once_of}
 use Rattle.heads.specs.Distance.{InLimits, limits_of, distance_fits, meets_of_comm}
 use Rattle.binary64.specs.Magnitude.{Most, Least}
-use Rattle.binary64.proofs.Naturals.{lt_or_ge}
 use Rattle.binary64.proofs.Whole.{of_int_sign, of_int_most, of_int_least}
 use Rattle.geometry.specs.declared.point.Point.{Point}
 use Rattle.geometry.specs.Circle as circle
 use Rattle.geometry.specs.Meeting.{number-of-points}
 use Rattle.geometry.specs.Point.{at, distance}
 use Rattle.exact.specs.Circle.{circle_of}
-use Rattle.exact.specs.Decisions.{IsDrawn, DecidesExactly, StaysBounded, NoPointsUnlessMet, NoAreaBeyond, QuotientsWithin, sum, difference, quotient}
+use Rattle.exact.specs.Decisions.{IsDrawn, DecidesExactly, StaysBounded, NoPointsUnlessMet}
+use Rattle.exact.specs.Decisions.{NoAreaBeyond, QuotientsWithin, sum, difference, quotient}
 use Rattle.exact.proofs.Chord.{gap_either}
 use Rattle.exact.proofs.Crossing.{quotient_within}
 use Rattle.exact.proofs.Steps.{float}
@@ -39,7 +42,8 @@ use Rattle.exact.proofs.Meeting.{Found, touching as found-touching, crossed as f
 -- ---- touch from inside
 
 -- where the circles touch from inside, r₁² - r₂² + t² is 2 r₁ t or -2 r₁ t
-touch_inside : (a b t : ℕ) → (a ≡ b + t) ⊎ (b ≡ a + t) → (a * a + t * t ≡ b * b + 2 * (a * t)) ⊎ (b * b ≡ a * a + t * t + 2 * (a * t))
+touch_inside : (a b t : ℕ) → (a ≡ b + t) ⊎ (b ≡ a + t)
+    → (a * a + t * t ≡ b * b + 2 * (a * t)) ⊎ (b * b ≡ a * a + t * t + 2 * (a * t))
 touch_inside a b t (inl e) = inl (omega (arith, ap (λ (k : ℕ). k * k) e, ap (λ (k : ℕ). k * t) e))
 touch_inside a b t (inr e) = inr (omega (arith, ap (λ (k : ℕ). k * k) e))
 
@@ -82,7 +86,9 @@ module _ {a b : Head} (la : InLimits a) (lb : InLimits b) (L : squared_distance 
 
   -- `crossing` of the two circles, with the radii as the integers u and v
   abbrev crossing_of : ℤ → ℤ → List Point
-  crossing_of u v = circle.crossing (circle.around (at (of_int binary64 a.x) (of_int binary64 a.y)) (of_int binary64 u)) (circle.around (at (of_int binary64 b.x) (of_int binary64 b.y)) (of_int binary64 v)) (root_of D)
+  crossing_of u v =
+      circle.crossing (circle.around (at (of_int binary64 a.x) (of_int binary64 a.y)) (of_int binary64 u))
+      (circle.around (at (of_int binary64 b.x) (of_int binary64 b.y)) (of_int binary64 v)) (root_of D)
 
   abbrev crossing : List Point
   crossing = crossing_of (pos r₁) (pos r₂)
@@ -97,15 +103,20 @@ module _ {a b : Head} (la : InLimits a) (lb : InLimits b) (L : squared_distance 
 
   points_are : circle.intersection_points (circle_of a) (circle_of b) ≡ points_by
   points_are =
-      ap (λ (d : Float). cond (circle.identical (circle_of a) (circle_of b)) [] (cond (circle.apart (circle_of a) (circle_of b) d) [] (circle.crossing (circle_of a) (circle_of b) d))) (distance_is la lb L)
-      ∙ ap₂ (λ (i o : Bool). cond i [] (cond o [] (crossing_of a.radius b.radius))) (identical_is la lb L) (apart_is la lb L)
+      ap (λ (d : Float). cond (circle.identical (circle_of a) (circle_of b)) []
+      (cond (circle.apart (circle_of a) (circle_of b) d) [] (circle.crossing (circle_of a) (circle_of b) d)))
+      (distance_is la lb L)
+      ∙ ap₂ (λ (i o : Bool). cond i [] (cond o [] (crossing_of a.radius b.radius))) (identical_is la lb L)
+      (apart_is la lb L)
       ∙ ap₂ (λ (u v : ℤ). cond (identical D r₁ r₂) [] (cond missing [] (crossing_of u v))) la.whole lb.whole
 
   -- one point where the circles touch
-  found_touch : (n : ℕ) → D ≡ n * n → 1 ≤ n → n ≤ 40000 → (r₁ * r₁ + n * n ≡ r₂ * r₂ + 2 * (r₁ * n)) ⊎ (r₂ * r₂ ≡ r₁ * r₁ + n * n + 2 * (r₁ * n))
+  found_touch : (n : ℕ) → D ≡ n * n → 1 ≤ n → n ≤ 40000
+      → (r₁ * r₁ + n * n ≡ r₂ * r₂ + 2 * (r₁ * n)) ⊎ (r₂ * r₂ ≡ r₁ * r₁ + n * n + 2 * (r₁ * n))
       → Found (circle_of a).center (circle_of b).center crossing 1
   found_touch n e p q h =
-      found-touching a.x a.y b.x b.y la.x la.y lb.x lb.y r₁ r₂ la.least la.most lb.least lb.most L (omega (arith, mul-le-mul p p)) n e p q h
+      found-touching a.x a.y b.x b.y la.x la.y lb.x lb.y r₁ r₂ la.least la.most lb.least lb.most L
+      (omega (arith, mul-le-mul p p)) n e p q h
 
   -- two where they cross
   found_cross : t * t < D → D < s * s → Found (circle_of a).center (circle_of b).center crossing 2
@@ -115,24 +126,35 @@ module _ {a b : Head} (la : InLimits a) (lb : InLimits b) (L : squared_distance 
   -- either is met, since no test before turns it away
   met : {n : ℕ} → 0 < D → t * t ≤ D → D ≤ s * s → Found (circle_of a).center (circle_of b).center crossing n
       → Found (circle_of a).center (circle_of b).center points_by n
-  met z h k f = chosen crossing (identical D r₁ r₂) missing (not_identical D r₁ r₂ z) (ap₂ (λ (p q : Bool). p || q) (le-ltb (s * s) D k) (le-ltb D (t * t) h)) f
+  met z h k f =
+      chosen crossing (identical D r₁ r₂) missing (not_identical D r₁ r₂ z)
+      (ap₂ (λ (p q : Bool). p || q) (le-ltb (s * s) D k) (le-ltb D (t * t) h)) f
 
   -- in each case of the relation as many points as it has
   found_in : (r : Relation) → Case r D r₁ r₂ → Found (circle_of a).center (circle_of b).center points_by (points r)
-  found_in Apart h = none_chosen crossing (identical D r₁ r₂) missing (inr (ap (λ (p : Bool). p || ltb D (t * t)) (lt-ltb (s * s) D h)))
+  found_in Apart h =
+      none_chosen crossing (identical D r₁ r₂) missing
+      (inr (ap (λ (p : Bool). p || ltb D (t * t)) (lt-ltb (s * s) D h)))
   found_in TouchingOutside h =
-      met (omega arith) (omega arith) (le_of_eq h.1) (found_touch s h.1 (omega (arith, la.least)) (omega (arith, la.most, lb.most)) (inl (omega arith)))
+      met (omega arith) (omega arith) (le_of_eq h.1)
+      (found_touch s h.1 (omega (arith, la.least)) (omega (arith, la.most, lb.most)) (inl (omega arith)))
   found_in Crossing h = met (omega arith) (omega arith) (omega arith) (found_cross h.0 h.1)
   found_in TouchingInside h =
       met (omega (arith, mul-le-mul h.0 h.0)) (le_of_eq (sym h.1)) (le_trans (le_of_eq h.1) (gap_square_le r₁ r₂))
       (found_touch t h.1 h.0 (omega (arith, gap_le r₁ r₂, la.most, lb.most)) (touch_inside r₁ r₂ t (gap_either r₁ r₂)))
-  found_in Holding h = none_chosen crossing (identical D r₁ r₂) missing (inr (ap (λ (p : Bool). ltb (s * s) D || p) (lt-ltb D (t * t) h) ∙ or-true (ltb (s * s) D)))
-  found_in Identical h = none_chosen crossing (identical D r₁ r₂) missing (inl (ap₂ (λ (p q : Bool). p && q) (eq-eqb D 0 h.0) (eq-eqb r₁ r₂ h.1)))
+  found_in Holding h =
+      none_chosen crossing (identical D r₁ r₂) missing
+      (inr (ap (λ (p : Bool). ltb (s * s) D || p) (lt-ltb D (t * t) h) ∙ or-true (ltb (s * s) D)))
+  found_in Identical h =
+      none_chosen crossing (identical D r₁ r₂) missing
+      (inl (ap₂ (λ (p q : Bool). p && q) (eq-eqb D 0 h.0) (eq-eqb r₁ r₂ h.1)))
 
   -- as many points as the relation has, each placed
-  found : Found (circle_of a).center (circle_of b).center (circle.intersection_points (circle_of a) (circle_of b)) (points (relation_of a b))
+  found : Found (circle_of a).center (circle_of b).center (circle.intersection_points (circle_of a) (circle_of b))
+      (points (relation_of a b))
   found =
-      subst (λ (l : List Point). Found (circle_of a).center (circle_of b).center l (points (relation_of a b))) (sym points_are)
+      subst (λ (l : List Point). Found (circle_of a).center (circle_of b).center l (points (relation_of a b)))
+      (sym points_are)
       (found_in (relation_of a b) (case_of D r₁ r₂))
 
 -- ---- how many points there are, and what the relation says
@@ -144,17 +166,29 @@ Counted l m o = ((l ≡ []) ↔ (m ≡ false)) × ((length l ≡ 1) ↔ (o ≡ t
 -- it counts as the relation says
 module _ (l : List Point) where
   no_points : length l ≡ 0 → Counted l false false
-  no_points e = ((λ _. refl, λ _. empty l e), (λ h. absurd (omega arith), λ h. absurd (false≢true h)), (λ h. absurd (omega arith), λ h. absurd (false≢true h.0)))
+  no_points e = (
+    (λ _. refl, λ _. empty l e),
+    (λ h. absurd (omega arith), λ h. absurd (false≢true h)),
+    (λ h. absurd (omega arith), λ h. absurd (false≢true h.0)),
+  )
     where
       empty : (l : List Point) → length l ≡ 0 → l ≡ []
       empty [] e = refl
       empty (p ∷ rest) e = absurd (omega arith)
 
   one_point : length l ≡ 1 → Counted l true true
-  one_point e = ((λ h. absurd (omega (arith, ap length h)), λ h. absurd (true≢false h)), (λ _. refl, λ _. e), (λ h. absurd (omega arith), λ h. absurd (true≢false h.1)))
+  one_point e = (
+    (λ h. absurd (omega (arith, ap length h)), λ h. absurd (true≢false h)),
+    (λ _. refl, λ _. e),
+    (λ h. absurd (omega arith), λ h. absurd (true≢false h.1)),
+  )
 
   two_points : length l ≡ 2 → Counted l true false
-  two_points e = ((λ h. absurd (omega (arith, ap length h)), λ h. absurd (true≢false h)), (λ h. absurd (omega arith), λ h. absurd (false≢true h)), (λ _. (refl, refl), λ _. e))
+  two_points e = (
+    (λ h. absurd (omega (arith, ap length h)), λ h. absurd (true≢false h)),
+    (λ h. absurd (omega arith), λ h. absurd (false≢true h)),
+    (λ _. (refl, refl), λ _. e),
+  )
 
   counted : (r : Relation) → length l ≡ points r → Counted l (meeting r) (touching r)
   counted Apart e = no_points e
@@ -182,15 +216,13 @@ crosses D a b = (there, back)
 
 -- heads that meet have different centres
 meet_apart : (D a b : ℕ) → meets D a b ≡ true → 0 < D
-meet_apart D a b e = go (lt_or_ge 0 D) ((meets_facts D a b).0 e)
+meet_apart D a b e =
+    let f = (meets_facts D a b).0 e in
+    lt_of_not-le (λ (h : D ≤ 0). f.2 (omega arith) (gap_zero a b (none (gap a b) (le_trans f.0 h))))
   where
     none : (n : ℕ) → n * n ≤ 0 → n ≡ 0
     none zero h = refl
     none (suc n) h = absurd (omega arith)
-
-    go : (0 < D) ⊎ (D ≤ 0) → (gap a b * gap a b ≤ D) × (D ≤ (a + b) * (a + b)) × (D ≡ 0 → a ≡ b → ⊥) → 0 < D
-    go (inl h) f = h
-    go (inr h) f = absurd (f.2 (omega arith) (gap_zero a b (none (gap a b) (le_trans f.0 h))))
 
 -- The circle of a head within the limits.
 pub is-drawn : IsDrawn
@@ -214,7 +246,11 @@ decides_exactly a b ha hb = record {
   two = c.2;
   contained = contains_heads la lb L;
   crossed = e;
-  crossing = (λ h. (crosses (squared_distance a b) (radius_of a) (radius_of b)).0 (sym e ∙ h), λ h. e ∙ (crosses (squared_distance a b) (radius_of a) (radius_of b)).1 h);
+  crossing = (
+    λ h. (crosses (squared_distance a b) (radius_of a) (radius_of b)).0 (sym e ∙ h),
+    λ h. e
+        ∙ (crosses (squared_distance a b) (radius_of a) (radius_of b)).1 h,
+  );
   outside = beyond_is la lb L;
   inside = within_is la lb L;
 }
@@ -228,23 +264,33 @@ decides_exactly a b ha hb = record {
     L : squared_distance a b < 2 ^ 32
     L = distance_fits a b ha hb
 
-    f : Found (circle_of a).center (circle_of b).center (circle.intersection_points (circle_of a) (circle_of b)) (points (relation_of a b))
+    f : Found (circle_of a).center (circle_of b).center (circle.intersection_points (circle_of a) (circle_of b))
+        (points (relation_of a b))
     f = found la lb L
 
     c : Counted (circle.intersection_points (circle_of a) (circle_of b)) (meets_of a b) (meets_once_of a b)
     c =
         subst₂ (λ (m o : Bool). Counted (circle.intersection_points (circle_of a) (circle_of b)) m o)
-        (sym (meets_relation (squared_distance a b) (radius_of a) (radius_of b))) (sym (meets_once_relation (squared_distance a b) (radius_of a) (radius_of b)))
+        (sym (meets_relation (squared_distance a b) (radius_of a) (radius_of b)))
+        (sym (meets_once_relation (squared_distance a b) (radius_of a) (radius_of b)))
         (counted (circle.intersection_points (circle_of a) (circle_of b)) (relation_of a b) f.count)
 
-    e : circle.intersects (circle_of a) (circle_of b) ≡ (ltb (difference a b * difference a b) (squared_distance a b) && ltb (squared_distance a b) (sum a b * sum a b))
-    e = intersects_is la lb L ∙ and_comm (ltb (squared_distance a b) (sum a b * sum a b)) (ltb (difference a b * difference a b) (squared_distance a b))
+    e : circle.intersects (circle_of a) (circle_of b)
+        ≡ (ltb (difference a b * difference a b) (squared_distance a b) && ltb (squared_distance a b)
+        (sum a b * sum a b))
+    e =
+        intersects_is la lb L
+        ∙ and_comm (ltb (squared_distance a b) (sum a b * sum a b))
+        (ltb (difference a b * difference a b) (squared_distance a b))
 
 -- What is worked out from them is finite, and no divisor is near zero.
 pub stays_bounded : StaysBounded
 stays_bounded a b ha hb = record {
   near = subst (λ (d : Float). Most 65536 1074 d) (sym e) (root_most (squared_distance a b) L);
-  apart = λ h. subst (λ (d : Float). Least 1 1074 d) (sym e) (record { finite = root_is_finite (squared_distance a b) L; bound = root_at_least (squared_distance a b) L 1 (omega arith) h });
+  apart = λ h. subst (λ (d : Float). Least 1 1074 d) (sym e) (record {
+    finite = root_is_finite (squared_distance a b) L;
+    bound = root_at_least (squared_distance a b) L 1 (omega arith) h;
+  });
   divides = meet_apart (squared_distance a b) (radius_of a) (radius_of b);
   placed = (found (limits_of a ha) (limits_of b hb) L).placed;
   off = (found (limits_of a ha) (limits_of b hb) L).off;
@@ -258,17 +304,24 @@ stays_bounded a b ha hb = record {
 
 -- Heads that do not meet have no meeting points, in either order.
 pub no_points_unless_met : NoPointsUnlessMet
-no_points_unless_met a b ha hb e = ((decides_exactly a b ha hb).none.1 e, (decides_exactly b a hb ha).none.1 (meets_of_comm b a ∙ e))
+no_points_unless_met a b ha hb e =
+    ((decides_exactly a b ha hb).none.1 e, (decides_exactly b a hb ha).none.1 (meets_of_comm b a ∙ e))
 
 -- Heads that touch from outside or are apart share no area.
 pub no_area_beyond : NoAreaBeyond
-no_area_beyond a b ha hb h = rw ((decides_exactly a b ha hb).outside ∙ le-leb (sum a b * sum a b) (squared_distance a b) h)
+no_area_beyond a b ha hb h =
+    rw ((decides_exactly a b ha hb).outside ∙ le-leb (sum a b * sum a b) (squared_distance a b) h)
 
 -- both quotients, over whole numbers
-both_within : (r₁ r₂ D : ℕ) → 1 ≤ r₁ → r₁ ≤ 20000 → 1 ≤ r₂ → r₂ ≤ 20000 → gap r₁ r₂ * gap r₁ r₂ < D → D < (r₁ + r₂) * (r₁ + r₂)
-    → Most 1 1074 (quotient (float r₁) (float r₂) (root_of D)) × Most 1 1074 (quotient (float r₂) (float r₁) (root_of D))
-both_within r₁ r₂ D P₁ L₁ P₂ L₂ low high =
-    (quotient_within r₁ r₂ D P₁ L₁ P₂ L₂ low high, quotient_within r₂ r₁ D P₂ L₂ P₁ L₁ (rw (gap_comm r₂ r₁) low) (omega arith))
+both_within : (r₁ r₂ D : ℕ) → 1 ≤ r₁ → r₁ ≤ 20000 → 1 ≤ r₂ → r₂ ≤ 20000 → gap r₁ r₂ * gap r₁ r₂ < D
+    → D < (r₁ + r₂) * (r₁ + r₂)
+    → Most 1 1074 (quotient (float r₁) (float r₂) (root_of D))
+    × Most 1 1074 (quotient (float r₂) (float r₁) (root_of D))
+both_within r₁ r₂ D P₁ L₁ P₂ L₂ low high = (
+  quotient_within r₁ r₂ D P₁ L₁ P₂ L₂ low high,
+  quotient_within r₂ r₁ D P₂ L₂ P₁ L₁ (rw (gap_comm r₂ r₁) low)
+      (omega arith),
+)
 
 -- Where a lens is worked out, what is handed to acos is within -1 to 1.
 pub quotients_within : QuotientsWithin
@@ -280,4 +333,5 @@ quotients_within a b ha hb out held =
     let s = sum a b in
     rw (distance_is la lb (distance_fits a b ha hb), la.whole, lb.whole)
     (both_within (radius_of a) (radius_of b) D la.least la.most lb.least lb.most
-    (leb-false D (t * t) (sym (decides_exactly a b ha hb).inside ∙ held)) (leb-false (s * s) D (sym (decides_exactly a b ha hb).outside ∙ out)))
+    (leb-false D (t * t) (sym (decides_exactly a b ha hb).inside ∙ held))
+    (leb-false (s * s) D (sym (decides_exactly a b ha hb).outside ∙ out)))

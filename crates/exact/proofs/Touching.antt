@@ -1,5 +1,6 @@
--- Two circles that touch, so that their distance is the whole number n: every step is exact. The foot of the chord is the point of touch, r₁ from the
--- first centre, nothing is left across, and both points are equal. Rests on Squares and Coordinates.
+-- Two circles that touch, so that their distance is the whole number n: every step is exact. The foot of the chord is
+-- the point of touch, r₁ from the first centre, nothing is left across, and both points are equal. Rests on Squares and
+-- Coordinates.
 use mathlib.Core.Path.{◌≡◌, refl, sym, ap, ap₂, ◌∙◌}
 use mathlib.Core.Logic.{◌⊎◌, inl, inr}
 use mathlib.Core.Bool.{Bool, true, false}
@@ -8,7 +9,7 @@ use native.Mathlib.Nat.{le_refl, le_of_eq, mul-pos, mul-le-mul, mul-le-mul_right
 use native.Mathlib.Omega.{arith}
 use lib.Ieee.{Float, binary64, add, sub, mul, eq, unlike}
 use Rattle.binary64.specs.Units.{one, mag, negative, plus, minus}
-use Rattle.binary64.proofs.Naturals.{lt_or_ge}
+use Rattle.std.proofs.lemmas.Bool.{cases_lt}
 use Rattle.binary64.specs.Rounding.{rnd}
 use Rattle.binary64.specs.Magnitude.{Most}
 use Rattle.binary64.proofs.Units.{one_pos, plus_minus, plus_sign, minus_sign, eq_of_units}
@@ -20,7 +21,8 @@ use Rattle.elementary.proofs.root.Values.{root_finite}
 use Rattle.elementary.proofs.root.Squares.{at_most}
 use Rattle.binary64.specs.Constants.{two64}
 use Rattle.exact.proofs.Distance.{Is, whole_is, is_mag}
-use Rattle.exact.proofs.Steps.{float, two_is, difference, along, rest, across, Exact, exact, square_is, square_parts, difference_exact}
+use Rattle.exact.proofs.Steps.{float, two_is, difference, along, rest}
+use Rattle.exact.proofs.Steps.{across, Exact, exact, square_is, square_parts, difference_exact}
 use Rattle.exact.proofs.Coordinates.{product_most, quotient_most}
 
 module _ (r₁ r₂ n : ℕ) (L₁ : r₁ ≤ 20000) (L₂ : r₂ ≤ 20000) (N : 1 ≤ n) (M : n ≤ 40000)
@@ -48,15 +50,22 @@ module _ (r₁ r₂ n : ℕ) (L₁ : r₁ ≤ 20000) (L₂ : r₂ ≤ 20000) (N 
   numerator_parts : (up ≡ down + 2 * (r₁ * n) * one) ⊎ (down ≡ up + 2 * (r₁ * n) * one)
   numerator_parts = go touch
     where
-      go : (r₁ * r₁ + n * n ≡ r₂ * r₂ + 2 * (r₁ * n)) ⊎ (r₂ * r₂ ≡ r₁ * r₁ + n * n + 2 * (r₁ * n)) → (up ≡ down + 2 * (r₁ * n) * one) ⊎ (down ≡ up + 2 * (r₁ * n) * one)
-      go (inl e) = inl (omega (arith, ap (λ (k : ℕ). k * one) e, (difference_exact r₁ r₂ L₁ L₂).parts, d_squared.up, d_squared.down))
-      go (inr e) = inr (omega (arith, ap (λ (k : ℕ). k * one) e, (difference_exact r₁ r₂ L₁ L₂).parts, d_squared.up, d_squared.down))
+      go : (r₁ * r₁ + n * n ≡ r₂ * r₂ + 2 * (r₁ * n)) ⊎ (r₂ * r₂ ≡ r₁ * r₁ + n * n + 2 * (r₁ * n))
+          → (up ≡ down + 2 * (r₁ * n) * one) ⊎ (down ≡ up + 2 * (r₁ * n) * one)
+      go (inl e) =
+          inl (omega
+          (arith, ap (λ (k : ℕ). k * one) e, (difference_exact r₁ r₂ L₁ L₂).parts, d_squared.up, d_squared.down))
+      go (inr e) =
+          inr (omega
+          (arith, ap (λ (k : ℕ). k * one) e, (difference_exact r₁ r₂ L₁ L₂).parts, d_squared.up, d_squared.down))
 
   few : 2 * (r₁ * n) ≤ 2 ^ 53
   few = omega (arith, mul-le-mul L₁ M)
 
   numerator_exact : Exact numerator up down (2 * (r₁ * n) * one)
-  numerator_exact = exact (add_result (difference_exact r₁ r₂ L₁ L₂).finite d_squared.finite) (bound_digits 1074 few) (bound_limit few (omega arith)) numerator_parts
+  numerator_exact =
+      exact (add_result (difference_exact r₁ r₂ L₁ L₂).finite d_squared.finite) (bound_digits 1074 few)
+      (bound_limit few (omega arith)) numerator_parts
 
   -- over 2 n that is r₁ or -r₁
   quotient : mag numerator * one ≡ r₁ * one * mag (mul binary64 two64 (float n))
@@ -64,7 +73,8 @@ module _ (r₁ r₂ n : ℕ) (L₁ : r₁ ≤ 20000) (L₂ : r₂ ≤ 20000) (N 
 
   -- the foot's distance along, and its size
   pub along_most : Most r₁ 1074 (along r₁ r₂ (float n))
-  along_most = quotient_most numerator_exact.finite d_twice.finite (omega arith) (omega arith) d_twice_pos (le_of_eq quotient)
+  along_most =
+      quotient_most numerator_exact.finite d_twice.finite (omega arith) (omega arith) d_twice_pos (le_of_eq quotient)
 
   pub along_mag : mag (along r₁ r₂ (float n)) ≡ r₁ * one
   along_mag =
@@ -73,7 +83,8 @@ module _ (r₁ r₂ n : ℕ) (L₁ : r₁ ≤ 20000) (L₂ : r₂ ≤ 20000) (N 
       ∙ rnd_exact (r₁ * one) (mag (mul binary64 two64 (float n))) d_twice_pos (bound_digits 1074 (omega arith))
 
   -- its sign: ahead, where the second centre lies not at the point of touch, or behind
-  pub along_side : 1 ≤ r₁ → 1 ≤ r₂ → ((negative (along r₁ r₂ (float n)) ≡ false) × ((r₁ < n) ⊎ (n < r₁))) ⊎ (negative (along r₁ r₂ (float n)) ≡ true)
+  pub along_side : 1 ≤ r₁ → 1 ≤ r₂
+      → ((negative (along r₁ r₂ (float n)) ≡ false) × ((r₁ < n) ⊎ (n < r₁))) ⊎ (negative (along r₁ r₂ (float n)) ≡ true)
   along_side P₁ P₂ = go touch
     where
       some : 0 < 2 * (r₁ * n) * one
@@ -82,7 +93,9 @@ module _ (r₁ r₂ n : ℕ) (L₁ : r₁ ≤ 20000) (L₂ : r₂ ≤ 20000) (N 
       by_numerator : (s : Bool) → negative numerator ≡ s → negative (along r₁ r₂ (float n)) ≡ s
       by_numerator s e =
           div_sign numerator_exact.finite d_twice.finite d_twice_pos along_most.finite
-          ∙ ap₂ unlike e (plus_sign (mul binary64 two64 (float n)) (omega (arith, d_twice.up, mul-le-mul_right one N, one_pos))) ∙ plain s
+          ∙ ap₂ unlike e
+          (plus_sign (mul binary64 two64 (float n)) (omega (arith, d_twice.up, mul-le-mul_right one N, one_pos)))
+          ∙ plain s
         where
           plain : (b : Bool) → unlike b false ≡ b
           plain true = refl
@@ -90,21 +103,30 @@ module _ (r₁ r₂ n : ℕ) (L₁ : r₁ ≤ 20000) (L₂ : r₂ ≤ 20000) (N 
 
       other : r₁ * r₁ + n * n ≡ r₂ * r₂ + 2 * (r₁ * n) → (r₁ < n) ⊎ (n ≤ r₁) → (r₁ < n) ⊎ (n < r₁)
       other e (inl l) = inl l
-      other e (inr l) = by (lt_or_ge n r₁)
+      other e (inr l) = by (cases_lt n r₁)
         where
           by : (n < r₁) ⊎ (r₁ ≤ n) → (r₁ < n) ⊎ (n < r₁)
           by (inl k) = inr k
-          by (inr k) = let same : n ≡ r₁ = omega arith in absurd (omega (arith, mul-le-mul P₂ P₂, ap (λ (i : ℕ). i * i) same, ap (λ (i : ℕ). r₁ * i) same))
+          by (inr k) =
+              let same : n ≡ r₁ = omega arith in
+              absurd (omega (arith, mul-le-mul P₂ P₂, ap (λ (i : ℕ). i * i) same, ap (λ (i : ℕ). r₁ * i) same))
 
       go : (r₁ * r₁ + n * n ≡ r₂ * r₂ + 2 * (r₁ * n)) ⊎ (r₂ * r₂ ≡ r₁ * r₁ + n * n + 2 * (r₁ * n))
-          → ((negative (along r₁ r₂ (float n)) ≡ false) × ((r₁ < n) ⊎ (n < r₁))) ⊎ (negative (along r₁ r₂ (float n)) ≡ true)
+          → ((negative (along r₁ r₂ (float n)) ≡ false) × ((r₁ < n) ⊎ (n < r₁)))
+          ⊎ (negative (along r₁ r₂ (float n)) ≡ true)
       go (inl e) =
           let p : up ≡ down + 2 * (r₁ * n) * one =
-          omega (arith, ap (λ (k : ℕ). k * one) e, (difference_exact r₁ r₂ L₁ L₂).parts, d_squared.up, d_squared.down) in
-          inl (by_numerator false (plus_sign numerator (omega (arith, numerator_exact.parts, p, some))), other e (lt_or_ge r₁ n))
+          omega (arith, ap (λ (k : ℕ). k * one) e, (difference_exact r₁ r₂ L₁ L₂).parts, d_squared.up, d_squared.down)
+          in
+          inl (
+            by_numerator false (plus_sign numerator (omega (arith, numerator_exact.parts, p, some))),
+            other e
+                (cases_lt r₁ n),
+          )
       go (inr e) =
           let p : down ≡ up + 2 * (r₁ * n) * one =
-          omega (arith, ap (λ (k : ℕ). k * one) e, (difference_exact r₁ r₂ L₁ L₂).parts, d_squared.up, d_squared.down) in
+          omega (arith, ap (λ (k : ℕ). k * one) e, (difference_exact r₁ r₂ L₁ L₂).parts, d_squared.up, d_squared.down)
+          in
           inr (by_numerator true (minus_sign numerator (omega (arith, numerator_exact.parts, p, some))))
 
   -- its square is r₁², and nothing is left
@@ -112,14 +134,19 @@ module _ (r₁ r₂ n : ℕ) (L₁ : r₁ ≤ 20000) (L₂ : r₂ ≤ 20000) (N 
   squared = mul binary64 (along r₁ r₂ (float n)) (along r₁ r₂ (float n))
 
   squared_most : Most (r₁ * r₁) 1074 squared
-  squared_most = product_most along_most.finite along_most.finite (omega (arith, mul-le-mul L₁ L₁)) (omega arith) (rw along_mag (omega arith))
+  squared_most =
+      product_most along_most.finite along_most.finite (omega (arith, mul-le-mul L₁ L₁)) (omega arith)
+      (rw along_mag (omega arith))
 
   squared_is : Is squared (r₁ * r₁)
   squared_is =
       let p = square_parts along_most.finite squared_most.finite in
       record {
         finite = squared_most.finite;
-        up = p.0 ∙ mul_mag along_most.finite along_most.finite squared_most.finite ∙ ap (λ (k : ℕ). rnd (k * k) one) along_mag ∙ ap (λ (k : ℕ). rnd k one) (omega arith) ∙ rnd_exact (r₁ * r₁ * one) one one_pos (bound_digits 1074 (omega (arith, mul-le-mul L₁ L₁)));
+        up =
+            p.0 ∙ mul_mag along_most.finite along_most.finite squared_most.finite
+            ∙ ap (λ (k : ℕ). rnd (k * k) one) along_mag ∙ ap (λ (k : ℕ). rnd k one) (omega arith)
+            ∙ rnd_exact (r₁ * r₁ * one) one one_pos (bound_digits 1074 (omega (arith, mul-le-mul L₁ L₁)));
         down = p.1;
       }
 
@@ -129,19 +156,23 @@ module _ (r₁ r₂ n : ℕ) (L₁ : r₁ ≤ 20000) (L₂ : r₂ ≤ 20000) (N 
   nothing_exact : Exact nothing (r₁ * r₁ * one + 0) (0 + r₁ * r₁ * one) (0 * one)
   nothing_exact =
       let a = square_is r₁ L₁ in
-      exact (rw (a.up, a.down, squared_is.up, squared_is.down) at (sub_result a.finite squared_is.finite)) (bound_digits 1074 (omega arith)) (bound_limit {j = 0} (omega arith) (omega arith)) (inl (omega arith))
+      exact (rw (a.up, a.down, squared_is.up, squared_is.down) at (sub_result a.finite squared_is.finite))
+      (bound_digits 1074 (omega arith)) (bound_limit {j = 0} (omega arith) (omega arith)) (inl (omega arith))
 
   -- so its root is a zero
   pub across_none : Most 0 1074 (across r₁ (along r₁ r₂ (float n)))
   across_none = record {
     finite = root_finite nothing nothing_exact.finite.fit;
-    bound = at_most nothing_exact.finite (omega (arith, plus_minus nothing, nothing_exact.size)) (0 * one) (bound_digits 1074 (omega arith)) (rw nothing_exact.size (omega arith));
+    bound =
+        at_most nothing_exact.finite (omega (arith, plus_minus nothing, nothing_exact.size)) (0 * one)
+        (bound_digits 1074 (omega arith)) (rw nothing_exact.size (omega arith));
   }
 
 -- ---- both points are equal
 
 -- x + z and x - z are the same number, where z is a zero
-pub same_side : {x z : Float} {j : ℕ} → Most j 1074 x → Most 0 1074 z → j ≤ 2 ^ 53 → eq (add binary64 x z) (sub binary64 x z) ≡ true
+pub same_side : {x z : Float} {j : ℕ} → Most j 1074 x → Most 0 1074 z → j ≤ 2 ^ 53
+    → eq (add binary64 x z) (sub binary64 x z) ≡ true
 same_side {x} {z} X Z J =
     let a = (add_most X Z (omega arith) (omega arith)).finite in
     let s = (sub_most X Z (omega arith) (omega arith)).finite in
@@ -149,6 +180,8 @@ same_side {x} {z} X Z J =
     let m : minus z ≡ 0 = omega (arith, plus_minus z, Z.bound) in
     let A = result_rounded (le_refl 1) (add_result X.finite Z.finite) a in
     let S = result_rounded (le_refl 1) (sub_result X.finite Z.finite) s in
-    let up : plus (add binary64 x z) ≡ plus (sub binary64 x z) = A.up ∙ ap₂ (λ (i j : ℕ). rnd ((plus x + i) - (minus x + j)) 1) (p ∙ sym m) (m ∙ sym p) ∙ sym S.up in
-    let down : minus (add binary64 x z) ≡ minus (sub binary64 x z) = A.down ∙ ap₂ (λ (i j : ℕ). rnd ((minus x + j) - (plus x + i)) 1) (p ∙ sym m) (m ∙ sym p) ∙ sym S.down in
+    let up : plus (add binary64 x z) ≡ plus (sub binary64 x z) =
+    A.up ∙ ap₂ (λ (i j : ℕ). rnd ((plus x + i) - (minus x + j)) 1) (p ∙ sym m) (m ∙ sym p) ∙ sym S.up in
+    let down : minus (add binary64 x z) ≡ minus (sub binary64 x z) =
+    A.down ∙ ap₂ (λ (i j : ℕ). rnd ((minus x + j) - (plus x + i)) 1) (p ∙ sym m) (m ∙ sym p) ∙ sym S.down in
     eq_of_units a s (ap₂ (λ (i j : ℕ). i + j) up (sym down))

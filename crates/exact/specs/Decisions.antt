@@ -1,7 +1,9 @@
--- Document 01, "Facts to hold", of the float code: D is the squared centre distance, s the sum and t the difference of the radii, all whole. "On the domain
--- below rounding changes none of these." Each statement equates what the definitions of `geometry` give, with f64, with what those of `heads` give, over
--- whole numbers. proofs/Theorem.antt proves these records for every ordered pair of heads within document 01's limits.
-use Rattle.std.specs.Prelude.{ℕ, ◌+◌, ◌*◌, ◌≤◌, ◌<◌, ◌≡◌, refl, Bool, true, false, ◌&&◌, [], ◌↔◌, T, ltb, leb, Float, length}
+-- Document 01, "Facts to hold", of the float code: D is the squared centre distance, s the sum and t the difference of
+-- the radii, all whole. "On the domain below rounding changes none of these." Each statement equates what the
+-- definitions of `geometry` give, with f64, with what those of `heads` give, over whole numbers. proofs/Theorem.antt
+-- proves these records for every ordered pair of heads within document 01's limits.
+use Rattle.std.specs.Prelude.{ℕ, ◌+◌, ◌*◌, ◌≤◌, ◌<◌, ◌≡◌, refl, Bool, true}
+use Rattle.std.specs.Prelude.{false, ◌&&◌, [], ◌↔◌, T, ltb, leb, Float, length}
 use Rattle.heads.specs.declared.Head.{Head}
 use Rattle.heads.specs.declared.Relation.TheVariants.{Crossing}
 use Rattle.heads.specs.Limits.{is_drawn}
@@ -26,7 +28,8 @@ use Rattle.exact.specs.Points.{AllPlaced, AllOff}
 abbrev pub beyond : Circle → Circle → Bool
 beyond a b = a.radius +ᶠ b.radius ≤ᶠ distance a.center b.center
 
--- One circle lies within the other: the Rust's `d <= (r1 - r2).abs()`, at which intersection_area is that of the smaller.
+-- One circle lies within the other: the Rust's `d <= (r1 - r2).abs()`, at which intersection_area is that of the
+-- smaller.
 abbrev pub within : Circle → Circle → Bool
 within a b = distance a.center b.center ≤ᶠ absolute (a.radius -ᶠ b.radius)
 
@@ -42,24 +45,28 @@ pub record Decided (a b : Head) : Type 0 where
   -- as many meeting points as the relation has: none, one or two
   pub count : length (intersection_points (circle_of a) (circle_of b)) ≡ points (relation_of a b)
   -- and so the answer of `intersection_points`: the number of its case, None, One or Two, is that of the relation
-  pub answer : (m : Meeting) → meeting.points m ≡ intersection_points (circle_of a) (circle_of b) → meeting.number m ≡ points (relation_of a b)
+  pub answer : (m : Meeting) → meeting.points m ≡ intersection_points (circle_of a) (circle_of b)
+      → meeting.number m ≡ points (relation_of a b)
   -- "Two heads meet exactly if t² ≤ D ≤ s² and they are not identical."
   pub none : (intersection_points (circle_of a) (circle_of b) ≡ []) ↔ (meets_of a b ≡ false)
   -- "One point exactly if also D = t² or D = s²,
   pub one : (length (intersection_points (circle_of a) (circle_of b)) ≡ 1) ↔ (meets_once_of a b ≡ true)
   -- otherwise two."
-  pub two : (length (intersection_points (circle_of a) (circle_of b)) ≡ 2) ↔ ((meets_of a b ≡ true) × (meets_once_of a b ≡ false))
+  pub two : (length (intersection_points (circle_of a) (circle_of b)) ≡ 2) ↔
+      ((meets_of a b ≡ true) × (meets_once_of a b ≡ false))
   -- "A contains B exactly if rA ≥ rB and D ≤ (rA-rB)²."
   pub contained : contains (circle_of a) (circle_of b) ≡ contains_of a b
   -- the outlines cross exactly if t² < D < s²
-  pub crossed : intersects (circle_of a) (circle_of b) ≡ (ltb (difference a b * difference a b) (squared_distance a b) && ltb (squared_distance a b) (sum a b * sum a b))
+  pub crossed : intersects (circle_of a) (circle_of b)
+      ≡ (ltb (difference a b * difference a b) (squared_distance a b) && ltb (squared_distance a b) (sum a b * sum a b))
   pub crossing : (intersects (circle_of a) (circle_of b) ≡ true) ↔ (relation_of a b ≡ Crossing)
   -- they touch from outside or are apart exactly if D ≥ s²
   pub outside : beyond (circle_of a) (circle_of b) ≡ leb (sum a b * sum a b) (squared_distance a b)
   -- one lies within the other exactly if D ≤ t²
   pub inside : within (circle_of a) (circle_of b) ≡ leb (squared_distance a b) (difference a b * difference a b)
 
--- The numbers of a head's circle: the centre at most 20000 from zero along each axis, the radius from 1 to 20000. 1 is 2 ^ 1074 units.
+-- The numbers of a head's circle: the centre at most 20000 from zero along each axis, the radius from 1 to 20000. 1 is
+-- 2 ^ 1074 units.
 pub record Drawn (h : Head) : Type 0 where
   pub x : Most 20000 1074 (circle_of h).center.x
   pub y : Most 20000 1074 (circle_of h).center.y
@@ -91,12 +98,14 @@ DecidesExactly = (a b : Head) → T (is_drawn a) → T (is_drawn b) → Decided 
 abbrev pub StaysBounded : Type 0
 StaysBounded = (a b : Head) → T (is_drawn a) → T (is_drawn b) → Bounded a b
 
--- Heads that do not meet have no meeting points, in either order of the pair: what the theorem on lists of edits asks of the geometry.
+-- Heads that do not meet have no meeting points, in either order of the pair: what the theorem on lists of edits asks
+-- of the geometry.
 abbrev pub NoPointsUnlessMet : Type 0
 NoPointsUnlessMet = (a b : Head) → T (is_drawn a) → T (is_drawn b) → meets_of a b ≡ false
     → (intersection_points (circle_of a) (circle_of b) ≡ []) × (intersection_points (circle_of b) (circle_of a) ≡ [])
 
--- "Giving heads that touch from outside an `intersection_area` above zero" is a slip: heads that touch from outside or are apart have +0.
+-- "Giving heads that touch from outside an `intersection_area` above zero" is a slip: heads that touch from outside or
+-- are apart have +0.
 abbrev pub NoAreaBeyond : Type 0
 NoAreaBeyond = (a b : Head) → T (is_drawn a) → T (is_drawn b) → sum a b * sum a b ≤ squared_distance a b
     → intersection_area (circle_of a) (circle_of b) ≡ zero64
@@ -115,6 +124,10 @@ lens_sectors r s d = refl
 
 -- Where a lens is worked out, both quotients are within -1 to 1: acos's domain. So no area rests on the +0 outside it.
 abbrev pub QuotientsWithin : Type 0
-QuotientsWithin = (a b : Head) → T (is_drawn a) → T (is_drawn b) → beyond (circle_of a) (circle_of b) ≡ false → within (circle_of a) (circle_of b) ≡ false
-    → Most 1 1074 (quotient (circle_of a).radius (circle_of b).radius (distance (circle_of a).center (circle_of b).center))
-    × Most 1 1074 (quotient (circle_of b).radius (circle_of a).radius (distance (circle_of a).center (circle_of b).center))
+QuotientsWithin =
+    (a b : Head) → T (is_drawn a) → T (is_drawn b) → beyond (circle_of a) (circle_of b) ≡ false
+    → within (circle_of a) (circle_of b) ≡ false
+    → Most 1 1074
+    (quotient (circle_of a).radius (circle_of b).radius (distance (circle_of a).center (circle_of b).center))
+    × Most 1 1074
+    (quotient (circle_of b).radius (circle_of a).radius (distance (circle_of a).center (circle_of b).center))

@@ -15,7 +15,8 @@ abbrev pub AllPlaced : List Point → Type 0
 AllPlaced [] = Unit {0}
 AllPlaced (p ∷ rest) = Placed p × AllPlaced rest
 
--- p is not the point c: one of the differences of their coordinates, which atan2 is handed for the angle of p about c, is not a zero
+-- p is not the point c: one of the differences of their coordinates, which atan2 is handed for the angle of p about c,
+-- is not a zero
 abbrev pub Off : Point → Point → Type 0
 Off c p = (0 < mag (p.x -ᶠ c.x)) ⊎ (0 < mag (p.y -ᶠ c.y))
 

@@ -10,8 +10,8 @@ use geometry::circle::Circle;
 use geometry::point::Point;
 use heads::Head;
 
-// The circle of a head: each of its whole numbers is an f64 as it stands. A function and no `From`, since both types are
-// other crates'.
+// The circle of a head: each of its whole numbers is an f64 as it stands. A function and no `From`, since both types
+// are other crates'.
 pub fn circle_of(head: Head) -> Circle
     ensures { result ≡ circle_of head }
 {

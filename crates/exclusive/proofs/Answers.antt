@@ -2,20 +2,14 @@
 use Rattle.std.proofs.Common.{Ok, Err}
 use mathlib.Core.Path.{◌≡◌, refl, ap}
 use mathlib.Core.Bool.{Bool, true, false, cond}
-use Prim.Native.Nat.{ℕ, ◌^◌, ◌≤◌, ◌<◌}
+use Prim.Native.Nat.{ℕ, ◌^◌, ◌≤◌}
 use native.Mathlib.Omega.{arith}
-use borrow.Author.Tests.{lt-ltb, le-ltb, ltb-false}
+use borrow.Author.Tests.{le-ltb, ltb-false}
 use lib.Dec.{ltb}
 use Rattle.exclusive.specs.declared.areas.RowsError.TheVariants.{TooManyHeads, TablesTooShort}
 use Rattle.exclusive.specs.Exclusive.{rows_check, rows_number, rows_answer}
 
 module _ (n rows : ℕ) where
-  pub too_many : 10 < n → Err TooManyHeads ≡ rows_check n rows
-  too_many h = rw (lt-ltb 10 n h) refl
-
-  pub too_few : n ≤ 10 → rows < 2 ^ n → Err TablesTooShort ≡ rows_check n rows
-  too_few h k = rw (le-ltb 10 n h, lt-ltb rows (2 ^ n) k) refl
-
   pub fits : n ≤ 10 → 2 ^ n ≤ rows → Ok tt ≡ rows_check n rows
   fits h k = rw (le-ltb 10 n h, le-ltb rows (2 ^ n) k) refl
 
@@ -26,7 +20,8 @@ module _ (n rows : ℕ) where
   taken = by (ltb 10 n) refl (ltb rows (2 ^ n)) refl
     where
       by : (a : Bool) → ltb 10 n ≡ a → (b : Bool) → ltb rows (2 ^ n) ≡ b
-          → ◌≡◌ {A = ℕ} (rows_number (cond a (Err TooManyHeads) (cond b (Err TablesTooShort) (Ok tt)))) 0 → (n ≤ 10) × (2 ^ n ≤ rows)
+          → ◌≡◌ {A = ℕ} (rows_number (cond a (Err TooManyHeads) (cond b (Err TablesTooShort) (Ok tt)))) 0
+          → (n ≤ 10) × (2 ^ n ≤ rows)
       by true f b g e = absurd (omega arith)
       by false f true g e = absurd (omega arith)
       by false f false g e = (ltb-false 10 n f, ltb-false rows (2 ^ n) g)

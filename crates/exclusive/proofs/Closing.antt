@@ -1,4 +1,5 @@
--- From the subtracted table to the table of exclusives: present rows are clamped, absent rows are +0, and what is beyond stays.
+-- From the subtracted table to the table of exclusives: present rows are clamped, absent rows are +0, and what is
+-- beyond stays.
 use mathlib.Core.Path.{◌≡◌, refl, sym, ap, ◌∙◌, subst}
 use mathlib.Core.Bool.{Bool, true, false, cond}
 use mathlib.Core.List.{List}
@@ -19,13 +20,15 @@ use Rattle.exclusive.proofs.Entries.{one_wide}
 use Rattle.exclusive.proofs.Unclamped.{unclamped_cong, exclusive_alike}
 
 -- of an absent row the number is not looked at
-pub if_present : (f : Float → Float) (x y : Float) (b : Bool) → (b ≡ true → x ≡ y) → cond b (f x) zero64 ≡ cond b (f y) zero64
+pub if_present : (f : Float → Float) (x y : Float) (b : Bool) → (b ≡ true → x ≡ y)
+    → cond b (f x) zero64 ≡ cond b (f y) zero64
 if_present f x y true e = ap f (e refl)
 if_present f x y false e = refl
 
 module _ (n : ℕ) (present : ℕ → Bool) (before after : List Float) where
   -- number k of a present row
-  pub subtracted_row : (width k S : ℕ) → Subtracted n present width before after → k < width → S < 2 ^ n → present S ≡ true
+  pub subtracted_row : (width k S : ℕ) → Subtracted n present width before after → k < width → S < 2 ^ n
+      → present S ≡ true
       → entry width after k S ≡ unclamped n present (entry width before k) S
   subtracted_row width k S s hk hs p =
       row_of present (λ T. entry width after k T ≡ unclamped n present (entry width before k) T) n S hs p (s.rows k hk)
@@ -44,18 +47,23 @@ pub clamped_is : (n : ℕ) (bytes : List ℕ) (areas after : List Float) → Sub
     → written (λ S. cond (stands bytes S) (clamp_to_zero (get_or after S nan)) zero64) (2 ^ n) after
     ≡ written (exclusive_row n (stands bytes) (λ S. get_or areas S nan)) (2 ^ n) areas
 clamped_is n bytes areas after s =
-    written_cong (λ S. cond (stands bytes S) (clamp_to_zero (get_or after S nan)) zero64) (exclusive_row n (stands bytes) (λ S. get_or areas S nan)) (2 ^ n) after areas
-    (λ S h. if_present clamp_to_zero (get_or after S nan) (unclamped n (stands bytes) (λ T. get_or areas T nan) S) (stands bytes S)
+    written_cong (λ S. cond (stands bytes S) (clamp_to_zero (get_or after S nan)) zero64)
+    (exclusive_row n (stands bytes) (λ S. get_or areas S nan)) (2 ^ n) after areas
+    (λ S h. if_present clamp_to_zero (get_or after S nan) (unclamped n (stands bytes) (λ T. get_or areas T nan) S)
+    (stands bytes S)
     (subtracted_one n (stands bytes) areas after S s h))
     (rest_one n (stands bytes) areas after s)
 
 -- of areas that were copied
-pub copied_is : (n : ℕ) (bytes : List ℕ) (areas first copied : List Float) → copied ≡ written (λ S. get_or areas S nan) (2 ^ n) first
+pub copied_is : (n : ℕ) (bytes : List ℕ) (areas first copied : List Float)
+    → copied ≡ written (λ S. get_or areas S nan) (2 ^ n) first
     → written (exclusive_row n (stands bytes) (λ S. get_or copied S nan)) (2 ^ n) copied
     ≡ written (exclusive_row n (stands bytes) (λ S. get_or areas S nan)) (2 ^ n) first
 copied_is n bytes areas first copied e =
-    written_cong (exclusive_row n (stands bytes) (λ S. get_or copied S nan)) (exclusive_row n (stands bytes) (λ S. get_or areas S nan)) (2 ^ n) copied first
-    (exclusive_alike n (stands bytes) (stands bytes) (λ S h. refl) (λ S. get_or copied S nan) (λ S. get_or areas S nan) old)
+    written_cong (exclusive_row n (stands bytes) (λ S. get_or copied S nan))
+    (exclusive_row n (stands bytes) (λ S. get_or areas S nan)) (2 ^ n) copied first
+    (exclusive_alike n (stands bytes) (stands bytes) (λ S h. refl) (λ S. get_or copied S nan) (λ S. get_or areas S nan)
+    old)
     (ap (drop (2 ^ n)) e ∙ drop_written (λ S. get_or areas S nan) (2 ^ n) (2 ^ n) first (le_refl (2 ^ n)))
   where
     old : (T : ℕ) → T < 2 ^ n → get_or copied T nan ≡ get_or areas T nan

@@ -34,14 +34,17 @@ module _ (w S : ℕ) (sums : ℕ → Float) (before after : List Float) where
       record { own = λ j h. absurd (omega arith); others = λ T j h k. refl; rest = λ m h. refl; many = refl }
 
   -- the next number
-  pub row_next : (k : ℕ) (sum : Float) → k < w → suc S * w ≤ length before → sum ≡ sums k → RowSubtracted w S sums k before after
+  pub row_next : (k : ℕ) (sum : Float) → k < w → suc S * w ≤ length before → sum ≡ sums k
+      → RowSubtracted w S sums k before after
       → RowSubtracted w S sums (k + 1) before (set after (S * w + k) (entry w after k S -ᶠ sum))
   row_next k sum hk room e r =
       record {
         own = λ j h. ⊎_elim (λ (f : j ≡ k). subst (λ (i : ℕ). entry w new i S ≡ goal i) (sym f) here)
-            (λ l. stays S j (λ f. same_number w S S (omega arith) hk f) l ∙ r.own j l) (eq-or-lt_of_le (le_of_suc-le-suc (subst (λ (x : ℕ). j < x) (add-one k) h)));
+            (λ l. stays S j (λ f. same_number w S S (omega arith) hk f) l ∙ r.own j l)
+            (eq-or-lt_of_le (le_of_suc-le-suc (subst (λ (x : ℕ). j < x) (add-one k) h)));
         others = λ T j h hj. get_or-set_other after (S * w + k) (T * w + j) (entry w after k S -ᶠ sum) nan
-            (λ f. omega (arith, h (same_row w S T hj hk f), same_number w S T hj hk f)) ∙ r.others T j (λ f. omega (arith, h f)) hj;
+            (λ f. omega (arith, h (same_row w S T hj hk f), same_number w S T hj hk f))
+            ∙ r.others T j (λ f. omega (arith, h f)) hj;
         rest = λ m h. drop-set-lt m after (S * w + k) (entry w after k S -ᶠ sum) (omega arith) ∙ r.rest m h;
         many = length-set after (S * w + k) (entry w after k S -ᶠ sum) ∙ r.many;
       }
@@ -53,7 +56,8 @@ module _ (w S : ℕ) (sums : ℕ → Float) (before after : List Float) where
       goal i = entry w before i S -ᶠ sums i
 
       stays : (T j : ℕ) → (T * w + j ≡ S * w + k → j ≡ k) → j < k → entry w new j T ≡ entry w after j T
-      stays T j h l = get_or-set_other after (S * w + k) (T * w + j) (entry w after k S -ᶠ sum) nan (λ f. omega (arith, h f))
+      stays T j h l =
+          get_or-set_other after (S * w + k) (T * w + j) (entry w after k S -ᶠ sum) nan (λ f. omega (arith, h f))
 
       here : entry w new k S ≡ goal k
       here =
@@ -61,6 +65,8 @@ module _ (w S : ℕ) (sums : ℕ → Float) (before after : List Float) where
           ∙ ap₂ ◌-ᶠ◌ (r.others S k (λ f. le_refl k) hk) e
 
   -- the sums of other rows are not touched
-  pub sums_stay : (rows : List ℕ) (k j : ℕ) → j < w → Every (λ T. T ≡ S → ⊥) rows → RowSubtracted w S sums k before after → row_sums w after rows j ≡ row_sums w before rows j
+  pub sums_stay : (rows : List ℕ) (k j : ℕ) → j < w → Every (λ T. T ≡ S → ⊥) rows
+      → RowSubtracted w S sums k before after → row_sums w after rows j ≡ row_sums w before rows j
   sums_stay rows k j hj other r =
-      sum_same (entry w after j) (entry w before j) zero64 rows (every_map rows (λ T h. r.others T j (λ f. absurd (h f)) hj) other)
+      sum_same (entry w after j) (entry w before j) zero64 rows
+      (every_map rows (λ T h. r.others T j (λ f. absurd (h f)) hj) other)

@@ -94,7 +94,8 @@ module _ (present : ℕ → Bool) where
 -- ---- the present rows by mask
 
 -- of a row or none, one of c heads
-one_kept : (c S : ℕ) (b : Bool) → keep (λ T. eqb (ones T) c) (cond b (S ∷ []) []) ≡ cond (b && eqb (ones S) c) (S ∷ []) []
+one_kept : (c S : ℕ) (b : Bool)
+    → keep (λ T. eqb (ones T) c) (cond b (S ∷ []) []) ≡ cond (b && eqb (ones S) c) (S ∷ []) []
 unfolding keep
 one_kept c S true = refl
 one_kept c S false = refl
@@ -128,4 +129,5 @@ module _ (present : ℕ → Bool) where
 
 -- the write of one row
 pub put : (all R : List ℕ) (k s : ℕ) → k < length all → take k all ≡ R → take (k + 1) (set all k s) ≡ R ++ (s ∷ [])
-put all R k s h e = ap (λ (n : ℕ). take n (set all k s)) (add-one k) ∙ take-suc-set all k s h ∙ ap (λ (l : List ℕ). l ++ (s ∷ [])) e
+put all R k s h e =
+    ap (λ (n : ℕ). take n (set all k s)) (add-one k) ∙ take-suc-set all k s h ∙ ap (λ (l : List ℕ). l ++ (s ∷ [])) e

@@ -1,5 +1,5 @@
--- Laws of row order: what holds of every present mask of the table holds of every row and the other way; rows come by number of heads, then
--- by mask, so no row comes twice.
+-- Laws of row order: what holds of every present mask of the table holds of every row and the other way; rows come by
+-- number of heads, then by mask, so no row comes twice.
 use mathlib.Core.Path.{◌≡◌, refl, ap, ap₂, subst}
 use mathlib.Core.Bool.{Bool, true, false, cond, ◌&&◌}
 use mathlib.Core.List.{List, [], ◌∷◌, ◌++◌}
@@ -29,13 +29,16 @@ module _ (present : ℕ → Bool) where
       go false e = tt
 
   -- what holds of each present row holds along the order
-  every_level : (P : ℕ → Type 0) (c m : ℕ) → ((S : ℕ) → S < m → present S ≡ true → ones S ≡ c → P S) → Every P (rows_of present c m)
+  every_level : (P : ℕ → Type 0) (c m : ℕ) → ((S : ℕ) → S < m → present S ≡ true → ones S ≡ c → P S)
+      → Every P (rows_of present c m)
   unfolding rows_of
   every_level P c m h = every_up_to P (row c) m (λ S k. one P c S (h S k))
 
-  pub every_row : (P : ℕ → Type 0) (n : ℕ) → ((S : ℕ) → S < 2 ^ n → present S ≡ true → P S) → Every P (row_order present n)
+  pub every_row : (P : ℕ → Type 0) (n : ℕ) → ((S : ℕ) → S < 2 ^ n → present S ≡ true → P S)
+      → Every P (row_order present n)
   unfolding row_order
-  every_row P n h = every_up_to P (λ c. rows_of present c (2 ^ n)) (suc n) (λ c k. every_level P c (2 ^ n) (λ S l p e. h S l p))
+  every_row P n h =
+      every_up_to P (λ c. rows_of present c (2 ^ n)) (suc n) (λ c k. every_level P c (2 ^ n) (λ S l p e. h S l p))
 
   -- and the other way
   pub row_of : (P : ℕ → Type 0) (n S : ℕ) → S < 2 ^ n → present S ≡ true → Every P (row_order present n) → P S
@@ -52,7 +55,8 @@ ordered_append [] b ha hb h = hb
 ordered_append (S ∷ a) b ha hb h = (every_append (Earlier S) a b ha.0 h.0, ordered_append a b ha.1 hb h.1)
 
 -- lists one after another, each in order, whose elements are told apart by P
-ordered_up_to : (P : ℕ → ℕ → Type 0) (f : ℕ → List ℕ) (m : ℕ) → ((i : ℕ) → Ordered (f i)) → ((i : ℕ) → Every (P i) (f i))
+ordered_up_to : (P : ℕ → ℕ → Type 0) (f : ℕ → List ℕ) (m : ℕ) → ((i : ℕ) → Ordered (f i))
+    → ((i : ℕ) → Every (P i) (f i))
     → ((i j S T : ℕ) → i < j → P i S → P j T → Earlier S T) → Ordered (up_to f m)
 unfolding up_to
 ordered_up_to P f zero each own before = tt

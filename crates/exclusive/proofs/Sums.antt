@@ -1,4 +1,5 @@
--- Sums over a list of rows and the supersets of a row, as the loops go on; and the strict supersets of a row all come after it.
+-- Sums over a list of rows and the supersets of a row, as the loops go on; and the strict supersets of a row all come
+-- after it.
 use mathlib.Core.Path.{◌≡◌, refl, sym, ap, ap₂, ◌∙◌, subst}
 use mathlib.Core.Bool.{Bool, true, false, not, cond, ◌&&◌, and-true}
 use mathlib.Core.List.{List, [], ◌∷◌, ◌++◌, append_assoc}
@@ -38,18 +39,23 @@ module _ (f : ℕ → Float) (sum : Float) (l : List ℕ) (j : ℕ) where
 -- ---- the rows that pass, one after another
 
 module _ (p : ℕ → Bool) (found l : List ℕ) (j : ℕ) where
-  kept : j < length l → keep p (drop j l) ≡ cond (p (get_or l j 0)) (get_or l j 0 ∷ keep p (drop (j + 1) l)) (keep p (drop (j + 1) l))
+  kept : j < length l
+      → keep p (drop j l) ≡ cond (p (get_or l j 0)) (get_or l j 0 ∷ keep p (drop (j + 1) l)) (keep p (drop (j + 1) l))
   unfolding keep
   kept h = ap (keep p) (from_here l j h)
 
-  pub kept_with : j < length l → p (get_or l j 0) ≡ true → (found ++ (get_or l j 0 ∷ [])) ++ keep p (drop (j + 1) l) ≡ found ++ keep p (drop j l)
+  pub kept_with : j < length l → p (get_or l j 0) ≡ true
+      → (found ++ (get_or l j 0 ∷ [])) ++ keep p (drop (j + 1) l) ≡ found ++ keep p (drop j l)
   kept_with h e =
       append_assoc found (get_or l j 0 ∷ []) (keep p (drop (j + 1) l))
-      ∙ sym (ap (λ (r : List ℕ). found ++ r) (kept h ∙ ap (λ (b : Bool). cond b (get_or l j 0 ∷ keep p (drop (j + 1) l)) (keep p (drop (j + 1) l))) e))
+      ∙ sym (ap (λ (r : List ℕ). found ++ r)
+      (kept h ∙ ap (λ (b : Bool). cond b (get_or l j 0 ∷ keep p (drop (j + 1) l)) (keep p (drop (j + 1) l))) e))
 
-  pub kept_without : j < length l → p (get_or l j 0) ≡ false → found ++ keep p (drop (j + 1) l) ≡ found ++ keep p (drop j l)
+  pub kept_without : j < length l → p (get_or l j 0) ≡ false
+      → found ++ keep p (drop (j + 1) l) ≡ found ++ keep p (drop j l)
   kept_without h e =
-      sym (ap (λ (r : List ℕ). found ++ r) (kept h ∙ ap (λ (b : Bool). cond b (get_or l j 0 ∷ keep p (drop (j + 1) l)) (keep p (drop (j + 1) l))) e))
+      sym (ap (λ (r : List ℕ). found ++ r)
+      (kept h ∙ ap (λ (b : Bool). cond b (get_or l j 0 ∷ keep p (drop (j + 1) l)) (keep p (drop (j + 1) l))) e))
 
 pub kept_end : (p : ℕ → Bool) (l : List ℕ) (j : ℕ) → length l ≤ j → keep p (drop j l) ≡ []
 unfolding keep
@@ -81,24 +87,30 @@ module _ (l : List ℕ) (i U : ℕ) (inside : i < length l) (here : get_or l i 0
   cut = split_at l i 0 inside ∙ ap (λ (x : ℕ). take i l ++ x ∷ drop (suc i) l) here
 
   -- the strict supersets of a row S come after each row U that has no more heads
-  pub later : (n S : ℕ) → S < 2 ^ n → ones U ≤ ones S → Ordered l → keep (strict_subset n S) l ≡ keep (strict_subset n S) (drop (i + 1) l)
+  pub later : (n S : ℕ) → S < 2 ^ n → ones U ≤ ones S → Ordered l
+      → keep (strict_subset n S) l ≡ keep (strict_subset n S) (drop (i + 1) l)
   unfolding keep
   later n S hs few ordered =
       ap (keep (strict_subset n S)) cut ∙ keep_append (strict_subset n S) (take i l) (U ∷ drop (suc i) l)
       ∙ ap₂ ◌++◌
       (keep_none (strict_subset n S) (take i l)
-      (every_map (take i l) (λ T e. not_strict n S T hs (omega (arith, earlier_heads T U e))) (all_earlier (take i l) (drop (suc i) l) U (subst Ordered cut ordered))))
-      (ap (λ (t : Bool). cond t (U ∷ keep (strict_subset n S) (drop (suc i) l)) (keep (strict_subset n S) (drop (suc i) l))) (not_strict n S U hs few))
+      (every_map (take i l) (λ T e. not_strict n S T hs (omega (arith, earlier_heads T U e)))
+      (all_earlier (take i l) (drop (suc i) l) U (subst Ordered cut ordered))))
+      (ap (λ (t : Bool). cond t (U ∷ keep (strict_subset n S) (drop (suc i) l))
+      (keep (strict_subset n S) (drop (suc i) l))) (not_strict n S U hs few))
       ∙ ap (λ (k : ℕ). keep (strict_subset n S) (drop k l)) (sym (add-one i))
 
   -- the supersets of a row from a later place on are strict
-  pub supersets_after : (k n : ℕ) → U < 2 ^ n → U < 2 ^ 64 → i < k → Ordered l → keep (subset 64 U) (drop k l) ≡ keep (strict_subset n U) (drop k l)
+  pub supersets_after : (k n : ℕ) → U < 2 ^ n → U < 2 ^ 64 → i < k → Ordered l
+      → keep (subset 64 U) (drop k l) ≡ keep (strict_subset n U) (drop k l)
   supersets_after k n hu wide h ordered =
       let e : suc i + (k - suc i) ≡ k = omega arith in
       keep_same (subset 64 U) (strict_subset n U) (drop k l)
-      (subst (Every (λ T. subset 64 U T ≡ strict_subset n U T)) (drop-drop (k - suc i) (suc i) l ∙ ap (λ (j : ℕ). drop j l) e)
+      (subst (Every (λ T. subset 64 U T ≡ strict_subset n U T))
+      (drop-drop (k - suc i) (suc i) l ∙ ap (λ (j : ℕ). drop j l) e)
       (every_drop (λ T. subset 64 U T ≡ strict_subset n U T) (k - suc i) (drop (suc i) l)
-      (every_map (drop (suc i) l) (λ T o. strict T (earlier_other U T o)) (all_later (take i l) (drop (suc i) l) U (subst Ordered cut ordered)))))
+      (every_map (drop (suc i) l) (λ T o. strict T (earlier_other U T o))
+      (all_later (take i l) (drop (suc i) l) U (subst Ordered cut ordered)))))
     where
       -- the test does not depend on the width
       strict : (T : ℕ) → (U ≡ T → ⊥) → subset 64 U T ≡ strict_subset n U T

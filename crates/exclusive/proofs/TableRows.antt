@@ -1,4 +1,5 @@
--- A table of rows of so many numbers each, as one list: which row a place is in, and the rows written one after another.
+-- A table of rows of so many numbers each, as one list: which row a place is in, and the rows written one after
+-- another.
 use mathlib.Core.Path.{◌≡◌, sym, ap, ap₂, ◌∙◌}
 use mathlib.Core.List.{List, [], ◌∷◌, ◌++◌, append_assoc, append-nil}
 use Prim.Native.Nat.{ℕ, zero, suc, ◌+◌, ◌*◌, ◌/◌, ◌%◌, ◌-◌, ◌≤◌, ◌<◌}
@@ -51,7 +52,8 @@ module _ {A : Type 0} where
       get_or-replicate m i v v inside ∙ sym (get_d_tab f m i v inside ∙ e i inside))
 
   -- a part laid after what is written before it
-  pub part_written : (f : ℕ → A) (at width : ℕ) (part l now : List A) → part ≡ tab (λ i. f (at + i)) width → now ≡ written f at l
+  pub part_written : (f : ℕ → A) (at width : ℕ) (part l now : List A) → part ≡ tab (λ i. f (at + i)) width
+      → now ≡ written f at l
       → take at now ++ (part ++ drop width (drop at now)) ≡ written f (at + width) l
   part_written f at width part l now own e =
       ap₂ (λ (a b : List A). a ++ b) before (ap₂ (λ (a b : List A). a ++ b) own beyond)
@@ -65,7 +67,8 @@ module _ {A : Type 0} where
       beyond = drop-drop width at now ∙ ap (drop (at + width)) e ∙ drop_written f at (at + width) l (omega arith)
 
   -- a part that holds one element throughout
-  pub fill_written : (f : ℕ → A) (at width : ℕ) (v : A) (l now : List A) → ((x : ℕ) → at ≤ x → x < at + width → f x ≡ v) → now ≡ written f at l
+  pub fill_written : (f : ℕ → A) (at width : ℕ) (v : A) (l now : List A) → ((x : ℕ) → at ≤ x → x < at + width → f x ≡ v)
+      → now ≡ written f at l
       → take at now ++ (replicate width v ++ drop width (drop at now)) ≡ written f (at + width) l
   fill_written f at width v l now same e =
       part_written f at width (replicate width v) l now
@@ -76,9 +79,11 @@ module _ {A : Type 0} where
   by_row width d row x = get_or (row (x / width)) (x % width) d
 
   -- row s laid after those before it
-  pub row_written : (width s : ℕ) (d : A) (row : ℕ → List A) (l now : List A) → suc s * width ≤ length l → length (row s) ≡ width
+  pub row_written : (width s : ℕ) (d : A) (row : ℕ → List A) (l now : List A) → suc s * width ≤ length l
+      → length (row s) ≡ width
       → now ≡ written (by_row width d row) (s * width) l
-      → take (s * width) now ++ (row s ++ drop width (drop (s * width) now)) ≡ written (by_row width d row) ((s + 1) * width) l
+      → take (s * width) now ++ (row s ++ drop width (drop (s * width) now))
+      ≡ written (by_row width d row) ((s + 1) * width) l
   row_written width s d row l now room many e =
       let end : s * width + width ≡ (s + 1) * width = omega arith in
       part_written F (s * width) width (row s) l now own e ∙ ap (λ (m : ℕ). written F m l) end

@@ -1,5 +1,5 @@
--- Document 01's sentence on exclusive areas as an equation: from the area of a row the unclamped exclusives of its present strict supersets.
--- And a row below 2^n looks at presence and areas below 2^n only.
+-- Document 01's sentence on exclusive areas as an equation: from the area of a row the unclamped exclusives of its
+-- present strict supersets. And a row below 2^n looks at presence and areas below 2^n only.
 use mathlib.Core.Path.{◌≡◌, refl, sym, ap, ap₂, ◌∙◌, fun_ext}
 use mathlib.Core.Bool.{Bool, cond}
 use mathlib.Core.List.{List, [], ◌∷◌}
@@ -20,7 +20,8 @@ use Rattle.exclusive.specs.Exclusive.{sum_onto, above, subtracted, unclamped, ex
 use Rattle.exclusive.proofs.RowOrder.{every_row}
 
 -- a sum over rows at which two functions agree
-pub sum_same : (f g : ℕ → Float) (sum : Float) (l : List ℕ) → Every (λ T. f T ≡ g T) l → sum_onto f sum l ≡ sum_onto g sum l
+pub sum_same : (f g : ℕ → Float) (sum : Float) (l : List ℕ) → Every (λ T. f T ≡ g T) l
+    → sum_onto f sum l ≡ sum_onto g sum l
 unfolding sum_onto
 sum_same f g sum [] e = refl
 sum_same f g sum (T ∷ l) e = ap (λ (x : Float). sum_onto f (sum +ᶠ x) l) e.0 ∙ sum_same f g (sum +ᶠ g T) l e.1
@@ -31,10 +32,12 @@ none (T ∷ l) e = absurd e.0
 
 module _ (n : ℕ) (present : ℕ → Bool) where
   -- a row above S is a mask of the table with more heads
-  pub above_every : (S : ℕ) → S < 2 ^ n → (Q : ℕ → Type 0) → ((T : ℕ) → T < 2 ^ n → ones S < ones T → Q T) → Every Q (above n present S)
+  pub above_every : (S : ℕ) → S < 2 ^ n → (Q : ℕ → Type 0) → ((T : ℕ) → T < 2 ^ n → ones S < ones T → Q T)
+      → Every Q (above n present S)
   unfolding above
   above_every S hs Q h =
-      every_kept (λ T. T < 2 ^ n) Q (strict_subset n S) (row_order present n) (every_row present (λ T. T < 2 ^ n) n (λ T k p. k))
+      every_kept (λ T. T < 2 ^ n) Q (strict_subset n S) (row_order present n)
+      (every_row present (λ T. T < 2 ^ n) n (λ T k p. k))
       (λ T k e. h T k (strict_more n S T hs e))
 
   -- as many levels as there are supersets of more and more heads are enough
@@ -42,13 +45,17 @@ module _ (n : ℕ) (present : ℕ → Bool) where
   nothing_above S hs h = none (above n present S) (above_every S hs (λ T. ⊥) (λ T l m. omega (arith, ones-le n T l)))
 
   module _ (area : ℕ → Float) where
-    deep : (d e S : ℕ) → S < 2 ^ n → n ≤ d + ones S → n ≤ e + ones S → subtracted n present area d S ≡ subtracted n present area e S
+    deep : (d e S : ℕ) → S < 2 ^ n → n ≤ d + ones S → n ≤ e + ones S
+        → subtracted n present area d S ≡ subtracted n present area e S
     unfolding subtracted sum_onto
     deep zero zero S hs h k = refl
-    deep zero (suc e) S hs h k = sym (ap (sum_onto (λ T. area T -ᶠ subtracted n present area e T) zero64) (nothing_above S hs (omega arith)))
-    deep (suc d) zero S hs h k = ap (sum_onto (λ T. area T -ᶠ subtracted n present area d T) zero64) (nothing_above S hs (omega arith))
+    deep zero (suc e) S hs h k =
+        sym (ap (sum_onto (λ T. area T -ᶠ subtracted n present area e T) zero64) (nothing_above S hs (omega arith)))
+    deep (suc d) zero S hs h k =
+        ap (sum_onto (λ T. area T -ᶠ subtracted n present area d T) zero64) (nothing_above S hs (omega arith))
     deep (suc d) (suc e) S hs h k =
-        sum_same (λ T. area T -ᶠ subtracted n present area d T) (λ T. area T -ᶠ subtracted n present area e T) zero64 (above n present S)
+        sum_same (λ T. area T -ᶠ subtracted n present area d T) (λ T. area T -ᶠ subtracted n present area e T) zero64
+        (above n present S)
         (above_every S hs (λ T. area T -ᶠ subtracted n present area d T ≡ area T -ᶠ subtracted n present area e T)
         (λ T l m. ap (λ (x : Float). area T -ᶠ x) (deep d e T l (omega arith) (omega arith))))
 
@@ -57,7 +64,8 @@ module _ (n : ℕ) (present : ℕ → Bool) where
     unfolding subtracted
     subtracted_cong zero S hs = refl
     subtracted_cong (suc d) S hs =
-        sum_same (λ T. f T -ᶠ subtracted n present f d T) (λ T. g T -ᶠ subtracted n present g d T) zero64 (above n present S)
+        sum_same (λ T. f T -ᶠ subtracted n present f d T) (λ T. g T -ᶠ subtracted n present g d T) zero64
+        (above n present S)
         (above_every S hs (λ T. f T -ᶠ subtracted n present f d T ≡ g T -ᶠ subtracted n present g d T)
         (λ T l m. ap₂ ◌-ᶠ◌ (same T l) (subtracted_cong d T l)))
 

@@ -10,7 +10,8 @@ use lib.Ieee.Fits.{add-fits}
 use Rattle.binary64.specs.Units.{Finite, Digits53, mag, plus, minus, negative, signed_zero}
 use Rattle.binary64.specs.Constants.{zero64, zero64_is}
 use Rattle.binary64.specs.Floats.{◌+ᶠ◌}
-use Rattle.binary64.proofs.Units.{zero64_finite, zero64_sign, zero64_plus, zero64_minus, plus_is, minus_is, mag_digits, mag_limit, is_of_units, is_zero, digits53}
+use Rattle.binary64.proofs.Units.{zero64_finite, zero64_sign, zero64_plus, zero64_minus, plus_is}
+use Rattle.binary64.proofs.Units.{minus_is, mag_digits, mag_limit, is_of_units, is_zero, digits53}
 use Rattle.binary64.proofs.Operations.{add_result, add_zero_sum, result_plus, result_minus, result_mag, result_sign}
 use Rattle.binary64.proofs.Rounding.{rnd_ge}
 
@@ -33,11 +34,13 @@ finite_add_zero s f h = by (negative s) refl (ltb 0 (mag s)) refl
     by : (b : Bool) → negative s ≡ b → (t : Bool) → ltb 0 (mag s) ≡ t → add binary64 s zero64 ≡ s
     by false e true g =
         let p = plus_is s e in
-        result_plus (omega arith) (add_result f zero64_finite) (ltb-true 0 (mag s) g) (mag_digits f) (mag_limit f) (omega (arith, p.0, p.1, zero64_plus, zero64_minus))
+        result_plus (omega arith) (add_result f zero64_finite) (ltb-true 0 (mag s) g) (mag_digits f) (mag_limit f)
+        (omega (arith, p.0, p.1, zero64_plus, zero64_minus))
         ∙ sym (is_of_units f ∙ rw e)
     by true e true g =
         let p = minus_is s e in
-        result_minus (omega arith) (add_result f zero64_finite) (ltb-true 0 (mag s) g) (mag_digits f) (mag_limit f) (omega (arith, p.0, p.1, zero64_plus, zero64_minus))
+        result_minus (omega arith) (add_result f zero64_finite) (ltb-true 0 (mag s) g) (mag_digits f) (mag_limit f)
+        (omega (arith, p.0, p.1, zero64_plus, zero64_minus))
         ∙ sym (is_of_units f ∙ rw e)
     by false e false g =
         let p = plus_is s e in
@@ -56,7 +59,8 @@ add-zero (fin b m e) h =
     finite_add_zero (fin b m e) f (h.upright f)
 
 -- a sum is -0 only if both are
-sum_upright : (s x : Float) → Finite s → Finite x → (negative s ≡ true → 0 < mag s) → Finite (add binary64 s x) → negative (add binary64 s x) ≡ true → 0 < mag (add binary64 s x)
+sum_upright : (s x : Float) → Finite s → Finite x → (negative s ≡ true → 0 < mag s) → Finite (add binary64 s x)
+    → negative (add binary64 s x) ≡ true → 0 < mag (add binary64 s x)
 sum_upright s x fs fx h f e = by (eqb (plus s + plus x) (minus s + minus x)) refl
   where
     one_digit : Digits53 1

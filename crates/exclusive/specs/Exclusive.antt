@@ -1,6 +1,6 @@
--- Exclusive areas: document 01, "from the last row to the first, minus the sum, in row order, of the not yet clamped exclusives of
--- present strict supersets. .. Clamping comes last." Over any list of sets and any areas. proofs/Unclamped.antt proves the sentence as an
--- equation: `unclamped_is`.
+-- Exclusive areas: document 01, "from the last row to the first, minus the sum, in row order, of the not yet clamped
+-- exclusives of present strict supersets. .. Clamping comes last." Over any list of sets and any areas.
+-- proofs/Unclamped.antt proves the sentence as an equation: `unclamped_is`.
 use Prim.Native.Nat.{ℕ, zero, suc, min, ◌<◌, ◌^◌}
 use Rattle.std.specs.Prelude.{Bool, cond, List, [], ◌∷◌, ◌≡◌, eqb, ltb, Float, get_or, length}
 use Rattle.std.specs.Prelude.{Result, Ok, Err}
@@ -69,7 +69,8 @@ rows_answer n rows = rows_number (rows_check n rows)
 abbrev pub exclusive_answer : ℕ → List ℕ → List Float → List Float → ℕ
 exclusive_answer n bytes areas exclusives = rows_answer n (min (length bytes) (min (length areas) (length exclusives)))
 
--- The table of exclusives: where it is taken rows 0 to 2^n - 1 are written and "bytes beyond .. stay", otherwise nothing is written.
+-- The table of exclusives: where it is taken rows 0 to 2^n - 1 are written and "bytes beyond .. stay", otherwise
+-- nothing is written.
 abbrev pub exclusive_table : ℕ → List ℕ → List Float → List Float → List Float
 exclusive_table n bytes areas exclusives =
     cond (eqb (exclusive_answer n bytes areas exclusives) 0)

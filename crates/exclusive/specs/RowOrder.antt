@@ -1,10 +1,9 @@
--- "Rows are ordered by number of heads, then by mask": the present rows of a table as a list, and the claim that the list is so ordered,
--- which proofs/RowOrder.antt proves: `rows_ordered`.
-use Rattle.std.specs.Prelude.{ℕ, suc, ◌<◌, ◌^◌, Bool, cond, ◌&&◌, List, [], ◌∷◌, ◌⊎◌, ◌≡◌, eqb, take}
+-- "Rows are ordered by number of heads, then by mask": the present rows of a table as a list, and the claim that the
+-- list is so ordered, which proofs/RowOrder.antt proves: `rows_ordered`.
+use Rattle.std.specs.Prelude.{ℕ, suc, ◌<◌, ◌^◌, Bool, cond, ◌&&◌, List, [], ◌∷◌, ◌⊎◌, ◌≡◌, eqb}
 use Rattle.std.specs.Int.Count.{ones}
 use Rattle.lists.specs.Lists.{up_to}
 use Rattle.lists.specs.Every.{Every}
-use Rattle.exclusive.specs.declared.rows.Rows.{Rows}
 
 -- the present rows of c heads below row m, by mask
 unfoldable pub rows_of : (ℕ → Bool) → ℕ → ℕ → List ℕ
@@ -27,7 +26,3 @@ Ordered (S ∷ l) = Every (Earlier S) l × Ordered l
 
 abbrev pub RowsOrdered : Type 0
 RowsOrdered = (present : ℕ → Bool) (n : ℕ) → Ordered (row_order present n)
-
--- what a struct of a count and an array stands for: the first so many of the array
-abbrev pub row_list : Rows → List ℕ
-row_list r = take r.n r.all

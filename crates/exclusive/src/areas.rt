@@ -5,7 +5,8 @@ ghost use Rattle.lists.specs.Written.{written};
 ghost use Rattle.masks.specs.Presence.{stands};
 ghost use Rattle.binary64.specs.Constants.{zero64};
 ghost use Rattle.binary64.specs.Functions.{clamp_to_zero};
-ghost use Rattle.exclusive.specs.Exclusive.{exclusive_row, rows_check, rows_number, exclusive_table, exclusives_in_place};
+ghost use Rattle.exclusive.specs.Exclusive.{exclusive_row, rows_check, rows_number};
+ghost use Rattle.exclusive.specs.Exclusive.{exclusive_table, exclusives_in_place};
 
 use crate::levels::subtract_levels;
 use crate::presence::Presence;
@@ -19,6 +20,7 @@ pub enum RowsError {
 }
 
 // Document 01's number of an answer: 0 where the tables are taken.
+// For the exports of `probe`, which hand a number out.
 pub fn rows_number(answer: Result<(), RowsError>) -> u8
     ensures { result ≡ rows_number answer }
 {
@@ -51,11 +53,12 @@ fn clamped(byte: u8, number: f64) -> f64
     0.0
 }
 
-// "Clamping comes last."
+// "Clamping comes last." (That a table has 2^n rows is asked here by each function that writes one: a type that lends
+// the presence with the table would be made and taken apart in each of them, and be no shorter.)
 fn clamp_rows(present: &Presence, numbers: &mut [f64])
     requires { 2 ^ present.now.n ≤ length numbers.old }
-    ensures { let P = present.now in numbers.new
-        ≡ written (λ S. cond (stands P.bytes.now S) (clamp_to_zero (get_or numbers.old S nan)) zero64) (2 ^ P.n) numbers.old }
+    ensures { let P = present.now in numbers.new ≡ written
+        (λ S. cond (stands P.bytes.now S) (clamp_to_zero (get_or numbers.old S nan)) zero64) (2 ^ P.n) numbers.old }
 {
     let bytes = present.bytes;
     for s in 0..present.row_count() {
@@ -101,7 +104,8 @@ pub fn to_exclusive_areas(
     Ok(())
 }
 
-// The same with one table: the exclusives take the place of the areas.
+// The same with one table: the exclusives take the place of the areas. `to_unclamped_areas` of steps.rt is built like
+// it and promises something else: numbers that are not clamped, and absent rows that stay.
 pub fn to_exclusive_areas_in_place(
     present: &[u8],
     areas: &mut [f64],

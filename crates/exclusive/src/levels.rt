@@ -1,5 +1,6 @@
-// The areas by levels, the rows of as many heads: what is to be subtracted from the rows of one level is summed for all of them side by side.
-// A row that is no superset gives +0, which changes no sum, so that nothing is asked between the additions. Rests on specs/Entries.antt.
+// The areas by levels, the rows of as many heads: what is to be subtracted from the rows of one level is summed for all
+// of them side by side. A row that is no superset gives +0, which changes no sum, so that nothing is asked between the
+// additions. Rests on specs/Entries.antt.
 ghost use Rattle.std.specs.Prelude.{◌≡◌, [], ◌∷◌, ◌-◌, ◌≤◌, ◌<◌, ◌^◌, length, get_or, drop};
 ghost use Rattle.std.specs.Int.Count.{ones};
 ghost use Rattle.std.specs.Float.{nan};
@@ -8,7 +9,7 @@ ghost use Rattle.masks.specs.Presence.{stands};
 ghost use Rattle.exclusive.specs.Entries.{LevelAdded, Subtracted};
 
 use crate::presence::Presence;
-use crate::rows::{Rows, row_order};
+use crate::rows::row_order;
 use masks::is_subset;
 
 // Where the level that ends at place `hi` starts.
@@ -26,24 +27,38 @@ fn level_start(rows: &[usize], hi: usize) -> usize
     0
 }
 
-// A number of row t is added to the sums of the rows of the level that are its subsets.
-fn add_to_level(rows: &[usize], lo: usize, hi: usize, t: usize, number: f64, sums: &mut [f64; 1024])
-    requires { (hi ≤ length rows.now) × (hi ≤ 1024) }
-    ensures { LevelAdded rows.now lo hi (λ T. number) (t ∷ []) sums.old sums.new }
-{
-    for i in lo..hi {
-        let part = if is_subset(rows[i], t) { number } else { 0.0 };
-        sums[i] += part;
-    }
+// The rows from place lo to place hi of the order, all of as many heads.
+#[derive(Clone, Copy)]
+struct Level<'a> {
+    rows: &'a [usize],
+    lo: usize,
+    hi: usize,
+    ghost within: { hi ≤ length rows.now },
+    ghost few: { length rows.now ≤ 1024 },
 }
 
-// The areas of the rows after the level, in row order, are added to the sums of the level's rows that are their subsets.
-fn sum_level(rows: &[usize], areas: &[f64], lo: usize, hi: usize, sums: &mut [f64; 1024])
-    requires { (hi ≤ length rows.now) × (length rows.now ≤ 1024) × Every (λ T. T < length areas.now) rows.now }
-    ensures { LevelAdded rows.now lo hi (λ T. get_or areas.now T nan) (drop hi rows.now) sums.old sums.new }
-{
-    for t in &rows[hi..] {
-        add_to_level(rows, lo, hi, *t, areas[*t], sums);
+impl Level<'_> {
+    // A number of row t is added to the sums of the rows of the level that are its subsets.
+    fn add_row(&self, t: usize, number: f64, sums: &mut [f64; 1024])
+        ensures { let L = self.now in LevelAdded L.rows.now L.lo L.hi (λ T. number) (t ∷ []) sums.old sums.new }
+    {
+        let rows = self.rows;
+        for i in self.lo..self.hi {
+            let part = if is_subset(rows[i], t) { number } else { 0.0 };
+            sums[i] += part;
+        }
+    }
+
+    // The areas of the rows after the level, in row order, are added to the sums of the level's rows that are their
+    // subsets.
+    fn add_rows_after(&self, areas: &[f64], sums: &mut [f64; 1024])
+        requires { Every (λ T. T < length areas.now) self.now.rows.now }
+        ensures { let L = self.now in
+            LevelAdded L.rows.now L.lo L.hi (λ T. get_or areas.now T nan) (drop L.hi L.rows.now) sums.old sums.new }
+    {
+        for &t in &self.rows[self.hi..] {
+            self.add_row(t, areas[t], sums);
+        }
     }
 }
 
@@ -52,14 +67,14 @@ pub(crate) fn subtract_levels(present: &Presence, areas: &mut [f64])
     requires { 2 ^ present.now.n ≤ length areas.old }
     ensures { Subtracted present.now.n (stands present.now.bytes.now) 1 areas.old areas.new }
 {
-    let Rows { n: count, all } = row_order(present);
-    let rows = &all[..count];
+    let order = row_order(present);
+    let rows = order.as_slice();
     let mut sums = [0.0; 1024];
-    let mut hi = count;
+    let mut hi = rows.len();
     // One level a turn: how many rows it has is known only once it is reached, so that no range gives the turns.
     while 0 < hi {
         let lo = level_start(rows, hi);
-        sum_level(rows, areas, lo, hi, &mut sums);
+        Level { rows, lo, hi }.add_rows_after(areas, &mut sums);
         for i in (lo..hi).rev() {
             let s = rows[i];
             areas[s] -= sums[i];

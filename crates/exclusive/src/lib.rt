@@ -1,6 +1,6 @@
-// Exclusive areas from the areas of sets, as in the second part of diagram.rs: to_exclusive_areas. `exclusive_gradients` has the
-// form with gradients.
-// Rests on presence bytes, one a mask, and knows nothing of heads or plans.
+// Exclusive areas from the areas of sets, as in the second part of diagram.rs: to_exclusive_areas.
+// `exclusive_gradients` has the form with gradients. Rests on presence bytes, one a mask, and knows nothing of heads or
+// plans.
 #![tactic(auto)]
 
 pub mod areas;

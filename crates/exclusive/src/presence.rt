@@ -11,10 +11,12 @@ pub struct Presence<'a> {
 }
 
 impl Presence<'_> {
-    // How many rows there are. The length changes nothing, but of a bound that it sees to be a power of two the compiler
-    // makes a shift in each turn of a loop, and does not vectorise it.
+    // How many rows there are. The length changes nothing, but of a bound that it sees to be a power of two the
+    // compiler makes a shift in each turn of a loop, and does not vectorise it.
+    #[tactic(auto, using(crate::proofs::Places::masks_le))]
     pub fn row_count(&self) -> usize
-        ensures { result ≡ 2 ^ self.now.n }
+        ensures value { result ≡ 2 ^ self.now.n }
+        ensures few { result ≤ 1024 }
     {
         (1usize << self.n).min(self.bytes.len())
     }

@@ -1,8 +1,8 @@
-// What `exclusive_gradients` takes from here: the row order and the subtraction, over any tables. Rests on specs/RowOrder.antt and
-// specs/Entries.antt.
+// What `exclusive_gradients` takes from here: the row order and the subtraction, over any tables. Rests on
+// specs/RowOrder.antt and specs/Entries.antt.
 ghost use Rattle.std.specs.Prelude.{◌≡◌, cond, [], min, ◌≤◌, eqb, length, OnOk, OnErr};
 ghost use Rattle.masks.specs.Presence.{stands};
-ghost use Rattle.exclusive.specs.RowOrder.{row_order, row_list};
+ghost use Rattle.exclusive.specs.RowOrder.{row_order};
 ghost use Rattle.exclusive.specs.Exclusive.{rows_check, rows_answer};
 ghost use Rattle.exclusive.specs.Entries.{Subtracted};
 
@@ -13,15 +13,11 @@ use crate::rows::{Rows, row_order};
 
 // The present rows of n heads in row order; none where there are more than ten heads or fewer than 2^n presence bytes.
 pub fn rows_in_order(present: &[u8], n: usize) -> Rows
-    ensures result_value { row_list result ≡ cond (eqb (rows_answer n (length present.now)) 0) (row_order (stands present.now) n) [] }
-    ensures n_bound { (result.n ≤ 1024) × (length result.all ≡ 1024) }
+    ensures { result.items ≡ cond (eqb (rows_answer n (length present.now)) 0) (row_order (stands present.now) n) [] }
 {
     match rows_answer(n, present.len()) {
         Ok(()) => row_order(&Presence { n, bytes: present }),
-        Err(_) => Rows {
-            n: 0,
-            all: [0; 1024],
-        },
+        Err(_) => Rows::new(),
     }
 }
 

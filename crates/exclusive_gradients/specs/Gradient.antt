@@ -1,7 +1,8 @@
--- The exclusives with their gradients (the Rust's to_exclusive_areas_and_gradients). Each entry of a gradient goes the way of the areas, by
--- itself; "the gradient form only replaces values below 0.0 and then zeroes that gradient row". So a NaN and a -0 stay, unlike in the
--- form without gradients.
-use Rattle.std.specs.Prelude.{ℕ, min, ◌*◌, ◌/◌, ◌%◌, ◌^◌, Bool, not, cond, ◌&&◌, List, eqb, ltb, Float, get_or, length, Result, Ok, Err, is_ok}
+-- The exclusives with their gradients (the Rust's to_exclusive_areas_and_gradients). Each entry of a gradient goes the
+-- way of the areas, by itself; "the gradient form only replaces values below 0.0 and then zeroes that gradient row". So
+-- a NaN and a -0 stay, unlike in the form without gradients.
+use Rattle.std.specs.Prelude.{ℕ, min, ◌*◌, ◌/◌, ◌%◌, ◌^◌, Bool, not, cond, ◌&&◌}
+use Rattle.std.specs.Prelude.{List, eqb, ltb, Float, get_or, length, Result, Ok, Err, is_ok}
 use Rattle.std.specs.Float.{nan}
 use Rattle.std.specs.Float.Ieee.{lt}
 use Rattle.lists.specs.Written.{written}
@@ -27,17 +28,20 @@ module _ (n : ℕ) (present : ℕ → Bool) (area : ℕ → Float) where
 
 -- ---- the call over lent tables: areas and gradients on entry, exclusives and their gradients on exit
 
--- Whether tables of so many rows and a gradient table of so many numbers are taken: not where those are fewer than 2^n times the width.
+-- Whether tables of so many rows and a gradient table of so many numbers are taken: not where those are fewer than 2^n
+-- times the width.
 abbrev pub width_check : ℕ → ℕ → ℕ → ℕ → Result Unit RowsError
 width_check n width rows count =
-    let check = rows_check n rows in cond (is_ok check) (cond (ltb count (2 ^ n * width)) (Err TablesTooShort) (Ok tt)) check
+    let check = rows_check n rows in
+    cond (is_ok check) (cond (ltb count (2 ^ n * width)) (Err TablesTooShort) (Ok tt)) check
 
 -- Document 01's number for them.
 abbrev pub width_answer : ℕ → ℕ → ℕ → ℕ → ℕ
 width_answer n width rows count = rows_number (width_check n width rows count)
 
 abbrev pub gradient_answer : ℕ → ℕ → List ℕ → List Float → List Float → ℕ
-gradient_answer n width bytes areas gradients = width_answer n width (min (length bytes) (length areas)) (length gradients)
+gradient_answer n width bytes areas gradients =
+    width_answer n width (min (length bytes) (length areas)) (length gradients)
 
 -- the areas in place
 abbrev pub exclusive_areas : ℕ → ℕ → List ℕ → List Float → List Float → List Float

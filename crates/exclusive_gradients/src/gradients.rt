@@ -1,4 +1,5 @@
-// Exclusive areas and their gradients, in place (the Rust's to_exclusive_areas_and_gradients). Rests on specs/Gradient.antt.
+// Exclusive areas and their gradients, in place (the Rust's to_exclusive_areas_and_gradients). Rests on
+// specs/Gradient.antt.
 ghost use Rattle.std.specs.Prelude.{◌≡◌, cond, not, ◌&&◌, min, ◌*◌, ◌/◌, ◌≤◌, ◌^◌, eqb, get_or, length};
 ghost use Rattle.std.specs.Float.{nan};
 ghost use Rattle.std.specs.Float.Ieee.{lt};
@@ -11,8 +12,8 @@ use exclusive::areas::{RowsError, rows_answer};
 use exclusive::presence::Presence;
 use exclusive::steps::to_unclamped_areas;
 
-// Whether tables of so many rows and a gradient table of `count` numbers, `width` a row, are taken. The room for the gradients
-// is asked by division, since 2^n times the width may not fit a usize.
+// Whether tables of so many rows and a gradient table of `count` numbers, `width` a row, are taken. The room for the
+// gradients is asked by division, since 2^n times the width may not fit a usize.
 pub fn width_answer(n: usize, rows: usize, count: usize, width: usize) -> Result<(), RowsError>
     ensures { result ≡ width_check n width rows count }
 {
@@ -48,9 +49,9 @@ fn replace_rows(present: &Presence, areas: &mut [f64], gradients: &mut [f64], wi
     }
 }
 
-// The exclusive areas of n heads and their gradients, in place of the areas and gradients of the rows, `width` numbers a gradient.
-// Refused, for more than ten heads or where a table has fewer than 2^n rows or the gradients fewer than 2^n times the width
-// numbers, nothing is written.
+// The exclusive areas of n heads and their gradients, in place of the areas and gradients of the rows, `width` numbers
+// a gradient. Refused, for more than ten heads or where a table has fewer than 2^n rows or the gradients fewer than 2^n
+// times the width numbers, nothing is written.
 pub fn to_exclusive_areas_and_gradients(
     present: &[u8],
     areas: &mut [f64],

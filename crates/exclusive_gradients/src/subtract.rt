@@ -1,5 +1,6 @@
-// From the last row to the first: each number less the sum of what stands for its row's strict supersets, in place. The table has
-// `width` numbers a row, a gradient; exclusive/src/levels.rt is for the areas. Rests on Exclusive.antt and Entries.antt, exclusive/specs.
+// From the last row to the first: each number less the sum of what stands for its row's strict supersets, in place. The
+// table has `width` numbers a row, a gradient; exclusive/src/levels.rt is for the areas. Rests on Exclusive.antt and
+// Entries.antt, exclusive/specs.
 ghost use Rattle.std.specs.Prelude.{◌≡◌, suc, ◌+◌, ◌*◌, ◌≤◌, ◌<◌, ◌^◌, length, get_or, take};
 ghost use Rattle.std.specs.Float.{nan};
 ghost use Rattle.lists.specs.Lists.{keep};
@@ -11,12 +12,11 @@ ghost use Rattle.binary64.specs.Floats.{◌+ᶠ◌};
 ghost use Rattle.exclusive.specs.Entries.{row_sums, RowSubtracted, Subtracted};
 
 use exclusive::presence::Presence;
-use exclusive::rows::Rows;
 use exclusive::steps::rows_in_order;
 use masks::is_subset;
 
-// The supersets of s among these rows: how many there are, and they stand first in `supersets`. Each row is written, and the next
-// takes its place if it is none: nothing waits for the test.
+// The supersets of s among these rows: how many there are, and they stand first in `supersets`. Each row is written,
+// and the next takes its place if it is none: nothing waits for the test.
 fn collect_supersets(s: usize, rows: &[usize], supersets: &mut [usize; 1024]) -> usize
     requires { length rows.now ≤ 1024 }
     ensures supersets_after { take result supersets.new ≡ keep (subset 64 s) rows.now }
@@ -60,7 +60,8 @@ fn next_start<const N: usize>(k: usize, width: usize) -> usize
     k.min(width - N)
 }
 
-// From each number of row s the sum of that number of these rows, N numbers at a time: their sums do not wait for one another.
+// From each number of row s the sum of that number of these rows, N numbers at a time: their sums do not wait for one
+// another.
 fn subtract_rows<const N: usize>(s: usize, rows: &[usize], numbers: &mut [f64], width: usize)
     requires { (0 < N) × (N ≤ 8) × (0 < width → N ≤ width) × (suc s * width ≤ length numbers.old)
         × Every (λ T. suc T * width ≤ length numbers.old) rows.now × Every (λ T. T ≡ s → ⊥) rows.now }
@@ -96,10 +97,10 @@ pub(crate) fn subtract_supersets(present: &Presence, numbers: &mut [f64], width:
     requires { 2 ^ present.now.n * width ≤ length numbers.old }
     ensures { Subtracted present.now.n (stands present.now.bytes.now) width numbers.old numbers.new }
 {
-    let Rows { n: count, all } = rows_in_order(present.bytes, present.n);
-    let rows = &all[..count];
+    let order = rows_in_order(present.bytes, present.n);
+    let rows = order.as_slice();
     let mut supersets = [0usize; 1024];
-    for i in (0..count).rev() {
+    for i in (0..rows.len()).rev() {
         let s = rows[i];
         let found = collect_supersets(s, &rows[i + 1..], &mut supersets);
         subtract_row(s, &supersets[..found], numbers, width);

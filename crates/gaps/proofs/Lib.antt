@@ -1,3 +1,4 @@
 pub mod Next
 pub mod Owning
 pub mod Numbering
+pub mod Marking

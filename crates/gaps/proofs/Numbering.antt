@@ -1,71 +1,72 @@
--- The number of a gap: from the steps of the code, and what it can be.
+-- The number of a gap: as the code tests it between neighbours, and what it can be.
 use mathlib.Core.Path.{◌≡◌, refl, sym, subst}
-use mathlib.Core.Bool.{Bool, true, false, ◌&&◌, cond, and-false}
+use mathlib.Core.Bool.{Bool, true, false, cond}
 use mathlib.Core.List.{List}
-use Prim.Native.Nat.{ℕ, ◌+◌, ◌*◌, ◌<◌, ◌≤◌}
-use borrow.Author.Tests.{lt-ltb, le-ltb, eq-eqb, ne_eqb, eqb-true, eqb-false}
-use lib.Dec.{eqb, ltb}
-use Rattle.std.specs.Prelude.{Option, None, Some}
+use Prim.Native.Nat.{ℕ, ◌+◌, ◌*◌, ◌^◌, ◌<◌}
+use borrow.Author.Tests.{lt-ltb, eq-eqb, ne_eqb, eqb-true, eqb-false}
+use lib.Bits.{bit_and}
+use lib.Dec.{eqb}
 use lib.ListN.{length, get_or}
-use lib.Ieee.{Float, nan}
+use Rattle.std.specs.Prelude.{Option, None, Some}
+use Rattle.std.specs.Bool.{then_some}
 use Rattle.masks.specs.Mask.{subset}
+use Rattle.masks.specs.Subset.{and_test}
 use Rattle.geometry.specs.declared.circle.Circle.{Circle}
-use Rattle.gaps.specs.Gaps.{is_arc, next_of, neighbour_number, other_number, gap_number}
+use Rattle.gaps.specs.declared.marks.HeadMarks.{HeadMarks}
+use Rattle.gaps.specs.Gaps.{is_arc, next_of}
+use Rattle.gaps.specs.Marks.{phi_at}
+use Rattle.gaps.specs.Numbers.{neighbour_number, other_number, gap_number}
 
-module _ (circles : List Circle) (phi : List Float) (lets : List ℕ) (S j n a b : ℕ) where
-  abbrev number : Option ℕ
-  number = gap_number circles phi lets S j n a b
+some_if : (t : Bool) (x : ℕ) → then_some t x ≡ cond t (Some x) None
+some_if true x = refl
+some_if false x = refl
 
-  -- past the heads, or past the places of a head
-  pub past_heads : length circles ≤ j → None ≡ number
-  unfolding gap_number
-  past_heads h = rw (le-ltb j (length circles) h)
+module _ (circles : List Circle) (head : HeadMarks) (S j a b : ℕ) where
+  abbrev n : ℕ
+  n = length head.marks.items
 
-  pub past_start : 32 ≤ a → None ≡ number
-  unfolding gap_number
-  past_start h = rw (le-ltb a 32 h, and-false (ltb j (length circles)))
+  -- the number between neighbours, and that between others
+  abbrev near : ℕ
+  near = j * 32 + a
 
-  pub past_end : 32 ≤ b → None ≡ number
-  unfolding gap_number
-  past_end h = rw (le-ltb b 32 h, and-false (ltb j (length circles) && ltb a 32))
+  abbrev far : ℕ
+  far = 330 + (j * 32 + a) * 320 + (j * 32 + b)
 
-  module _ (hj : j < length circles) (ha : a < 32) (hb : b < 32) where
-    -- between neighbours
-    between_neighbours : b ≡ next_of a n → number ≡ neighbour_number circles phi lets S j n a b
-    unfolding gap_number
-    between_neighbours e = rw (lt-ltb j (length circles) hj, lt-ltb a 32 ha, lt-ltb b 32 hb, eq-eqb b (next_of a n) e)
+  -- whether there is an arc, as held and as worked out
+  abbrev held : Bool
+  held = subset 64 S (get_or head.lets a 0)
 
-    pub neighbours_arc : b ≡ next_of a n → subset 64 S (get_or lets (j * 32 + a) 0) ≡ true → Some (j * 32 + a) ≡ number
-    unfolding neighbour_number
-    neighbours_arc e s = rw (between_neighbours e, s)
+  abbrev arc : Bool
+  arc = is_arc circles S j (phi_at head.marks.items a) (phi_at head.marks.items b)
 
-    pub neighbours_none : b ≡ next_of a n → subset 64 S (get_or lets (j * 32 + a) 0) ≡ false → None ≡ number
-    unfolding neighbour_number
-    neighbours_none e s = rw (between_neighbours e, s)
+  module _ (hj : j < length circles) (ha : a < n) (hb : b < n) where
+    between_neighbours : b ≡ next_of a n → gap_number circles head S j a b ≡ cond held (Some near) None
+    unfolding gap_number neighbour_number
+    between_neighbours e =
+        rw (lt-ltb j (length circles) hj, lt-ltb a n ha, lt-ltb b n hb, eq-eqb b (next_of a n) e) refl
 
-    -- between any other two
-    between_others : (b ≡ next_of a n → ⊥) → number ≡ other_number circles phi lets S j n a b
-    unfolding gap_number
-    between_others e = rw (lt-ltb j (length circles) hj, lt-ltb a 32 ha, lt-ltb b 32 hb, ne_eqb b (next_of a n) e)
+    between_others : (b ≡ next_of a n → ⊥) → gap_number circles head S j a b ≡ cond arc (Some far) None
+    unfolding gap_number other_number
+    between_others e =
+        rw (lt-ltb j (length circles) hj, lt-ltb a n ha, lt-ltb b n hb, ne_eqb b (next_of a n) e) refl
 
-    pub others_arc : (b ≡ next_of a n → ⊥) → is_arc circles S j (get_or phi (j * 32 + a) nan) (get_or phi (j * 32 + b) nan) ≡ true
-        → Some (330 + (j * 32 + a) * 320 + (j * 32 + b)) ≡ number
-    unfolding other_number
-    others_arc e s = rw (between_others e, s)
+    -- as the code tests them
+    pub by_masks : S < 2 ^ 64 → b ≡ next_of a n
+        → then_some (eqb (bit_and S (get_or head.lets a 0)) S) near ≡ gap_number circles head S j a b
+    by_masks h e = rw (between_neighbours e, and_test 64 S (get_or head.lets a 0) h) (some_if held near)
 
-    pub others_none : (b ≡ next_of a n → ⊥) → is_arc circles S j (get_or phi (j * 32 + a) nan) (get_or phi (j * 32 + b) nan) ≡ false → None ≡ number
-    unfolding other_number
-    others_none e s = rw (between_others e, s)
+    pub by_arc : (b ≡ next_of a n → ⊥) → then_some arc far ≡ gap_number circles head S j a b
+    by_arc e = rw (between_others e) (some_if arc far)
 
     -- what holds in each of the four cases holds of the number
     pub by_cases : (P : Option ℕ → Type 0)
-        → (b ≡ next_of a n → (s : Bool) → subset 64 S (get_or lets (j * 32 + a) 0) ≡ s → P (cond s (Some (j * 32 + a)) None))
-        → ((s : Bool) → is_arc circles S j (get_or phi (j * 32 + a) nan) (get_or phi (j * 32 + b) nan) ≡ s
-        → P (cond s (Some (330 + (j * 32 + a) * 320 + (j * 32 + b))) None))
-        → P number
-    unfolding neighbour_number other_number
-    by_cases P near far = by (eqb b (next_of a n)) refl
+        → (b ≡ next_of a n → (s : Bool) → held ≡ s → P (cond s (Some near) None))
+        → ((s : Bool) → arc ≡ s → P (cond s (Some far) None))
+        → P (gap_number circles head S j a b)
+    by_cases P neighbours others = by (eqb b (next_of a n)) refl
       where
-        by : (t : Bool) → eqb b (next_of a n) ≡ t → P number
-        by true q = let e = eqb-true b (next_of a n) q in subst P (sym (between_neighbours e)) (near e _ refl)
-        by false q = subst P (sym (between_others (eqb-false b (next_of a n) q))) (far _ refl)
+        by : (t : Bool) → eqb b (next_of a n) ≡ t → P (gap_number circles head S j a b)
+        by true q = let e = eqb-true b (next_of a n) q in subst P (sym (between_neighbours e)) (neighbours e _ refl)
+        by false q = subst P (sym (between_others (eqb-false b (next_of a n) q))) (others _ refl)
+
+pub ruleset numbering = (by_masks, by_arc)

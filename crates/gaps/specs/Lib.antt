@@ -1,1 +1,3 @@
 pub mod Gaps
+pub mod Marks
+pub mod Numbers

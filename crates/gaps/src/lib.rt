@@ -1,5 +1,7 @@
-// Whether a gap between two angles of a head is an arc of a set, and the number of that arc, from what is held of the heads in arrays.
+// What is worked out once a head: its meeting points by angle and who lets it have the gaps between them; and from that
+// whether a gap is an arc of a set, and the number of that arc.
 #![tactic(auto)]
 
+pub mod marks;
 pub mod numbers;
 pub mod places;

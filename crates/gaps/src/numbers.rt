@@ -1,17 +1,20 @@
-// The number of the arc that a gap between two angles of a head is in a set. Rests on specs/Gaps.antt.
-ghost use Rattle.std.specs.Prelude.{◌≡◌, ◌<◌, ◌≤◌, length, take};
-ghost use Rattle.gaps.specs.Gaps.{owned_in, is_arc, gap_number};
+// The number of the arc that a gap between two angles of a head is in a set.
+// Rests on specs/Gaps.antt and specs/Numbers.antt.
+ghost use Rattle.std.specs.Prelude.{◌≡◌, ◌<◌, length};
+ghost use Rattle.gaps.specs.Gaps.{owned_in, is_arc};
+ghost use Rattle.gaps.specs.Numbers.{gap_number};
 
+use crate::marks::HeadMarks;
 use crate::places::next;
 use boundary::angles::{collapsed, gap, point_at};
 use boundary::ownership::lets;
-use geometry::circle::Circle;
+use geometry::circle::Circles;
 use geometry::point::Point;
 
 // Every head of the set lets head j have the point p.
-fn owned_in(circles: &[Circle], mask: usize, j: usize, p: Point) -> bool
-    requires { length circles.now ≤ 10 }
-    ensures { result ≡ owned_in circles.now mask j p }
+#[tactic(auto, using(crate::proofs::Owning::owning))]
+fn owned_in(circles: &Circles, mask: usize, j: usize, p: Point) -> bool
+    ensures { result ≡ owned_in circles.now.items mask j p }
 {
     for (l, circle) in circles.iter().enumerate() {
         if mask >> l & 1 == 1 && !lets(j, p, l, *circle) {
@@ -22,47 +25,37 @@ fn owned_in(circles: &[Circle], mask: usize, j: usize, p: Point) -> bool
 }
 
 // The gap from one angle to another of head j is an arc of the set: worked out.
-fn is_arc(circles: &[Circle], mask: usize, j: usize, phi_a: f64, phi_b: f64) -> bool
-    requires few { length circles.now ≤ 10 }
-    requires within { j < length circles.now }
-    ensures { result ≡ is_arc circles.now mask j phi_a phi_b }
+#[tactic(auto, unfolding(crate::specs::Gaps::is_arc, crate::specs::Gaps::midpoint))]
+fn is_arc(circles: &Circles, mask: usize, j: usize, phi_a: f64, phi_b: f64) -> bool
+    requires { j < length circles.now.items }
+    ensures { result ≡ is_arc circles.now.items mask j phi_a phi_b }
 {
     let delta = gap(phi_a, phi_b);
     !collapsed(delta) && owned_in(circles, mask, j, point_at(circles[j], phi_a + delta * 0.5))
 }
 
-// The number of the arc from the a-th of the n angles of head j to the b-th, if that gap is an arc of the set: between neighbours by who lets
-// the head have it. There are 32 places a head: from or to one past them there is no arc, nor of a head past the first n_sets or ten. One
-// number says which arc it is, neighbours or others, since what is held of the arcs stands in arrays by that number.
+// The number of the arc from the a-th angle of head j to the b-th, if that gap is an arc of the set: between neighbours
+// by who lets the head have it. From or to one that the head has not there is no arc, nor of a head past the last
+// circle. One number says which arc it is, neighbours or others, since what is held of the arcs stands in arrays by
+// that number.
+#[tactic(auto, using(crate::proofs::Numbering::numbering), unfolding(crate::specs::Numbers::gap_number))]
 pub fn gap_number(
     mask: usize,
-    circles: &[Circle; 10],
-    n_sets: usize,
+    circles: &Circles,
     j: usize,
-    n: usize,
+    head: &HeadMarks,
     a: usize,
     b: usize,
-    phi: &[f64; 320],
-    lets: &[usize; 320],
 ) -> Option<usize>
-    ensures { result ≡ gap_number (take n_sets circles.now) phi.now lets.now mask j n a b }
+    ensures { result ≡ gap_number circles.now.items head.now mask j a b }
 {
-    let heads = &circles[..n_sets.min(10)];
-    if j >= heads.len() || a >= 32 || b >= 32 {
+    let marks = head.marks.as_slice();
+    if j >= circles.len() || a >= marks.len() || b >= marks.len() {
         return None;
     }
     let at = j * 32 + a;
-    if b == next(a, n) {
-        return if mask & lets[at] == mask {
-            Some(at)
-        } else {
-            None
-        };
+    if b == next(a, marks.len()) {
+        return (mask & head.lets[a] == mask).then_some(at);
     }
-    let to = j * 32 + b;
-    if is_arc(heads, mask, j, phi[at], phi[to]) {
-        Some(330 + at * 320 + to)
-    } else {
-        None
-    }
+    is_arc(circles, mask, j, marks[a].phi, marks[b].phi).then_some(330 + at * 320 + (j * 32 + b))
 }

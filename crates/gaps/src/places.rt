@@ -3,6 +3,7 @@ ghost use Rattle.std.specs.Prelude.{◌≡◌};
 ghost use Rattle.gaps.specs.Gaps.{next_of};
 
 // The next place of n, round a circle: the first after the last, and after one past that.
+#[tactic(auto, unfolding(crate::specs::Gaps::next_of))]
 pub fn next(a: usize, n: usize) -> usize
     ensures { result ≡ next_of a n }
 {

@@ -12,7 +12,7 @@ use Rattle.binary64.specs.Constants.{zero64}
 use Rattle.binary64.specs.Units.{pow2, one, mag, plus, minus, Finite}
 use Rattle.binary64.specs.Magnitude.{Most}
 use Rattle.binary64.specs.Rounding.{Rounded}
-use Rattle.binary64.proofs.Naturals.{lt_or_ge}
+use Rattle.std.proofs.lemmas.Bool.{cases_lt}
 use Rattle.binary64.proofs.Units.{one_pos, plus_minus, mag_digits, zero64_finite, zero64_plus, zero64_minus, units_of_lt, units_of_le, lt_of_units, le_not_lt, one_sided}
 use Rattle.binary64.proofs.Rounding.{plus_le, plus_ge, minus_none}
 use Rattle.binary64.proofs.Operations.{result_rounded, add_result, mul_result}
@@ -90,7 +90,7 @@ module _ {s x y : Float} (fs : Finite s) (fx : Finite x) (fy : Finite y) (fq : F
   whole_y = omega (arith, plus_minus y, my)
 
   pub product_below : lt s (mul binary64 x y) ≡ true → mag s * one ≤ mag x * mag y
-  product_below e = ⊎_elim (λ h. le_of_lt h) (λ h. absurd (clash h)) (lt_or_ge (mag s * one) (mag x * mag y))
+  product_below e = ⊎_elim (λ h. le_of_lt h) (λ h. absurd (clash h)) (cases_lt (mag s * one) (mag x * mag y))
     where
       clash : mag x * mag y ≤ mag s * one → ⊥
       clash h =
@@ -98,7 +98,7 @@ module _ {s x y : Float} (fs : Finite s) (fx : Finite x) (fy : Finite y) (fq : F
           omega (arith, l, units_of_lt fs fq e, ms, plus_minus s)
 
   pub product_above : lt (mul binary64 x y) s ≡ true → mag x * mag y ≤ mag s * one
-  product_above e = ⊎_elim (λ h. le_of_lt h) (λ h. absurd (clash h)) (lt_or_ge (mag x * mag y) (mag s * one))
+  product_above e = ⊎_elim (λ h. le_of_lt h) (λ h. absurd (clash h)) (cases_lt (mag x * mag y) (mag s * one))
     where
       clash : mag s * one ≤ mag x * mag y → ⊥
       clash h =

@@ -11,15 +11,19 @@ ghost use Rattle.geometry.specs.Point.{distance};
 
 use crate::meeting::Meeting;
 use crate::point::Point;
+use arrayvec::ArrayVec;
 use binary64::{abs, smaller};
 use elementary::arctangent::acos;
 use elementary::root::root;
 
-#[derive(Clone, Copy, PartialEq, Debug)]
+#[derive(Clone, Copy, PartialEq, Debug, Default)]
 pub struct Circle {
     pub center: Point,
     pub radius: f64,
 }
+
+// The circles of a plan's heads, by head number: at most ten.
+pub type Circles = ArrayVec<Circle, 10>;
 
 impl Circle {
     // An arc of a smaller turn, or of a full turn but for less, is none.

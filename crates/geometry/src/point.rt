@@ -4,7 +4,7 @@ ghost use Rattle.geometry.specs.Point as spec;
 
 use elementary::root::hypot;
 
-#[derive(Clone, Copy, PartialEq, Debug)]
+#[derive(Clone, Copy, PartialEq, Debug, Default)]
 pub struct Point {
     pub x: f64,
     pub y: f64,

@@ -1,6 +1,7 @@
--- The calls that give a plan's exclusives with their gradients, as a step over three lent slices, for any list of sets: in the box, and without it.
--- Refused, every slice is as it was. Taken, rows 0 to 2^n - 1 are written and everything beyond stays.
-use Rattle.std.specs.Prelude.{ℕ, ◌+◌, ◌*◌, ◌^◌, ◌≤◌, Bool, true, false, cond, List, [], ◌∷◌, ◌≡◌, Float, length}
+-- The calls that give a plan's exclusives with their gradients, as a step over three lent slices, for any list of sets:
+-- in the box, and without it. Refused, every slice is as it was. Taken, rows 0 to 2^n - 1 are written and everything
+-- beyond stays.
+use Rattle.std.specs.Prelude.{ℕ, ◌+◌, ◌*◌, Bool, true, false, List, [], ◌∷◌, Float, length}
 use Rattle.lists.specs.Run.{Step}
 use Rattle.binary64.specs.Constants.{zero64}
 use Rattle.plan.specs.declared.Gradients.{Gradients}
@@ -11,11 +12,8 @@ use Rattle.plan.specs.Book.{leaves}
 use Rattle.plan.specs.Checks.{call_answer}
 use Rattle.plan.specs.Table.{Answered, lent_by}
 use Rattle.geometry.specs.Rectangle.{area}
-use Rattle.intersections.specs.Points.{collected}
-use Rattle.drawn.specs.Drawn.{plan_circles, box_of}
+use Rattle.drawn.specs.Drawn.{box_of}
 use Rattle.outline.specs.Area.{open_area}
-use Rattle.diagram.specs.declared.drawing.Drawing.{Drawing}
-use Rattle.diagram.specs.Drawing.{circles_of, points_of}
 use Rattle.diagram.specs.Rows.{Slopes, presence_written, areas_written, slopes_written}
 use Rattle.regions.specs.Table.{plan_members}
 use Rattle.areas.specs.Clipped.{clipped_gradient_row}
@@ -26,7 +24,12 @@ use Rattle.areas.specs.Gradients.{clipped_gradients, open_gradients}
 -- In the box: row 0 has the box's area and its gradient; a set has the area that comes with its gradient.
 abbrev pub clipped_plan : (Plan → ℕ → Bool) → Plan → Slopes
 clipped_plan sets p = record {
-  rows = record { has_box = true; box_area = area (box_of p.ground); sets = sets p; area = λ S. (clipped_gradient_row p S).sum };
+  rows = record {
+    has_box = true;
+    box_area = area (box_of p.ground);
+    sets = sets p;
+    area = λ S. (clipped_gradient_row p S).sum;
+  };
   width = p.n * 3 + 4;
   box_row = clipped_gradients sets p 0;
   row = clipped_gradients sets p;
@@ -35,19 +38,12 @@ clipped_plan sets p = record {
 -- Without the box: there is no row 0.
 abbrev pub open_plan : (Plan → ℕ → Bool) → Plan → Slopes
 open_plan sets p = record {
-  rows = record { has_box = false; box_area = zero64; sets = sets p; area = λ S. open_area (plan_members p S) };
+  rows =
+      record { has_box = false; box_area = zero64; sets = sets p; area = λ S. open_area (plan_members p S) };
   width = 3 * p.n;
   box_row = open_gradients sets p 0;
   row = open_gradients sets p;
 }
-
--- either, as one pass writes them
-abbrev pub which_of : Bool → Gradients
-which_of clipped = cond clipped Clipped Open
-
-abbrev pub plan_slopes : Bool → (Plan → ℕ → Bool) → Plan → Slopes
-plan_slopes true sets p = clipped_plan sets p
-plan_slopes false sets p = open_plan sets p
 
 -- ---- the call
 
@@ -58,7 +54,8 @@ pub record GradientSlices : Type 0 where
   pub gradients : List Float
 
 abbrev pub gradient_slices : List ℕ → List Float → List Float → GradientSlices
-gradient_slices presence exclusives gradients = record { presence = presence; exclusives = exclusives; gradients = gradients }
+gradient_slices presence exclusives gradients =
+    record { presence = presence; exclusives = exclusives; gradients = gradients }
 
 -- what a call over them lends
 abbrev pub lent_gradients : GradientSlices → Lent
@@ -67,7 +64,8 @@ lent_gradients t = lent_by (length t.presence ∷ length t.exclusives ∷ []) (l
 -- the slices with the rows of n heads written
 abbrev pub gradients_written : ℕ → Slopes → GradientSlices → GradientSlices
 gradients_written n g t =
-    gradient_slices (presence_written n g.rows t.presence) (areas_written n g t.exclusives) (slopes_written n g t.gradients)
+    gradient_slices (presence_written n g.rows t.presence) (areas_written n g t.exclusives)
+    (slopes_written n g t.gradients)
 
 abbrev pub step_to : GradientSlices → Answered → Step GradientSlices Answered
 step_to left answer = record { left = left; answer = answer }
@@ -83,18 +81,3 @@ clipped_step sets = gradients_step Clipped (clipped_plan sets)
 
 unfoldable pub open_step : (Plan → ℕ → Bool) → Plan → GradientSlices → Step GradientSlices Answered
 open_step sets = gradients_step Open (open_plan sets)
-
--- there is room for the rows of a plan
-pub record Room (p : Plan) (clipped : Bool) (t : GradientSlices) : Type 0 where
-  pub few : p.n ≤ 10
-  pub bytes : 2 ^ p.n ≤ length t.presence
-  pub numbers : 2 ^ p.n ≤ length t.exclusives
-  pub slopes : 2 ^ p.n * (plan_slopes clipped (λ q S. false) p).width ≤ length t.gradients
-
--- d is drawn from the plan p, in its box or without it
-pub record Of (p : Plan) (clipped : Bool) (d : Drawing) : Type 0 where
-  pub boxed : d.boxed ≡ clipped
-  pub n : d.n ≡ p.n
-  pub circles : circles_of d ≡ plan_circles p
-  pub points : points_of d ≡ collected (plan_circles p)
-  pub container : d.container ≡ box_of p.ground

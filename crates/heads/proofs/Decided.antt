@@ -1,9 +1,11 @@
--- What each arm of `relation_at` settles: t and s are the difference and the sum of the radii a and b as the code has them.
+-- What each arm of `relation_at` settles: t and s are the difference and the sum of the radii a and b as the code has
+-- them.
 use Rattle.std.proofs.Common.{ℕ, ◌+◌, ◌*◌, ◌<◌, ◌≡◌, Less, Equal, Greater, arith, sym, ap, ◌∙◌, subst}
 use Rattle.std.specs.Int.{abs_diff}
 use Rattle.std.specs.Ordering.{nat_cmp}
 use Rattle.std.proofs.lemmas.Cmp.{ranked}
-use Rattle.heads.specs.declared.Relation.TheVariants.{Apart, TouchingOutside, Crossing, TouchingInside, Holding, Identical}
+use Rattle.heads.specs.declared.Relation.TheVariants.{Apart, TouchingOutside, Crossing}
+use Rattle.heads.specs.declared.Relation.TheVariants.{TouchingInside, Holding, Identical}
 use Rattle.heads.specs.Relation.{gap, relation}
 use Rattle.heads.specs.Cases.{relation_is, gap_zero}
 
@@ -19,7 +21,8 @@ module _ (D a b t : ℕ) (h : t ≡ abs_diff a b) where
   -- at t², and t is zero
   pub same : Equal ≡ nat_cmp D (t * t) → t ≡ 0 → Identical ≡ relation D a b
   same o z =
-      sym (relation_is Identical D a b (ranked D (t * t) Equal o ∙ ap (λ (n : ℕ). n * n) z, gap_zero a b (sym gap_is ∙ z)))
+      sym (relation_is Identical D a b
+      (ranked D (t * t) Equal o ∙ ap (λ (n : ℕ). n * n) z, gap_zero a b (sym gap_is ∙ z)))
 
   -- at t², and t is not zero
   pub inside : Equal ≡ nat_cmp D (t * t) → (t ≡ 0 → ⊥) → TouchingInside ≡ relation D a b

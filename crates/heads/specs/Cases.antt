@@ -1,13 +1,17 @@
--- The six cases of the relation as facts on numbers: exactly one of them holds, and it is the one that `relation` gives.
--- From them: which cases meet, meet in one point, contain; and that the relation is symmetric in the radii.
-use Rattle.std.specs.Prelude.{ℕ, zero, suc, ◌+◌, ◌-◌, ◌*◌, ◌≤◌, ◌<◌, ◌≡◌, refl, Bool, true, false, not, cond, ◌&&◌, ◌⊎◌, ◌↔◌, T, ltb, leb, eqb}
-use Rattle.std.proofs.Common.{mul-le-mul, le_antisymm, arith, sym, ap, ◌∙◌, subst, inl, inr, leb→le, ltb-true, ltb-false, leb-true, eqb-true, lt-ltb, le-ltb, le-leb, eq-eqb, ne_eqb}
+-- The six cases of the relation as facts on numbers: exactly one of them holds, and it is the one that `relation`
+-- gives. From them: which cases meet, meet in one point, contain; and that the relation is symmetric in the radii.
+use Rattle.std.specs.Prelude.{ℕ, zero, suc, ◌+◌, ◌-◌, ◌*◌, ◌≤◌, ◌<◌, ◌≡◌, refl, Bool}
+use Rattle.std.specs.Prelude.{true, false, not, cond, ◌&&◌, ◌⊎◌, ◌↔◌, T, ltb, leb, eqb}
+use Rattle.std.proofs.Common.{mul-le-mul, le_antisymm, arith, sym, ap, ◌∙◌, subst, inl, inr}
+use Rattle.std.proofs.Common.{leb→le, ltb-true, ltb-false, leb-true, eqb-true, lt-ltb, le-ltb, le-leb, eq-eqb, ne_eqb}
 use Rattle.std.proofs.Math.Bool.{and-false, or-true}
 use Rattle.std.proofs.Math.Facts.{and_yes}
 use Rattle.std.proofs.lemmas.Bool.{lt-leb}
 use Rattle.heads.specs.declared.Relation.{Relation}
-use Rattle.heads.specs.declared.Relation.TheVariants.{Apart, TouchingOutside, Crossing, TouchingInside, Holding, Identical}
-use Rattle.heads.specs.Relation.{gap, identical, meets, meets_once, contains, relation, points, meeting, touching, covering}
+use Rattle.heads.specs.declared.Relation.TheVariants.{Apart, TouchingOutside, Crossing}
+use Rattle.heads.specs.declared.Relation.TheVariants.{TouchingInside, Holding, Identical}
+use Rattle.heads.specs.Relation.{gap, identical, meets, meets_once, contains}
+use Rattle.heads.specs.Relation.{relation, points, meeting, touching, covering}
 
 -- what each case says of D and the radii
 abbrev pub Case : Relation → ℕ → ℕ → ℕ → Type 0
@@ -85,14 +89,31 @@ pub relation_is : (r : Relation) (D a b : ℕ) → Case r D a b → relation D a
 unfolding relation
 relation_is Apart D a b h =
     let l = gap_square_le a b in
-    simp
-    (apart_no D a b (omega arith), le-ltb D (gap a b * gap a b) (omega arith), ne_eqb D (gap a b * gap a b) (λ e. omega arith), le-ltb D ((a + b) * (a + b)) (omega arith), ne_eqb D ((a + b) * (a + b)) (λ e. omega arith))
+    simp (
+      apart_no D a b (omega arith),
+      le-ltb D (gap a b * gap a b) (omega arith),
+      ne_eqb D (gap a b * gap a b)
+          (λ e. omega arith),
+      le-ltb D ((a + b) * (a + b)) (omega arith),
+      ne_eqb D ((a + b) * (a + b)) (λ e. omega arith),
+    )
 relation_is TouchingOutside D a b h =
-    simp
-    (apart_no D a b (omega arith), le-ltb D (gap a b * gap a b) (omega arith), ne_eqb D (gap a b * gap a b) (λ e. omega arith), le-ltb D ((a + b) * (a + b)) (omega arith), eq-eqb D ((a + b) * (a + b)) h.1)
+    simp (
+      apart_no D a b (omega arith),
+      le-ltb D (gap a b * gap a b) (omega arith),
+      ne_eqb D (gap a b * gap a b)
+          (λ e. omega arith),
+      le-ltb D ((a + b) * (a + b)) (omega arith),
+      eq-eqb D ((a + b) * (a + b)) h.1,
+    )
 relation_is Crossing D a b h =
-    simp
-    (apart_no D a b (omega arith), le-ltb D (gap a b * gap a b) (omega arith), ne_eqb D (gap a b * gap a b) (λ e. omega arith), lt-ltb D ((a + b) * (a + b)) h.1)
+    simp (
+      apart_no D a b (omega arith),
+      le-ltb D (gap a b * gap a b) (omega arith),
+      ne_eqb D (gap a b * gap a b)
+          (λ e. omega arith),
+      lt-ltb D ((a + b) * (a + b)) h.1,
+    )
 relation_is TouchingInside D a b h =
     simp (gap_no D a b h.0, le-ltb D (gap a b * gap a b) (omega arith), eq-eqb D (gap a b * gap a b) h.1)
 relation_is Holding D a b h = simp (gap_no D a b (pos_root (gap a b) h), lt-ltb D (gap a b * gap a b) h)
@@ -101,12 +122,14 @@ relation_is Identical D a b h = simp (identical_yes D a b h.0 h.1)
 some_case : (D a b : ℕ) → (r : Relation) × Case r D a b
 some_case D a b = inside (order D (gap a b * gap a b)) (order 0 (gap a b)) (order D ((a + b) * (a + b)))
   where
-    outside : gap a b * gap a b < D → (D < (a + b) * (a + b)) ⊎ ((D ≡ (a + b) * (a + b)) ⊎ ((a + b) * (a + b) < D)) → (r : Relation) × Case r D a b
+    outside : gap a b * gap a b < D → (D < (a + b) * (a + b)) ⊎ ((D ≡ (a + b) * (a + b)) ⊎ ((a + b) * (a + b) < D))
+        → (r : Relation) × Case r D a b
     outside h (inl k) = (Crossing, (h, k))
     outside h (inr (inl k)) = (TouchingOutside, (h, k))
     outside h (inr (inr k)) = (Apart, k)
 
-    inside : (D < gap a b * gap a b) ⊎ ((D ≡ gap a b * gap a b) ⊎ (gap a b * gap a b < D)) → (0 < gap a b) ⊎ ((0 ≡ gap a b) ⊎ (gap a b < 0))
+    inside : (D < gap a b * gap a b) ⊎ ((D ≡ gap a b * gap a b) ⊎ (gap a b * gap a b < D))
+        → (0 < gap a b) ⊎ ((0 ≡ gap a b) ⊎ (gap a b < 0))
         → (D < (a + b) * (a + b)) ⊎ ((D ≡ (a + b) * (a + b)) ⊎ ((a + b) * (a + b) < D)) → (r : Relation) × Case r D a b
     inside (inl h) z k = (Holding, h)
     inside (inr (inl e)) (inl z) k = (TouchingInside, (z, e))
@@ -144,9 +167,19 @@ meets_in : (r : Relation) (D a b : ℕ) → Case r D a b → meets D a b ≡ mee
 unfolding meets
 meets_in Apart D a b h = simp (lt-leb D ((a + b) * (a + b)) h, and-false)
 meets_in TouchingOutside D a b h =
-    simp (le-leb (gap a b * gap a b) D (omega arith), le-leb D ((a + b) * (a + b)) (omega arith), apart_no D a b (omega arith))
+    simp (
+      le-leb (gap a b * gap a b) D (omega arith),
+      le-leb D ((a + b) * (a + b)) (omega arith),
+      apart_no D a b
+          (omega arith),
+    )
 meets_in Crossing D a b h =
-    simp (le-leb (gap a b * gap a b) D (omega arith), le-leb D ((a + b) * (a + b)) (omega arith), apart_no D a b (omega arith))
+    simp (
+      le-leb (gap a b * gap a b) D (omega arith),
+      le-leb D ((a + b) * (a + b)) (omega arith),
+      apart_no D a b
+          (omega arith),
+    )
 meets_in TouchingInside D a b h =
     let l = gap_square_le a b in
     simp (le-leb (gap a b * gap a b) D (omega arith), le-leb D ((a + b) * (a + b)) (omega arith), gap_no D a b h.0)
@@ -162,8 +195,12 @@ unfolding meets_once
 once_in Apart D a b h = simp (meets_in Apart D a b h)
 once_in TouchingOutside D a b h = simp (meets_in TouchingOutside D a b h, eq-eqb D ((a + b) * (a + b)) h.1, or-true)
 once_in Crossing D a b h =
-    simp
-    (meets_in Crossing D a b h, ne_eqb D (gap a b * gap a b) (λ e. omega arith), ne_eqb D ((a + b) * (a + b)) (λ e. omega arith))
+    simp (
+      meets_in Crossing D a b h,
+      ne_eqb D (gap a b * gap a b) (λ e. omega arith),
+      ne_eqb D ((a + b) * (a + b))
+          (λ e. omega arith),
+    )
 once_in TouchingInside D a b h = simp (meets_in TouchingInside D a b h, eq-eqb D (gap a b * gap a b) h.1)
 once_in Holding D a b h = simp (meets_in Holding D a b h)
 once_in Identical D a b h = simp (meets_in Identical D a b h)
@@ -213,13 +250,16 @@ points_relation D a b = rw (meets_relation D a b, meets_once_relation D a b) (by
 -- ---- the same as facts on numbers
 
 -- two heads meet exactly if t² ≤ D ≤ s² and they are not identical
-pub meets_facts : (D a b : ℕ) → (meets D a b ≡ true) ↔ ((gap a b * gap a b ≤ D) × (D ≤ (a + b) * (a + b)) × (D ≡ 0 → a ≡ b → ⊥))
+pub meets_facts : (D a b : ℕ)
+    → (meets D a b ≡ true) ↔ ((gap a b * gap a b ≤ D) × (D ≤ (a + b) * (a + b)) × (D ≡ 0 → a ≡ b → ⊥))
 unfolding meets
-meets_facts D a b = (there, λ h. simp (le-leb (gap a b * gap a b) D h.0, le-leb D ((a + b) * (a + b)) h.1, identical_no D a b h.2))
+meets_facts D a b =
+    (there, λ h. simp (le-leb (gap a b * gap a b) D h.0, le-leb D ((a + b) * (a + b)) h.1, identical_no D a b h.2))
   where
     there : meets D a b ≡ true → (gap a b * gap a b ≤ D) × (D ≤ (a + b) * (a + b)) × (D ≡ 0 → a ≡ b → ⊥)
     there e =
-        let one = and_yes (leb (gap a b * gap a b) D) (leb D ((a + b) * (a + b)) && not (identical D a b)) (subst T (sym e) tt) in
+        let one = and_yes (leb (gap a b * gap a b) D) (leb D ((a + b) * (a + b)) && not (identical D a b))
+        (subst T (sym e) tt) in
         let two = and_yes (leb D ((a + b) * (a + b))) (not (identical D a b)) one.1 in (
           leb→le (gap a b * gap a b) D one.0,
           leb→le D ((a + b) * (a + b)) two.0,

@@ -1,6 +1,7 @@
 -- The distance of two whole numbers by their signs, and what follows for two heads: the squared centre distance is
 -- symmetric, two heads of the domain have one below 2^32, and one cut at the greatest u64 gives the same relation.
-use Rattle.std.specs.Prelude.{ℕ, zero, suc, ◌+◌, ◌-◌, ◌*◌, ◌^◌, ◌≤◌, ◌<◌, min, ◌≡◌, refl, Bool, true, false, ◌&&◌, T, ltb, leb, ℤ, pos, negsuc, nat_abs, ◌-ℤ◌}
+use Rattle.std.specs.Prelude.{ℕ, zero, suc, ◌+◌, ◌-◌, ◌*◌, ◌^◌, ◌≤◌, ◌<◌, min, ◌≡◌, refl}
+use Rattle.std.specs.Prelude.{Bool, true, false, ◌&&◌, T, ltb, leb, ℤ, pos, negsuc, nat_abs, ◌-ℤ◌}
 use Rattle.std.proofs.Common.{mul-le-mul, arith, sym, ap, ◌∙◌, leb→le, ltb-true, ltb-false}
 use Rattle.std.proofs.Math.IntN.{sub_ℕ}
 use Rattle.std.specs.Int.Signed.{mag}
@@ -95,7 +96,8 @@ position_bound : (v : ℤ) → T (position_in_limits v) → nat_abs v ≤ positi
 position_bound (pos n) h = leb→le n 20000 h
 position_bound (negsuc n) h = omega (arith, leb→le n 19999 (and_yes (leb n 19999) true h).0)
 
-radius_bounds : (v : ℤ) → T (radius_in_limits v) → (1 ≤ above_zero v) × (above_zero v ≤ radius_limit) × (v ≡ pos (above_zero v))
+radius_bounds : (v : ℤ) → T (radius_in_limits v)
+    → (1 ≤ above_zero v) × (above_zero v ≤ radius_limit) × (v ≡ pos (above_zero v))
 radius_bounds (pos n) h =
     let both = and_yes (leb 1 n) (leb n 20000) h in (leb→le 1 n both.0, leb→le n 20000 both.1, refl)
 radius_bounds (negsuc n) h = absurd h
@@ -138,7 +140,8 @@ pub distance_fits : (a b : Head) → T (in_limits a) → T (in_limits b) → squ
 distance_fits a b ha hb = omega (arith, distance_in_limits a b ha hb)
 
 -- so that nothing is cut at the greatest u64
-pub distance_whole : (a b : Head) → T (in_limits a) → T (in_limits b) → min (squared_distance a b) greatest ≡ squared_distance a b
+pub distance_whole : (a b : Head) → T (in_limits a) → T (in_limits b)
+    → min (squared_distance a b) greatest ≡ squared_distance a b
 distance_whole a b ha hb = let h = distance_fits a b ha hb in omega arith
 
 -- a distance cut at the greatest u64 gives the same relation for radii below 2^31
@@ -146,12 +149,18 @@ pub relation_capped : (D a b : ℕ) → a < 2 ^ 31 → b < 2 ^ 31 → relation (
 relation_capped D a b ha hb = go (ltb greatest D) refl
   where
     square : (a + b) * (a + b) < greatest
-    square = omega (arith, mul-le-mul {n₁ = a + b} {m₁ = a + b} {n₂ = 4294967294} {m₂ = 4294967294} (omega arith) (omega arith))
+    square =
+        omega (
+          arith,
+          mul-le-mul {n₁ =
+              a + b} {m₁ = a + b} {n₂ = 4294967294} {m₂ = 4294967294} (omega arith) (omega arith),
+        )
 
     go : (p : Bool) → ltb greatest D ≡ p → relation (min D greatest) a b ≡ relation D a b
     go true e =
         let h = ltb-true greatest D e in
-        relation_is Apart (min D greatest) a b (omega (arith, square)) ∙ sym (relation_is Apart D a b (omega (arith, square)))
+        relation_is Apart (min D greatest) a b (omega (arith, square))
+        ∙ sym (relation_is Apart D a b (omega (arith, square)))
     go false e =
         let h = ltb-false greatest D e in
         let same : min D greatest ≡ D = omega arith in

@@ -33,8 +33,8 @@ side_in_limits v = within (pos 1) (pos side_limit) v
 abbrev pub in_limits : Head → Bool
 in_limits h = position_in_limits h.x && (position_in_limits h.y && radius_in_limits h.radius)
 
--- A head that is drawn: a circle of whole centimetres, its radius at least 1, and so of the domain on which the f64 work is exact or bounded. What asks for
--- such a radius asks for this. Today every accepted head is drawn.
+-- A head that is drawn: a circle of whole centimetres, its radius at least 1, and so of the domain on which the f64
+-- work is exact or bounded. What asks for such a radius asks for this. Today every accepted head is drawn.
 abbrev pub is_drawn : Head → Bool
 is_drawn h = position_in_limits h.x && (position_in_limits h.y && radius_in_limits h.radius)
 

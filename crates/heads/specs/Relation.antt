@@ -2,7 +2,8 @@
 -- Document 01, "Facts to hold", with s the sum and t the difference of the radii.
 use Rattle.std.specs.Prelude.{ℕ, ◌+◌, ◌-◌, ◌*◌, Bool, true, false, not, cond, ◌&&◌, ◌||◌, ltb, leb, eqb}
 use Rattle.heads.specs.declared.Relation.{Relation}
-use Rattle.heads.specs.declared.Relation.TheVariants.{Apart, TouchingOutside, Crossing, TouchingInside, Holding, Identical}
+use Rattle.heads.specs.declared.Relation.TheVariants.{Apart, TouchingOutside, Crossing}
+use Rattle.heads.specs.declared.Relation.TheVariants.{TouchingInside, Holding, Identical}
 
 -- t, the difference of the radii: the larger less the smaller
 unfoldable pub gap : ℕ → ℕ → ℕ
@@ -33,7 +34,8 @@ relation D a b =
     (cond (ltb D ((a + b) * (a + b))) Crossing
     (cond (eqb D ((a + b) * (a + b))) TouchingOutside Apart))))
 
--- each case's number: its place in the list apart, touching outside, crossing, touching inside, holding without touch, identical
+-- each case's number: its place in the list apart, touching outside, crossing, touching inside, holding without touch,
+-- identical
 abbrev pub number : Relation → ℕ
 number Apart = 0
 number TouchingOutside = 1

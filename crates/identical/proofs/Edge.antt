@@ -20,7 +20,7 @@ use Rattle.binary64.proofs.Constants.{one64_most}
 use Rattle.binary64.proofs.Error.{add_near}
 use Rattle.binary64.proofs.Functions.{absolute_test, larger_is}
 use Rattle.binary64.proofs.Magnitude.{most_weaken, add_most, sub_most, mul_most, div_most}
-use Rattle.binary64.proofs.Naturals.{lt_or_ge}
+use Rattle.std.proofs.lemmas.Bool.{cases_lt}
 use Rattle.binary64.proofs.Operations.{add_result, sub_result, result_rounded, mul_mag, mul_sign, div_mag, div_sign}
 use Rattle.binary64.proofs.Rounding.{rnd_near, rnd_mono, minus_none, rnd_zero}
 use Rattle.binary64.proofs.Units.{one_pos, pow2_pos, pow2_mono, pow2_split, plus_is, plus_minus, plus_sign, units_of_lt}
@@ -253,7 +253,7 @@ module _ (x y : ℤ) (r : ℕ) (hx : nat_abs x ≤ 20000) (hy : nat_abs y ≤ 20
     off_most = sub_most v_most one64_most (omega arith) (omega arith)
 
     off_size : mag off ≤ mag (tolerance (whole_circle x y r))
-    off_size = go (lt_or_ge (mag v) one)
+    off_size = go (cases_lt (mag v) one)
       where
         rounded : Rounded off (plus v + minus one64) (minus v + plus one64) 1
         rounded = result_rounded (le_refl 1) (sub_result v_most.finite one_finite) off_most.finite

@@ -1,14 +1,9 @@
 -- What lies up to r from v, rounded, lies from v - r to v + r, rounded (specs/Within.antt).
-use Prim.{tt}
-use mathlib.Core.Path.{◌≡◌, refl, sym, ap₂}
-use mathlib.Core.Bool.{true, ◌&&◌}
-use Prim.Native.Nat.{ℕ, ◌+◌, ◌-◌, ◌*◌, ◌≤◌, ◌<◌}
-use native.Mathlib.Nat.{le_refl, le_trans, le_of_eq, mul-le-mul, mul-le-mul_right}
-use native.Mathlib.Omega.{arith}
-use lib.Dec.{T}
-use lib.Ieee.{Float, binary64, fits, lt, le, add, sub, mul, neg, of_bits}
+use Rattle.std.proofs.Common.{◌≡◌, refl, ap₂, true, ◌&&◌, ℕ, ◌+◌, ◌-◌, ◌*◌, ◌≤◌, le_refl, mul-le-mul, arith, T, Float}
+use lib.Ieee.{binary64, fits, lt, le, of_bits, neg}
 use Rattle.binary64.specs.Constants.{zero64}
-use Rattle.binary64.specs.Units.{pow2, one, mag, plus, minus}
+use Rattle.binary64.specs.Floats.{◌+ᶠ◌, ◌-ᶠ◌, ◌*ᶠ◌}
+use Rattle.binary64.specs.Units.{pow2, one, mag, plus, minus, Finite}
 use Rattle.binary64.specs.Magnitude.{Most}
 use Rattle.binary64.specs.Rounding.{Rounded}
 use Rattle.binary64.proofs.Units.{one_pos, plus_minus, mag_digits, above_zero, units_of_le, le_of_units}
@@ -16,10 +11,15 @@ use Rattle.binary64.proofs.Rounding.{rnd_mono, plus_le, minus_le}
 use Rattle.binary64.proofs.Operations.{result_rounded, add_result, sub_result, mul_result}
 use Rattle.binary64.proofs.Magnitude.{literal_most, add_most, sub_most, mul_most, most_between}
 use Rattle.masks.specs.Subset.{and_both}
+use Rattle.elementary.specs.Sine.{sine, cosine}
+use Rattle.elementary.proofs.sine.Promise.{sine_promise, cosine_promise}
+use Rattle.boundary.specs.Outline.{point_at}
+use Rattle.geometry.specs.declared.bounds.Bounds.{Bounds}
+use Rattle.geometry.specs.declared.circle.Circle.{Circle}
 use Rattle.geometry.specs.Moderate.{two_to_the64}
 use Rattle.geometry.specs.Tolerances.{clip_box}
 use Rattle.geometry.proofs.Roots.{top_most}
-use Rattle.inside.specs.Parts.{near_side}
+use Rattle.inside.specs.Parts.{near_side, in_box}
 use Rattle.inside.specs.Within.{StaysNear}
 
 tolerance_most : Most 1 1138 clip_box
@@ -27,74 +27,89 @@ unfolding mag pow2 of_bits
 tolerance_most = literal_most 0x3E11_2E0B_E826_D695 1 1138 tt tt
 
 -- a number that passes the test is at most 2^64
-pub bounded_most : (x : Float) → T (fits binary64 x) → (le (neg two_to_the64) x && le x two_to_the64) ≡ true → Most 1 1138 x
-bounded_most x t e = let w = and_both (le (neg two_to_the64) x) (le x two_to_the64) e in most_between t top_most w.0 w.1
+abbrev pub Bounded : Float → Type 0
+Bounded x = T (fits binary64 x) × ((le (neg two_to_the64) x && le x two_to_the64) ≡ true)
+
+bounded_most : {x : Float} → Bounded x → Most 1 1138 x
+bounded_most {x} b = let w = and_both _ _ b.1 in most_between b.0 top_most w.0 w.1
 
 -- what is no more comes out as no more
-rounded_mono : {z y : Float} {p n q m c : ℕ} → 0 < c → Rounded z p n c → Rounded y q m c → p + m ≤ q + n → (plus z ≤ plus y) × (minus y ≤ minus z)
-rounded_mono {p = p} {n = n} {q = q} {m = m} {c = c} C r s h = (
-  le_trans (le_of_eq r.up) (le_trans (rnd_mono (p - n) c (q - m) c C C (mul-le-mul_right c (omega arith))) (le_of_eq (sym s.up))),
-  le_trans (le_of_eq s.down) (le_trans (rnd_mono (m - q) c (n - p) c C C (mul-le-mul_right c (omega arith))) (le_of_eq (sym r.down))),
-)
+rounded_le : {z y : Float} {p n q m : ℕ} → Finite z → Finite y → Rounded z p n 1 → Rounded y q m 1 → p + m ≤ q + n
+    → le z y ≡ true
+rounded_le {p = p} {n = n} {q = q} {m = m} z y r s h =
+    let up = rnd_mono (p - n) 1 (q - m) 1 (le_refl 1) (le_refl 1) (omega arith) in
+    let down = rnd_mono (m - q) 1 (n - p) 1 (le_refl 1) (le_refl 1) (omega arith) in
+    le_of_units z y (omega (arith, r.up, r.down, s.up, s.down))
+
+float_le_trans : {x y z : Float} → Finite x → Finite y → Finite z → le x y ≡ true → le y z ≡ true → le x z ≡ true
+float_le_trans x y z h k = le_of_units x z (omega (arith, units_of_le x y h, units_of_le y z k))
 
 module _ {v r d : Float} (mv : Most 1 1138 v) (mr : Most 1 1138 r) (md : Most 1 1074 d) (none : minus r ≡ 0) where
-  -- the share of r
-  share_most : Most 1 1138 (mul binary64 r d)
+  abbrev share : Float
+  share = r *ᶠ d
+
+  share_most : Most 1 1138 share
   share_most = mul_most mr md 1138 refl (omega arith) (omega arith)
-
-  share : Rounded (mul binary64 r d) (plus r * plus d + minus r * minus d) (plus r * minus d + minus r * plus d) one
-  share = result_rounded one_pos (mul_result mr.finite md.finite) share_most.finite
-
-  whole : plus r ≡ mag r
-  whole = omega (arith, plus_minus r, none)
 
   part : (e : ℕ) → e ≤ mag d → mag r * e ≤ mag r * one
   part e h = mul-le-mul (le_refl (mag r)) (omega (arith, md.bound))
 
-  plus_share : plus (mul binary64 r d) ≤ mag r
-  plus_share =
-      plus_le one_pos share (mag_digits mr.finite) (rw (none, whole) (omega (arith, part (plus d) (omega (arith, plus_minus d)))))
+  -- the share of r is no more than r
+  share_le : (plus share ≤ mag r) × (minus share ≤ mag r)
+  share_le =
+      let whole : plus r ≡ mag r = omega (arith, plus_minus r) in
+      let rounded = result_rounded one_pos (mul_result mr.finite md.finite) share_most.finite in
+      let sides = plus_minus d in
+      let fits = mag_digits mr.finite in (
+        plus_le one_pos rounded fits (rw (none, whole) (omega (arith, part (plus d) (omega arith)))),
+        minus_le one_pos rounded fits (rw (none, whole) (omega (arith, part (minus d) (omega arith)))),
+      )
 
-  minus_share : minus (mul binary64 r d) ≤ mag r
-  minus_share =
-      minus_le one_pos share (mag_digits mr.finite) (rw (none, whole) (omega (arith, part (minus d) (omega (arith, plus_minus d)))))
+  point_most : Most 2 1138 (v +ᶠ share)
+  point_most = add_most mv share_most (omega arith) (omega arith)
 
-  at_most : Most 2 1138 (add binary64 v (mul binary64 r d))
-  at_most = add_most mv share_most (omega arith) (omega arith)
+  point : Rounded (v +ᶠ share) (plus v + plus share) (minus v + minus share) 1
+  point = result_rounded (le_refl 1) (add_result mv.finite share_most.finite) point_most.finite
 
-  point : Rounded (add binary64 v (mul binary64 r d)) (plus v + plus (mul binary64 r d)) (minus v + minus (mul binary64 r d)) 1
-  point = result_rounded (le_refl 1) (add_result mv.finite share_most.finite) at_most.finite
-
-  low_most : Most 2 1138 (sub binary64 v r)
+  low_most : Most 2 1138 (v -ᶠ r)
   low_most = sub_most mv mr (omega arith) (omega arith)
 
-  high_most : Most 2 1138 (add binary64 v r)
+  high_most : Most 2 1138 (v +ᶠ r)
   high_most = add_most mv mr (omega arith) (omega arith)
 
-  from_low : (plus (sub binary64 v r) ≤ plus (add binary64 v (mul binary64 r d))) × (minus (add binary64 v (mul binary64 r d)) ≤ minus (sub binary64 v r))
+  from_low : le (v -ᶠ r) (v +ᶠ share) ≡ true
   from_low =
-      rounded_mono (le_refl 1) (result_rounded (le_refl 1) (sub_result mv.finite mr.finite) low_most.finite) point
-      (omega (arith, none, whole, minus_share))
+      rounded_le low_most.finite point_most.finite
+      (result_rounded (le_refl 1) (sub_result mv.finite mr.finite) low_most.finite) point
+      (omega (arith, none, plus_minus r, share_le))
 
-  to_high : (plus (add binary64 v (mul binary64 r d)) ≤ plus (add binary64 v r)) × (minus (add binary64 v r) ≤ minus (add binary64 v (mul binary64 r d)))
+  to_high : le (v +ᶠ share) (v +ᶠ r) ≡ true
   to_high =
-      rounded_mono (le_refl 1) point (result_rounded (le_refl 1) (add_result mv.finite mr.finite) high_most.finite)
-      (omega (arith, none, whole, plus_share))
+      rounded_le point_most.finite high_most.finite point
+      (result_rounded (le_refl 1) (add_result mv.finite mr.finite) high_most.finite)
+      (omega (arith, none, plus_minus r, share_le))
 
   -- between two ends that are near the side it is near the side
-  stays : (low high : Float) → Most 1 1138 low → Most 1 1138 high → near_side low high (sub binary64 v r) ≡ true
-      → near_side low high (add binary64 v r) ≡ true → near_side low high (add binary64 v (mul binary64 r d)) ≡ true
+  stays : {low high : Float} → Most 1 1138 low → Most 1 1138 high → near_side low high (v -ᶠ r) ≡ true
+      → near_side low high (v +ᶠ r) ≡ true → near_side low high (v +ᶠ share) ≡ true
   unfolding near_side
-  stays low high l h e f =
+  stays l h e f =
       let a = sub_most l tolerance_most (omega arith) (omega arith) in
       let b = add_most h tolerance_most (omega arith) (omega arith) in
-      let p = and_both (le (sub binary64 low clip_box) (sub binary64 v r)) (le (sub binary64 v r) (add binary64 high clip_box)) e in
-      let q = and_both (le (sub binary64 low clip_box) (add binary64 v r)) (le (add binary64 v r) (add binary64 high clip_box)) f in
-      ap₂ ◌&&◌
-      (le_of_units a.finite at_most.finite (omega (arith, units_of_le a.finite low_most.finite p.0, from_low)))
-      (le_of_units at_most.finite b.finite (omega (arith, units_of_le high_most.finite b.finite q.1, to_high)))
+      ap₂ ◌&&◌ (float_le_trans a.finite low_most.finite point_most.finite (and_both _ _ e).0 from_low)
+      (float_le_trans point_most.finite high_most.finite b.finite to_high (and_both _ _ f).1)
 
 -- The tests of the code, put together.
-pub stays-near : (low high v r : Float) → Most 1 1138 low → Most 1 1138 high → Most 1 1138 v → Most 1 1138 r → lt zero64 r ≡ true
-    → near_side low high (sub binary64 v r) ≡ true → near_side low high (add binary64 v r) ≡ true → StaysNear low high v r
-stays-near low high v r l h mv mr p e f d md = stays mv mr md (above_zero mr.finite p).1 low high l h e f
+pub all_near : (low high v r d : Float) → Bounded low → Bounded high → Bounded v → Bounded r → lt zero64 r ≡ true
+    → near_side low high (v -ᶠ r) ≡ true → near_side low high (v +ᶠ r) ≡ true
+    → Most 1 1074 d → near_side low high (v +ᶠ r *ᶠ d) ≡ true
+all_near low high v r d l h mv mr p e f md =
+    let m = bounded_most mr in
+    stays (bounded_most mv) m md (above_zero m.finite p).1 (bounded_most l) (bounded_most h) e f
+
+-- A circle that stays near all four sides is in the box at every angle: sine and cosine are at most 1.
+pub at_every_angle : (box : Bounds) (c : Circle) (phi : Float) → StaysNear box.x_min box.x_max c.center.x c.radius
+    → StaysNear box.y_min box.y_max c.center.y c.radius → in_box box (point_at c phi) ≡ true
+unfolding in_box point_at
+at_every_angle box c phi h v =
+    ap₂ ◌&&◌ (h (cosine phi) (cosine_promise.size phi)) (v (sine phi) (sine_promise.size phi))

@@ -1,5 +1,5 @@
 -- The breaks of an arc: its two ends and the angles at which it crosses the four edges of the box, in order.
-use Rattle.std.specs.Prelude.{ℕ, ◌+◌, ◌≤◌, ◌≡◌, Bool, ◌&&◌, cond, List, [], ◌∷◌, ◌++◌, map, Float}
+use Rattle.std.specs.Prelude.{ℕ, ◌+◌, ◌≤◌, ◌≡◌, Bool, ◌&&◌, cond, List, [], ◌∷◌, ◌++◌, map, length, Float}
 use Rattle.std.specs.Float.Ieee.{neg}
 use Rattle.elementary.specs.Arctangent.{acos, asin}
 use Rattle.geometry.specs.declared.bounds.Bounds.{Bounds}
@@ -9,9 +9,8 @@ use Rattle.lists.specs.Lists.{keep}
 use Rattle.binary64.specs.Constants.{zero64, one64, pi, two_pi}
 use Rattle.binary64.specs.Functions.{absolute}
 use Rattle.binary64.specs.Floats.{◌+ᶠ◌, ◌-ᶠ◌, ◌*ᶠ◌, ◌/ᶠ◌, ◌<ᶠ◌, ◌≤ᶠ◌}
-use Rattle.boundary.specs.Sort.{sort_onto, sorted}
+use Rattle.boundary.specs.Sort.{sort_onto, sorted, sorted_by}
 use Rattle.boundary.specs.declared.arcs.BoundaryArc.{BoundaryArc}
-use Rattle.boundary.specs.Counted.{angle_list}
 use Rattle.inside.specs.declared.breaks.Breaks.{Breaks}
 
 -- strictly inside the arc from a to b: further than 1e-12 from either end
@@ -52,7 +51,7 @@ crossings box c a b =
 
 -- the ends and the crossings, sorted stably
 unfoldable pub breaks_between : Bounds → Circle → Float → Float → List Float
-unfolding crossings sorted
+unfolding crossings sorted_by
 breaks_between box c a b = sorted (a ∷ (crossings box c a b ++ (b ∷ [])))
 
 -- the breaks of an arc, which ends at its start plus its length, not wrapped
@@ -65,7 +64,7 @@ breaks box c arc = breaks_between box c arc.phi_start (arc.phi_start +ᶠ arc.de
 -- The new ones, of which there are at most so many, are put in: the list is those that were there with them, sorted.
 -- The ends stay.
 pub record Put (most : ℕ) (new : List Float) (before after : Breaks) : Type 0 where
-  pub few : after.found.n ≤ before.found.n + most
-  pub found : angle_list after.found ≡ sort_onto (angle_list before.found) new
+  pub few : length after.found.items ≤ length before.found.items + most
+  pub found : after.found.items ≡ sort_onto before.found.items new
   pub phi_a : after.phi_a ≡ before.phi_a
   pub phi_b : after.phi_b ≡ before.phi_b

@@ -1,19 +1,16 @@
 -- The list of meeting points as the two loops of `collect_intersections` fill it: what it holds before each turn.
 use mathlib.Core.Path.{◌≡◌, sym, ap, ◌∙◌}
 use mathlib.Core.List.{List, [], ◌++◌, map, append_assoc, append-nil}
-use Prim.Native.Nat.{ℕ, suc, ◌+◌, ◌-◌, ◌*◌, ◌≤◌, ◌<◌, min}
+use Prim.Native.Nat.{ℕ, suc, ◌+◌, ◌-◌, ◌*◌, ◌≤◌, ◌<◌}
 use native.Mathlib.Numerals.{add-one}
 use native.Mathlib.Omega.{arith}
-use lib.ListN.{length, take, length-append, length-map}
+use lib.ListN.{length, length-append}
 use Rattle.std.proofs.Common.{mul-le-mul_right}
 use Rattle.geometry.specs.Circle.{intersection_points}
 use Rattle.geometry.specs.declared.circle.Circle.{Circle}
 use Rattle.lists.specs.Lists.{up_to}
 use Rattle.lists.proofs.Lists.{up_to_few}
-use Rattle.lists.proofs.Arrays.{capped_take}
 use Rattle.intersections.specs.declared.points.IntersectionPoint.{IntersectionPoint}
-use Rattle.intersections.specs.declared.points.Intersections.{Intersections}
-use Rattle.intersections.specs.Counted.{point_list}
 use Rattle.intersections.specs.Counts.{pair_few, rows_few}
 use Rattle.intersections.specs.Members.{circle_at}
 use Rattle.intersections.specs.Points.{with_adopters, pair_points, later_points, collected}
@@ -22,25 +19,17 @@ use Rattle.intersections.specs.Points.{with_adopters, pair_points, later_points,
 pub row_to : List Circle → ℕ → ℕ → List IntersectionPoint
 row_to cs i j = up_to (λ d. pair_points cs i (i + 1 + d)) (j - (i + 1))
 
--- found are these points
-pub record Held (found : Intersections) (list : List IntersectionPoint) : Type 0 where
-  pub count : found.n ≡ length list
-  pub points : point_list found ≡ list
-
-held_as : {found : Intersections} {list other : List IntersectionPoint} → list ≡ other → Held found list → Held found other
-held_as e h = record { count = h.count ∙ ap length e; points = h.points ∙ e }
-
--- the points of the heads below i
-abbrev pub Rows : List Circle → ℕ → Intersections → Type 0
-Rows cs i found = Held found (up_to (later_points cs) i)
+-- found are the points of the heads below i
+abbrev pub Rows : List Circle → ℕ → List IntersectionPoint → Type 0
+Rows cs i found = found ≡ up_to (later_points cs) i
 
 -- and those of head i with the heads below j
-abbrev pub Row : List Circle → ℕ → ℕ → Intersections → Type 0
-Row cs i j found = Held found (up_to (later_points cs) i ++ row_to cs i j)
+abbrev pub Row : List Circle → ℕ → ℕ → List IntersectionPoint → Type 0
+Row cs i j found = found ≡ up_to (later_points cs) i ++ row_to cs i j
 
-pub rows_none : (cs : List Circle) {found : Intersections} → found.n ≡ 0 → point_list found ≡ [] → Rows cs 0 found
+pub rows_none : (cs : List Circle) {found : List IntersectionPoint} → found ≡ [] → Rows cs 0 found
 unfolding up_to
-rows_none cs n e = record { count = n; points = e }
+rows_none cs e = e
 
 -- ---- there is room: ten heads have at most 90 points
 
@@ -85,31 +74,24 @@ module _ (cs : List Circle) (i : ℕ) where
   abbrev rows : List IntersectionPoint
   rows = up_to (later_points cs) i
 
-  module _ {found : Intersections} where
+  module _ {found : List IntersectionPoint} where
     -- head i begins
     pub row_start : Rows cs i found → Row cs i (i + 1) found
-    row_start r = held_as (sym (ap (λ l. rows ++ l) row_none ∙ append-nil rows)) r
+    row_start r = r ∙ sym (ap (λ l. rows ++ l) row_none ∙ append-nil rows)
 
     -- it has met all heads after it
     pub row_end : (j : ℕ) → j ≡ length cs → Row cs i j found → Rows cs (i + 1) found
-    row_end j e r = held_as (ap (λ l. rows ++ l) (row_whole j e) ∙ rows_more) r
+    row_end j e r = r ∙ ap (λ l. rows ++ l) (row_whole j e) ∙ rows_more
 
     -- it has met head j in these points
-    pub row_on : {more : Intersections} (j : ℕ) → i < j → let met = intersection_points (circle_at cs i) (circle_at cs j) in
-        more.n ≡ found.n + length met → point_list more ≡ point_list found ++ map (with_adopters cs i j) met → Row cs i j found → Row cs i (j + 1) more
+    pub row_on : {more : List IntersectionPoint} (j : ℕ) → i < j
+        → more ≡ found ++ map (with_adopters cs i j) (intersection_points (circle_at cs i) (circle_at cs j)) → Row cs i j found → Row cs i (j + 1) more
     unfolding pair_points
-    row_on j h n e r =
-        let row = row_to cs i j in
-        let met = pair_points cs i j in
-        held_as (append_assoc rows row met ∙ ap (λ l. rows ++ l) (row_more j h))
-        (record {
-          count = omega (arith, n, r.count, length-append (rows ++ row) met, length-map (intersection_points (circle_at cs i) (circle_at cs j)) (with_adopters cs i j));
-          points = e ∙ ap (λ l. l ++ met) r.points;
-        })
+    row_on j h e r =
+        e ∙ ap (λ l. l ++ pair_points cs i j) r
+        ∙ append_assoc rows (row_to cs i j) (pair_points cs i j) ∙ ap (λ l. rows ++ l) (row_more j h)
 
--- all heads have: of ten circles the first so many
-pub rows_end : (circles : List Circle) (n sets i : ℕ) {found : Intersections} → length circles ≡ 10 → n ≡ min sets 10 → i ≡ length (take n circles)
-    → Rows (take n circles) i found → Held found (collected (take sets circles))
+-- all heads have
+pub rows_end : (cs : List Circle) (i : ℕ) {found : List IntersectionPoint} → length cs ≤ i → i ≤ length cs → Rows cs i found → found ≡ collected cs
 unfolding collected
-rows_end circles n sets i ten m e r =
-    held_as (rw e (ap collected (ap (λ (k : ℕ). take k circles) m ∙ capped_take circles sets 10 ten))) r
+rows_end cs i h g r = let all : i ≡ length cs = omega arith in r ∙ ap (up_to (later_points cs)) all

@@ -10,49 +10,46 @@ use native.Mathlib.Omega.{arith}
 use borrow.Author.Tests.{lt-ltb, le-ltb, ltb-true, ltb-false, eqb-true, eqb-false}
 use lib.Count.{ones, count_trailing_zeros}
 use lib.Dec.{eqb, ltb}
-use lib.ListN.{length, length-append}
+use lib.ListN.{length, length-map}
 use Rattle.masks.specs.Mask.{in_set}
 use Rattle.masks.specs.Operations.{in_power}
 use Rattle.masks.specs.Lowest.{one_single}
 use Rattle.lists.specs.Lists.{up_to}
 use Rattle.geometry.specs.declared.circle.Circle.{Circle}
-use Rattle.intersections.specs.declared.members.Members.{Members}
-use Rattle.intersections.specs.Counted.{head_list, circle_list, HoldsBelow, HoldsHeads}
+use Rattle.intersections.specs.declared.members.HeadCircle.{HeadCircle}
+use Rattle.intersections.specs.Heads.{head_circle, heads_with}
 use Rattle.intersections.specs.Counts.{heads_few}
 use Rattle.intersections.specs.Members.{heads_of, circle_at}
 
 module _ (circles : List Circle) (S : ℕ) where
-  pub gathered_none : (m : Members) → m.n ≡ 0 → HoldsBelow circles S 0 m
-  unfolding heads_of up_to
-  gathered_none m e = record { n_value = e; result_value = rw e; result_value_2 = rw e }
+  -- the heads of S below j, each with its circle
+  pub heads_to : ℕ → List HeadCircle
+  heads_to j = map (head_circle circles) (heads_of j S)
 
-  module _ (j : ℕ) {m : Members} where
+  pub gathered_none : heads_to 0 ≡ []
+  unfolding heads_to heads_of up_to
+  gathered_none = refl
+
+  pub gathered_all : (j : ℕ) → j ≡ length circles → heads_to j ≡ heads_with circles S
+  unfolding heads_to heads_with
+  gathered_all j e = rw e
+
+  module _ (j : ℕ) {found : List HeadCircle} (so_far : found ≡ heads_to j) where
     -- a head more
-    pub gathered_with : {more : Members} {c : Circle} → in_set S j ≡ true → c ≡ circle_at circles j → more.n ≡ m.n + 1
-        → head_list more ≡ head_list m ++ (j ∷ []) → circle_list more ≡ circle_list m ++ (c ∷ [])
-        → HoldsBelow circles S j m → HoldsBelow circles S (j + 1) more
-    unfolding heads_of up_to
-    gathered_with e f n h k g =
-        record {
-          n_value = rw (n, g.n_value, add-one j, e) (sym (length-append (heads_of j S) (j ∷ [])));
-          result_value = rw (h, g.result_value, add-one j, e);
-          result_value_2 = rw (k, g.result_value_2, f, add-one j, e) (sym (map-append (circle_at circles) (heads_of j S) (j ∷ [])));
-        }
+    pub gathered_with : {more : List HeadCircle} {c : Circle} → in_set S j ≡ true → c ≡ circle_at circles j
+        → more ≡ found ++ record { head = j; circle = c } ∷ [] → more ≡ heads_to (j + 1)
+    unfolding heads_to heads_of up_to
+    gathered_with e f g = g ∙ rw (so_far, f, add-one j, e) (sym (map-append (head_circle circles) (heads_of j S) (j ∷ [])))
 
     -- a head that is not in the set
-    pub gathered_without : in_set S j ≡ false → HoldsBelow circles S j m → HoldsBelow circles S (j + 1) m
-    unfolding heads_of up_to
-    gathered_without e g =
-        let same : heads_of j S ≡ heads_of (j + 1) S = rw (add-one j, e) (sym (append-nil (heads_of j S))) in
-        record {
-          n_value = g.n_value ∙ ap length same;
-          result_value = g.result_value ∙ same;
-          result_value_2 = g.result_value_2 ∙ ap (map (circle_at circles)) same;
-        }
+    pub gathered_without : in_set S j ≡ false → found ≡ heads_to (j + 1)
+    unfolding heads_to heads_of up_to
+    gathered_without e = so_far ∙ rw (add-one j, e) (ap (map (head_circle circles)) (sym (append-nil (heads_of j S))))
 
     -- there is room for one more
-    pub gathered_few : HoldsBelow circles S j m → m.n ≤ j
-    gathered_few g = omega (arith, g.n_value, heads_few j S)
+    pub gathered_few : length found ≤ j
+    unfolding heads_to
+    gathered_few = omega (arith, ap length so_far, length-map (heads_of j S) (head_circle circles), heads_few j S)
 
 -- the heads of a set of one, by its trailing zeros
 heads_power : (n j : ℕ) → heads_of n (2 ^ j) ≡ cond (ltb j n) (j ∷ []) []
@@ -72,16 +69,14 @@ heads_power (suc n) j = rw (in_power j n, heads_power n j) (by (ltb j n) (eqb n 
 pub single_heads : (n S : ℕ) → S < 2 ^ 64 → ones S ≡ 1 → heads_of n S ≡ cond (ltb (count_trailing_zeros 64 S) n) (count_trailing_zeros 64 S ∷ []) []
 single_heads n S h e = ap (heads_of n) (one_single 64 S h e) ∙ heads_power n (count_trailing_zeros 64 S)
 
-module _ (circles : List Circle) (S : ℕ) (h : S < 2 ^ 64) (e : ones S ≡ 1) (m : Members) where
+module _ (circles : List Circle) (S : ℕ) (h : S < 2 ^ 64) (e : ones S ≡ 1) where
   abbrev j : ℕ
   j = count_trailing_zeros 64 S
 
-  pub single_with : j < length circles → m.n ≡ 1 → head_list m ≡ j ∷ [] → circle_list m ≡ circle_at circles j ∷ [] → HoldsHeads circles S m
-  single_with l n f g =
-      let heads : heads_of (length circles) S ≡ j ∷ [] = single_heads (length circles) S h e ∙ rw (lt-ltb j (length circles) l) in
-      record { n_value = rw heads n; result_value = rw heads f; result_value_2 = rw heads g }
+  pub single_with : j < length circles → heads_with circles S ≡ head_circle circles j ∷ []
+  unfolding heads_with
+  single_with l = rw (single_heads (length circles) S h e, lt-ltb j (length circles) l)
 
-  pub single_none : length circles ≤ j → m.n ≡ 0 → HoldsHeads circles S m
-  single_none l n =
-      let heads : heads_of (length circles) S ≡ [] = single_heads (length circles) S h e ∙ rw (le-ltb j (length circles) l) in
-      record { n_value = rw (heads, n); result_value = rw (heads, n); result_value_2 = rw (heads, n) }
+  pub single_none : length circles ≤ j → heads_with circles S ≡ []
+  unfolding heads_with
+  single_none l = rw (single_heads (length circles) S h e, le-ltb j (length circles) l)

@@ -1,4 +1,4 @@
 pub mod Members
 pub mod Points
-pub mod Counted
+pub mod Heads
 pub mod Counts

@@ -1,13 +1,12 @@
 // The meeting points of all pairs of circles (the Rust's collect_intersections). Rests on specs/Points.antt.
-ghost use Rattle.std.specs.Prelude.{◌≡◌, ◌≤◌, ◌<◌, ◌+◌, ◌++◌, length, map, take};
+ghost use Rattle.std.specs.Prelude.{◌≡◌, ◌≤◌, ◌<◌, ◌++◌, length, map};
 ghost use Rattle.geometry.specs.Meeting.{points};
 ghost use Rattle.masks.specs.Mask.{gather};
 ghost use Rattle.intersections.specs.Points as spec;
 ghost use Rattle.intersections.specs.Points.{collected};
-ghost use Rattle.intersections.specs.Counted.{point_list};
 
 use crate::points::{IntersectionPoint, Intersections};
-use geometry::circle::Circle;
+use geometry::circle::{Circle, Circles};
 use geometry::meeting::Meeting;
 use geometry::pair::Pair;
 use geometry::point::Point;
@@ -73,9 +72,8 @@ impl Parents<'_> {
 
     // Their points, put at the end of those found.
     fn push_points(&self, meeting: Meeting, found: &mut Intersections)
-        requires { found.old.n ≤ 88 }
-        ensures n_value { found.new.n ≡ found.old.n + length (points meeting) }
-        ensures points_value { point_list found.new ≡ point_list found.old
+        requires { length found.old.items ≤ 88 }
+        ensures { found.new.items ≡ found.old.items
             ++ map (spec.with_adopters self.now.circles.now self.now.first self.now.second) (points meeting) }
     {
         match meeting {
@@ -89,13 +87,12 @@ impl Parents<'_> {
     }
 }
 
-// The meeting points of the first n_sets circles.
-pub fn collect_intersections(circles: [Circle; 10], n_sets: usize) -> Intersections
-    ensures result_value { point_list result ≡ collected (take n_sets circles) }
-    ensures n_value { result.n ≡ length (collected (take n_sets circles)) }
+// The meeting points of circles.
+pub fn collect_intersections(circles: &Circles) -> Intersections
+    ensures { result.items ≡ collected circles.now.items }
 {
-    let heads = &circles[..n_sets.min(10)];
-    let mut found = Intersections::none();
+    let heads = circles.as_slice();
+    let mut found = Intersections::new();
     for (i, first) in heads.iter().enumerate() {
         for j in i + 1..heads.len() {
             let pair = Pair::new(i, j, *first, heads[j]);

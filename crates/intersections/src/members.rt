@@ -1,80 +1,70 @@
 // The heads of a set, in order, and which points are counted for it there. Rests on specs/Members.antt.
-ghost use Rattle.std.specs.Prelude.{◌≡◌, ◌<◌, ◌+◌, [], ◌∷◌, ◌++◌, map, take, length};
+ghost use Rattle.std.specs.Prelude.{◌≡◌};
 ghost use Rattle.std.specs.Int.Count.{ones};
-ghost use Rattle.intersections.specs.Members.{heads_of, counted_for, circle_at};
-ghost use Rattle.intersections.specs.Counted.{head_list, circle_list, HoldsHeads};
+ghost use Rattle.intersections.specs.Members.{counted_for};
+ghost use Rattle.intersections.specs.Heads.{heads_with, circle_list};
 
 use crate::points::IntersectionPoint;
-use geometry::circle::Circle;
+use arrayvec::ArrayVec;
+use geometry::circle::{Circle, Circles};
 
-// The first n of each: the numbers of a set's heads and their circles.
-#[derive(Clone, Copy)]
-pub struct Members {
-    pub n: usize,
-    pub heads: [usize; 10],
-    pub circles: [Circle; 10],
+// A head of a set: its number and its circle.
+#[derive(Clone, Copy, PartialEq, Debug, Default)]
+pub struct HeadCircle {
+    pub head: usize,
+    pub circle: Circle,
 }
 
-impl Members {
-    // One head more, and its circle.
-    fn push(&mut self, head: usize, circle: Circle)
-        requires { self.old.n < 10 }
-        ensures n_value { self.new.n ≡ self.old.n + 1 }
-        ensures heads_value { head_list self.new ≡ head_list self.old ++ (head ∷ []) }
-        ensures circles_value { circle_list self.new ≡ circle_list self.old ++ (circle ∷ []) }
-    {
-        self.heads[self.n] = head;
-        self.circles[self.n] = circle;
-        self.n += 1;
-    }
-}
+// The heads of a set, in order.
+pub type Members = ArrayVec<HeadCircle, 10>;
 
-// The heads of a set among the first n_sets, one after another.
-fn gathered_members(mask: usize, circles: [Circle; 10], n_sets: usize) -> Members
-    ensures { HoldsHeads (take n_sets circles) mask result }
+// The heads of a set among these circles, one after another.
+fn gathered_members(mask: usize, circles: &Circles) -> Members
+    ensures { result.items ≡ heads_with circles.now.items mask }
 {
-    let mut members = Members {
-        n: 0,
-        heads: [0; 10],
-        circles,
-    };
-    for j in 0..n_sets.min(10) {
-        if mask >> j & 1 == 1 {
-            members.push(j, circles[j]);
+    let mut members = Members::new();
+    for (head, &circle) in circles.iter().enumerate() {
+        if mask >> head & 1 == 1 {
+            members.push(HeadCircle { head, circle });
         }
     }
     members
 }
 
-// The head of a set of one, if it is among the first n_sets: its trailing zeros say which.
-fn single_member(mask: usize, circles: [Circle; 10], n_sets: usize) -> Members
+// The head of a set of one, if it is among these circles: its trailing zeros say which.
+// Apart from any other set: the trailing zeros of a single are a form that docs/DECISIONS.md names.
+fn single_member(mask: usize, circles: &Circles) -> Members
     requires { ones mask ≡ 1 }
-    ensures { HoldsHeads (take n_sets circles) mask result }
+    ensures { result.items ≡ heads_with circles.now.items mask }
 {
-    let mut members = Members {
-        n: 0,
-        heads: [0; 10],
-        circles,
-    };
-    let j = mask.trailing_zeros() as usize;
-    if j < n_sets.min(10) {
-        members.push(j, circles[j]);
+    let mut members = Members::new();
+    let head = mask.trailing_zeros() as usize;
+    if let Some(&circle) = circles.get(head) {
+        members.push(HeadCircle { head, circle });
     }
     members
 }
 
-// The heads of a set among the first n_sets.
-pub fn members_of(mask: usize, circles: [Circle; 10], n_sets: usize) -> Members
-    ensures n_value { result.n ≡ length (heads_of (length (take n_sets circles)) mask) }
-    ensures result_value { head_list result ≡ heads_of (length (take n_sets circles)) mask }
-    ensures result_value_2 { circle_list result ≡
-        map (circle_at (take n_sets circles)) (heads_of (length (take n_sets circles)) mask) }
+// The heads of a set among these circles.
+pub fn members_of(mask: usize, circles: &Circles) -> Members
+    ensures { result.items ≡ heads_with circles.now.items mask }
 {
     if mask.count_ones() == 1 {
-        single_member(mask, circles, n_sets)
+        single_member(mask, circles)
     } else {
-        gathered_members(mask, circles, n_sets)
+        gathered_members(mask, circles)
     }
+}
+
+// The circles of a set's heads, in order.
+pub fn circles_of(set: &Members) -> Circles
+    ensures { result.items ≡ circle_list set.now.items }
+{
+    let mut circles = Circles::new();
+    for member in set.iter() {
+        circles.push(member.circle);
+    }
+    circles
 }
 
 // Whether a meeting point is counted for a set at head j.

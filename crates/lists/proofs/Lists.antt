@@ -24,7 +24,8 @@ up_to_through F nil cat f zero = nil
 up_to_through F nil cat f (suc m) = cat (up_to f m) (f m) ∙ ap (λ l. l ++ F (f m)) (up_to_through F nil cat f m)
 
 -- at most b each time
-pub up_to_few : {A : Type 0} (f : ℕ → List A) (b m : ℕ) → ((i : ℕ) → i < m → length (f i) ≤ b) → length (up_to f m) ≤ m * b
+pub up_to_few : {A : Type 0} (f : ℕ → List A) (b m : ℕ) → ((i : ℕ) → i < m → length (f i) ≤ b)
+    → length (up_to f m) ≤ m * b
 unfolding up_to
 up_to_few f b zero h = omega arith
 up_to_few f b (suc m) h =
@@ -64,14 +65,16 @@ module _ {A : Type 0} (p : A → Bool) where
   keep_none (x ∷ l) h = rw h.0 (keep_none l h.1)
 
   -- the same elements pass of two lists made alike, and are alike to f
-  pub keep_alike : {B C : Type 0} (f : A → B) (mk mk' : C → A) → ((c : C) → p (mk c) ≡ p (mk' c)) → ((c : C) → f (mk c) ≡ f (mk' c))
+  pub keep_alike : {B C : Type 0} (f : A → B) (mk mk' : C → A) → ((c : C) → p (mk c) ≡ p (mk' c))
+      → ((c : C) → f (mk c) ≡ f (mk' c))
       → (l : List C) → map f (keep p (map mk l)) ≡ map f (keep p (map mk' l))
   unfolding keep
   keep_alike f mk mk' same e [] = refl
   keep_alike f mk mk' same e (c ∷ l) = rw (same c) (by (p (mk' c)) (keep_alike f mk mk' same e l))
     where
       by : (t : Bool) → map f (keep p (map mk l)) ≡ map f (keep p (map mk' l))
-          → map f (cond t (mk c ∷ keep p (map mk l)) (keep p (map mk l))) ≡ map f (cond t (mk' c ∷ keep p (map mk' l)) (keep p (map mk' l)))
+          → map f (cond t (mk c ∷ keep p (map mk l)) (keep p (map mk l)))
+          ≡ map f (cond t (mk' c ∷ keep p (map mk' l)) (keep p (map mk' l)))
       by true r = ap₂ ◌∷◌ (e c) r
       by false r = r
 

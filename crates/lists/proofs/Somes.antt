@@ -60,13 +60,16 @@ unfolding any
 any_none p l = refl
 
 -- one element more
-pub any_next : {A : Type 0} (p : A → Bool) (l : List A) (k : ℕ) (d : A) → k < length l → any p (take (k + 1) l) ≡ (any p (take k l) || p (get_or l k d))
+pub any_next : {A : Type 0} (p : A → Bool) (l : List A) (k : ℕ) (d : A) → k < length l
+    → any p (take (k + 1) l) ≡ (any p (take k l) || p (get_or l k d))
 any_next p l k d h =
-    ap (λ (m : ℕ). any p (take m l)) (add-one k) ∙ ap (any p) (take-suc l k d h) ∙ any_append p (take k l) (get_or l k d ∷ [])
+    ap (λ (m : ℕ). any p (take m l)) (add-one k) ∙ ap (any p) (take-suc l k d h)
+    ∙ any_append p (take k l) (get_or l k d ∷ [])
     ∙ ap (λ (b : Bool). any p (take k l) || b) (any_one p (get_or l k d))
 
 -- an element of the list that passes
-pub any_of : {A : Type 0} (p : A → Bool) (l : List A) (k n : ℕ) (d : A) → k < length l → k < n → p (get_or l k d) ≡ true → any p (take n l) ≡ true
+pub any_of : {A : Type 0} (p : A → Bool) (l : List A) (k n : ℕ) (d : A) → k < length l → k < n → p (get_or l k d) ≡ true
+    → any p (take n l) ≡ true
 unfolding any
 any_of p [] k n d h g e = absurd (omega arith)
 any_of p (x ∷ l) k zero d h g e = absurd (omega arith)

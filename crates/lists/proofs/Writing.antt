@@ -8,7 +8,8 @@ use native.Mathlib.Nat.{eq-or-lt_of_le, le_of_suc-le-suc, le_refl}
 use native.Mathlib.Numerals.{add-one}
 use native.Mathlib.Omega.{arith}
 use lib.ListN.{length, get_or, set, take, drop, length-append, length-drop, get_or-append, drop_of_length-le}
-use lib.Seq.{get_or-append-add, get_or-drop, get_or_at, drop-cons, drop-append-add, drop-drop, set_at, take-append-le, take_all, take-suc}
+use lib.Seq.{get_or-append-add, get_or-drop, get_or_at, drop-cons, drop-append-add}
+use lib.Seq.{drop-drop, set_at, take-append-le, take_all, take-suc}
 use Rattle.lists.specs.Written.{tab, written}
 
 module _ {A : Type 0} (f : ℕ → A) where
@@ -32,8 +33,11 @@ module _ {A : Type 0} (f : ℕ → A) where
   take_tab zero (suc n) h = absurd (omega arith)
   take_tab (suc m) n h =
       ⊎_elim
-      (λ e. rw e (take_all (suc m) (tab f m ++ (f m ∷ [])) (let l = length-append (tab f m) (f m ∷ []) in let k = length_tab m in omega arith)))
-      (λ k. take-append-le n (tab f m) (f m ∷ []) (rw (length_tab m) (le_of_suc-le-suc k)) ∙ take_tab m n (le_of_suc-le-suc k))
+      (λ e. rw e
+      (take_all (suc m) (tab f m ++ (f m ∷ []))
+      (let l = length-append (tab f m) (f m ∷ []) in let k = length_tab m in omega arith)))
+      (λ k. take-append-le n (tab f m) (f m ∷ []) (rw (length_tab m) (le_of_suc-le-suc k))
+      ∙ take_tab m n (le_of_suc-le-suc k))
       (eq-or-lt_of_le h)
 
   pub length_written : (m : ℕ) (l : List A) → m ≤ length l → length (written f m l) ≡ length l
@@ -47,7 +51,8 @@ module _ {A : Type 0} (f : ℕ → A) where
   written_past m k l d h =
       let e : length (tab f m) + (k - m) ≡ k = omega (arith, length_tab m) in
       let e' : m + (k - m) ≡ k = omega arith in
-      ap (λ (x : ℕ). get_or (written f m l) x d) (sym e) ∙ get_or-append-add (tab f m) (drop m l) (k - m) d ∙ get_or-drop m l (k - m) d
+      ap (λ (x : ℕ). get_or (written f m l) x d) (sym e) ∙ get_or-append-add (tab f m) (drop m l) (k - m) d
+      ∙ get_or-drop m l (k - m) d
       ∙ ap (λ (x : ℕ). get_or l x d) e'
 
   -- nothing is written, and then the next place
@@ -55,7 +60,8 @@ module _ {A : Type 0} (f : ℕ → A) where
   unfolding tab
   written_none l = refl
 
-  pub write_next : (m : ℕ) (l : List A) (v d : A) → m < length l → v ≡ f m → set (written f m l) m v ≡ written f (m + 1) l
+  pub write_next : (m : ℕ) (l : List A) (v d : A) → m < length l → v ≡ f m
+      → set (written f m l) m v ≡ written f (m + 1) l
   unfolding tab
   write_next m l v d h e =
       ap (λ (x : List A). set (tab f m ++ x) m v) (drop-cons l m d h)
@@ -65,7 +71,8 @@ module _ {A : Type 0} (f : ℕ → A) where
       ∙ ap (λ (x : ℕ). written f x l) (sym (add-one m))
 
   -- a place that keeps what it holds is as good as written, and so are all up to some place
-  pub written_keep : (m : ℕ) (l : List A) (d : A) → m < length l → f m ≡ get_or l m d → written f m l ≡ written f (m + 1) l
+  pub written_keep : (m : ℕ) (l : List A) (d : A) → m < length l → f m ≡ get_or l m d
+      → written f m l ≡ written f (m + 1) l
   unfolding tab
   written_keep m l d h e =
       ap (λ (x : List A). tab f m ++ x) (drop-cons l m d h)
@@ -73,17 +80,20 @@ module _ {A : Type 0} (f : ℕ → A) where
       ∙ sym (append_assoc (tab f m) (f m ∷ []) (drop (suc m) l))
       ∙ ap (λ (x : ℕ). written f x l) (sym (add-one m))
 
-  pub written_on : (m n : ℕ) (l : List A) (d : A) → m ≤ n → n ≤ length l → ((i : ℕ) → m ≤ i → i < n → f i ≡ get_or l i d) → written f m l ≡ written f n l
+  pub written_on : (m n : ℕ) (l : List A) (d : A) → m ≤ n → n ≤ length l
+      → ((i : ℕ) → m ≤ i → i < n → f i ≡ get_or l i d) → written f m l ≡ written f n l
   written_on m n l d h k e =
       le_ind (λ (i : ℕ). i ≤ n → written f m l ≡ written f i l) (λ g. refl)
-      (λ i g ih more. ih (omega arith) ∙ written_keep i l d (omega arith) (e i g (omega arith)) ∙ ap (λ (x : ℕ). written f x l) (add-one i)) n h (le_refl n)
+      (λ i g ih more. ih (omega arith) ∙ written_keep i l d (omega arith) (e i g (omega arith))
+      ∙ ap (λ (x : ℕ). written f x l) (add-one i)) n h (le_refl n)
 
   -- what is beyond the written places
   pub drop_written : (m n : ℕ) (l : List A) → m ≤ n → drop n (written f m l) ≡ drop n l
   drop_written m n l h =
       let e : length (tab f m) + (n - m) ≡ n = omega (arith, length_tab m) in
       let e' : m + (n - m) ≡ n = omega arith in
-      ap (λ (x : ℕ). drop x (written f m l)) (sym e) ∙ drop-append-add (tab f m) (drop m l) (n - m) ∙ drop-drop (n - m) m l
+      ap (λ (x : ℕ). drop x (written f m l)) (sym e) ∙ drop-append-add (tab f m) (drop m l) (n - m)
+      ∙ drop-drop (n - m) m l
       ∙ ap (λ (x : ℕ). drop x l) e'
 
   -- all of it is written
@@ -91,7 +101,8 @@ module _ {A : Type 0} (f : ℕ → A) where
   written_whole m n l e h = rw (e, drop_of_length-le l {i = n} (omega arith)) (append-nil (tab f n))
 
 -- the first m of a list, read by their index and mapped
-pub tab_map : {A B : Type 0} (f : A → B) (l : List A) (d : A) (m : ℕ) → m ≤ length l → tab (λ i. f (get_or l i d)) m ≡ map f (take m l)
+pub tab_map : {A B : Type 0} (f : A → B) (l : List A) (d : A) (m : ℕ) → m ≤ length l
+    → tab (λ i. f (get_or l i d)) m ≡ map f (take m l)
 unfolding tab
 tab_map f l d zero h = refl
 tab_map f l d (suc m) h =
@@ -104,9 +115,6 @@ tab_cong f g zero e = refl
 tab_cong f g (suc m) e = ap₂ (λ l x. l ++ (x ∷ [])) (tab_cong f g m (λ i h. e i (omega arith))) (e m (omega arith))
 
 -- what is written by another rule that agrees, over another list with the same rest
-pub written_cong : {A : Type 0} (f g : ℕ → A) (m : ℕ) (k l : List A) → ((i : ℕ) → i < m → f i ≡ g i) → drop m k ≡ drop m l → written f m k ≡ written g m l
+pub written_cong : {A : Type 0} (f g : ℕ → A) (m : ℕ) (k l : List A) → ((i : ℕ) → i < m → f i ≡ g i)
+    → drop m k ≡ drop m l → written f m k ≡ written g m l
 written_cong f g m k l e d = ap₂ ◌++◌ (tab_cong f g m e) d
-
--- written twice: the second stands
-pub written_again : {A : Type 0} (f g : ℕ → A) (m : ℕ) (l : List A) → written g m (written f m l) ≡ written g m l
-written_again f g m l = ap (λ t. tab g m ++ t) (drop_written f m m l (le_refl m))

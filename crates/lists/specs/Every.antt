@@ -1,5 +1,6 @@
 -- A property of every element of a list, and its laws.
-use Rattle.std.specs.Prelude.{◌≡◌, refl, Bool, true, false, cond, List, [], ◌∷◌, ◌++◌, map, ℕ, zero, suc, ◌<◌, length, get_or, set, replicate, take}
+use Rattle.std.specs.Prelude.{◌≡◌, refl, Bool, true, false, cond, List, [], ◌∷◌, ◌++◌}
+use Rattle.std.specs.Prelude.{map, ℕ, zero, suc, ◌<◌, length, get_or, set, replicate, take}
 use Rattle.std.proofs.Common.{sym, subst, ⊎_elim, eq-or-lt_of_le, le_of_suc-le-suc, arith}
 use Rattle.lists.specs.Lists.{up_to, keep}
 
@@ -16,14 +17,17 @@ pub every_map : {A : Type 0} {P Q : A → Type 0} (l : List A) → ((x : A) → 
 every_map [] f h = tt
 every_map (x ∷ l) f h = (f x h.0, every_map l f h.1)
 
-pub every_both : {A : Type 0} {P Q R : A → Type 0} (l : List A) → ((x : A) → P x → Q x → R x) → Every P l → Every Q l → Every R l
+pub every_both : {A : Type 0} {P Q R : A → Type 0} (l : List A) → ((x : A) → P x → Q x → R x) → Every P l → Every Q l
+    → Every R l
 every_both [] f h g = tt
 every_both (x ∷ l) f h g = (f x h.0 g.0, every_both l f h.1 g.1)
 
-pub every_up_to : {A : Type 0} (P : A → Type 0) (f : ℕ → List A) (m : ℕ) → ((i : ℕ) → i < m → Every P (f i)) → Every P (up_to f m)
+pub every_up_to : {A : Type 0} (P : A → Type 0) (f : ℕ → List A) (m : ℕ) → ((i : ℕ) → i < m → Every P (f i))
+    → Every P (up_to f m)
 unfolding up_to
 every_up_to P f zero h = tt
-every_up_to P f (suc m) h = every_append P (up_to f m) (f m) (every_up_to P f m (λ i k. h i (omega arith))) (h m (omega arith))
+every_up_to P f (suc m) h =
+    every_append P (up_to f m) (f m) (every_up_to P f m (λ i k. h i (omega arith))) (h m (omega arith))
 
 -- the two parts of a list, and one part of a loop that appends
 pub every_left : {A : Type 0} (P : A → Type 0) (a b : List A) → Every P (a ++ b) → Every P a
@@ -48,11 +52,13 @@ every_at P [] i d h e = absurd (omega arith)
 every_at P (x ∷ l) zero d h e = e.0
 every_at P (x ∷ l) (suc i) d h e = every_at P l i d (omega arith) e.1
 
-pub every_by_index : {A : Type 0} (P : A → Type 0) (l : List A) (d : A) → ((i : ℕ) → i < length l → P (get_or l i d)) → Every P l
+pub every_by_index : {A : Type 0} (P : A → Type 0) (l : List A) (d : A) → ((i : ℕ) → i < length l → P (get_or l i d))
+    → Every P l
 every_by_index P [] d h = tt
 every_by_index P (x ∷ l) d h = (h 0 (omega arith), every_by_index P l d (λ i g. h (suc i) (omega arith)))
 
-pub every_set : {A : Type 0} (P : A → Type 0) (l : List A) (i : ℕ) (v : A) → Every P l → (i < length l → P v) → Every P (set l i v)
+pub every_set : {A : Type 0} (P : A → Type 0) (l : List A) (i : ℕ) (v : A) → Every P l → (i < length l → P v)
+    → Every P (set l i v)
 every_set P [] i v e h = tt
 every_set P (x ∷ l) zero v e h = (h (omega arith), e.1)
 every_set P (x ∷ l) (suc i) v e h = (e.0, every_set P l i v e.1 (λ k. h (omega arith)))
@@ -68,7 +74,8 @@ every_one P true x h = (h, tt)
 every_one P false x h = tt
 
 -- those that pass: what holds of each, and of its passing
-pub every_kept : {A : Type 0} (P Q : A → Type 0) (p : A → Bool) (l : List A) → Every P l → ((x : A) → P x → p x ≡ true → Q x) → Every Q (keep p l)
+pub every_kept : {A : Type 0} (P Q : A → Type 0) (p : A → Bool) (l : List A) → Every P l
+    → ((x : A) → P x → p x ≡ true → Q x) → Every Q (keep p l)
 unfolding keep
 every_kept P Q p [] e h = tt
 every_kept P Q p (x ∷ l) e h = by (p x) refl (every_kept P Q p l e.1 h)

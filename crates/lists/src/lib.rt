@@ -1,2 +1,3 @@
-// Lists: loops that append, elements that pass a test, a property of every element, a list of steps, a list written in place, some that pass; and their laws. No code.
+// Lists: loops that append, elements that pass a test, a property of every element, a list of steps, a list written in
+// place, some that pass; and their laws. No code.
 #![tactic(auto)]

@@ -1,5 +1,5 @@
--- The area that a list of arcs encloses and its gradient, by the Rust's sums in the Rust's order. The circles are a list,
--- in which an arc names one; an arc of no circle of the list adds nothing.
+-- The area that a list of arcs encloses and its gradient, by the Rust's sums in the Rust's order. The circles are a
+-- list, in which an arc names one; an arc of no circle of the list adds nothing.
 use Rattle.std.specs.Prelude.{ℕ, ◌+◌, ◌*◌, cond, ltb, length, get_or, set, replicate, Float}
 use mathlib.Core.List.{List, foldl}
 use Rattle.std.specs.Float.{nan}

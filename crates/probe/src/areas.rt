@@ -1,5 +1,5 @@
-// Exports of crates `sets`, `exclusive` and `overlaps`: the sets of the first n_sets circles, exclusive areas of lent tables, and the area
-// that circles water together.
+// Exports of crates `sets`, `exclusive` and `overlaps`: the sets of the first n_sets circles, exclusive areas of lent
+// tables, and the area that circles water together.
 ghost use Rattle.std.specs.Prelude.{◌≡◌};
 ghost use Rattle.sets.specs.Regions.{set_bytes};
 ghost use Rattle.exclusive.specs.Exclusive.{exclusive_answer, exclusive_table};
@@ -24,7 +24,7 @@ pub struct Sets {
 pub extern "C" fn probe_sets(circles: Circles, n_sets: usize) -> Sets
     ensures { result.bytes ≡ set_bytes (spec.circles circles.numbers n_sets) (spec.points circles.numbers n_sets) }
 {
-    let bytes = discover_regions(circles_of(circles), points_of(circles, n_sets), n_sets);
+    let bytes = discover_regions(&circles_of(circles, n_sets), &points_of(circles, n_sets));
     Sets { bytes }
 }
 
@@ -47,7 +47,7 @@ pub extern "C" fn probe_to_exclusive_areas(
 pub extern "C" fn probe_compute_overlaps_circles(circles: Circles, n_sets: usize) -> f64
     ensures { result ≡ overlap (spec.circles circles.numbers n_sets) }
 {
-    compute_overlaps_circles(circles_of(circles), n_sets)
+    compute_overlaps_circles(&circles_of(circles, n_sets))
 }
 
 // The same of the circles of a mask alone.
@@ -55,5 +55,5 @@ pub extern "C" fn probe_compute_overlaps_circles(circles: Circles, n_sets: usize
 pub extern "C" fn probe_compute_overlaps_of(circles: Circles, n_sets: usize, mask: usize) -> f64
     ensures { result ≡ overlap_of (spec.circles circles.numbers n_sets) mask }
 {
-    compute_overlaps_of(mask, circles_of(circles), n_sets)
+    compute_overlaps_of(mask, &circles_of(circles, n_sets))
 }

@@ -1,5 +1,5 @@
-// Exports of crates `inside` and `clip`: spans of edges, areas and gradients in the box of a set of the first n_sets circles. Each works the
-// meeting points out anew.
+// Exports of crates `inside` and `clip`: spans of edges, areas and gradients in the box of a set of the first n_sets
+// circles. Each works the meeting points out anew.
 ghost use Rattle.std.specs.Prelude.{◌≡◌};
 ghost use Rattle.clip.specs.Area.{clipped_area_of, clipped_area};
 ghost use Rattle.clip.specs.Arc.{named_arc_integral_with_gradient};
@@ -16,8 +16,10 @@ use clip::slopes::clipped_arc_integral_with_gradient;
 use inside::span::{horizontal_edge_inside_interval, vertical_edge_inside_interval};
 use intersections::members::members_of;
 
-// The span of the edge at y from x_min to x_max.
+// The span of the edge at y from x_min to x_max. (This and the next are C names of the differential run, one for each
+// function that it compares.)
 #[unsafe(no_mangle)]
+#[tactic(auto, using(intersections::specs::Heads::circles_with_heads))]
 pub extern "C" fn probe_horizontal_span(
     circles: Circles,
     n_sets: usize,
@@ -28,12 +30,13 @@ pub extern "C" fn probe_horizontal_span(
 ) -> Ends
     ensures { result ≡ spec.ends_of (horizontal_span y x_min x_max (spec.own circles.numbers n_sets mask)) }
 {
-    let set = members_of(mask, circles_of(circles), n_sets);
-    ends_of(horizontal_edge_inside_interval(y, x_min, x_max, set))
+    let set = members_of(mask, &circles_of(circles, n_sets));
+    ends_of(horizontal_edge_inside_interval(y, x_min, x_max, &set))
 }
 
 // The span of the edge at x from y_min to y_max.
 #[unsafe(no_mangle)]
+#[tactic(auto, using(intersections::specs::Heads::circles_with_heads))]
 pub extern "C" fn probe_vertical_span(
     circles: Circles,
     n_sets: usize,
@@ -44,8 +47,8 @@ pub extern "C" fn probe_vertical_span(
 ) -> Ends
     ensures { result ≡ spec.ends_of (vertical_span x y_min y_max (spec.own circles.numbers n_sets mask)) }
 {
-    let set = members_of(mask, circles_of(circles), n_sets);
-    ends_of(vertical_edge_inside_interval(x, y_min, y_max, set))
+    let set = members_of(mask, &circles_of(circles, n_sets));
+    ends_of(vertical_edge_inside_interval(x, y_min, y_max, &set))
 }
 
 // The integral along the parts in the box of an arc, and its gradient by head numbers, added to grad.
@@ -57,12 +60,13 @@ pub extern "C" fn probe_clipped_arc_integral_with_gradient(
     sides: Extents,
     grad: &mut [f64],
 ) -> f64
-    ensures { with_gradient result grad.new ≡ named_arc_integral_with_gradient (spec.bounds_of sides) (spec.circles circles.numbers n_sets) (spec.boundary_arc arc) grad.old }
+    ensures { with_gradient result grad.new
+        ≡ named_arc_integral_with_gradient (spec.bounds_of sides) (spec.circles circles.numbers n_sets)
+        (spec.boundary_arc arc) grad.old }
 {
     clipped_arc_integral_with_gradient(
         boundary_arc(arc),
-        circles_of(circles),
-        n_sets,
+        &circles_of(circles, n_sets),
         bounds_of(sides),
         grad,
     )
@@ -76,10 +80,12 @@ pub extern "C" fn probe_area_from_clipped_arcs(
     mask: usize,
     sides: Extents,
 ) -> f64
-    ensures { result ≡ clipped_area_of (spec.bounds_of sides) (spec.circles circles.numbers n_sets) (spec.own circles.numbers n_sets mask) (spec.arcs circles.numbers n_sets mask) }
+    ensures { result
+        ≡ clipped_area_of (spec.bounds_of sides) (spec.circles circles.numbers n_sets)
+        (spec.own circles.numbers n_sets mask) (spec.arcs circles.numbers n_sets mask) }
 {
     let arcs = arcs_of(circles, n_sets, mask);
-    area_from_clipped_arcs(arcs, circles_of(circles), bounds_of(sides), mask, n_sets)
+    area_from_clipped_arcs(&arcs, &circles_of(circles, n_sets), bounds_of(sides), mask)
 }
 
 // The same straight from the members of the set.
@@ -93,7 +99,12 @@ pub extern "C" fn probe_clipped_region_area(
     ensures { result ≡ clipped_area (spec.bounds_of sides) (spec.members circles.numbers n_sets mask) }
 {
     let points = points_of(circles, n_sets);
-    clipped_region_area(mask, circles_of(circles), points, n_sets, bounds_of(sides))
+    clipped_region_area(
+        mask,
+        &circles_of(circles, n_sets),
+        &points,
+        bounds_of(sides),
+    )
 }
 
 // The area in the box, from the arcs, and its gradient by head numbers, added to grad.
@@ -105,15 +116,16 @@ pub extern "C" fn probe_area_and_gradient_from_clipped_arcs(
     sides: Extents,
     grad: &mut [f64],
 ) -> f64
-    ensures { with_gradient result grad.new ≡ clipped_with_gradient (spec.bounds_of sides) (spec.circles circles.numbers n_sets) (spec.own circles.numbers n_sets mask) (spec.arcs circles.numbers n_sets mask) grad.old }
+    ensures { with_gradient result grad.new
+        ≡ clipped_with_gradient (spec.bounds_of sides) (spec.circles circles.numbers n_sets)
+        (spec.own circles.numbers n_sets mask) (spec.arcs circles.numbers n_sets mask) grad.old }
 {
     let arcs = arcs_of(circles, n_sets, mask);
     area_and_gradient_from_clipped_arcs(
-        arcs,
-        circles_of(circles),
+        &arcs,
+        &circles_of(circles, n_sets),
         bounds_of(sides),
         mask,
-        n_sets,
         grad,
     )
 }
@@ -127,14 +139,14 @@ pub extern "C" fn probe_clipped_region_area_and_gradient(
     sides: Extents,
     grad: &mut [f64],
 ) -> f64
-    ensures { with_gradient result grad.new ≡ clipped_onto (spec.bounds_of sides) (spec.members circles.numbers n_sets mask) grad.old }
+    ensures { with_gradient result grad.new
+        ≡ clipped_onto (spec.bounds_of sides) (spec.members circles.numbers n_sets mask) grad.old }
 {
     let points = points_of(circles, n_sets);
     clipped_region_area_and_gradient(
         mask,
-        circles_of(circles),
-        points,
-        n_sets,
+        &circles_of(circles, n_sets),
+        &points,
         bounds_of(sides),
         grad,
     )

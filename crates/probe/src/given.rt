@@ -1,17 +1,17 @@
-// Circles, meeting points, arcs and spans as the differential run hands them over and gets them. Rests on specs/Handed.antt.
-ghost use Rattle.std.specs.Prelude.{◌≡◌, ◌<◌, length};
+// Circles, meeting points, arcs and spans as the differential run hands them over and gets them. Rests on
+// specs/Handed.antt.
+ghost use Rattle.std.specs.Prelude.{◌≡◌, ◌<◌};
 ghost use Rattle.inside.specs.Span.{spans};
-ghost use Rattle.intersections.specs.Counted.{point_list};
-ghost use Rattle.boundary.specs.Counted.{arc_list};
 ghost use Rattle.probe.specs.Handed as spec;
 
 use crate::Extents;
-use boundary::arcs::{Arcs, BoundaryArc};
+use boundary::arcs::BoundaryArc;
 use geometry::bounds::Bounds;
-use geometry::circle::Circle;
+use geometry::circle::{self, Circle};
 use geometry::point::Point;
 use inside::span::Span;
-use intersections::points::Intersections;
+use intersections::points::IntersectionPoint;
+use std::array;
 
 // Ten circles: x, y and radius of each in turn.
 #[repr(C)]
@@ -50,6 +50,7 @@ pub struct Ends {
     pub high: f64,
 }
 
+#[tactic(auto, unfolding(crate::specs::Handed::circle_of))]
 fn circle_of(c: Circles, i: usize) -> Circle
     requires { i < 10 }
     ensures { result ≡ spec.circle_of c.numbers i }
@@ -61,21 +62,13 @@ fn circle_of(c: Circles, i: usize) -> Circle
     )
 }
 
-pub(crate) fn circles_of(c: Circles) -> [Circle; 10]
-    ensures { result ≡ spec.circles_of c.numbers }
+// The first n of them.
+pub(crate) fn circles_of(c: Circles, n: usize) -> circle::Circles
+    ensures { result.items ≡ spec.circles c.numbers n }
 {
-    [
-        circle_of(c, 0),
-        circle_of(c, 1),
-        circle_of(c, 2),
-        circle_of(c, 3),
-        circle_of(c, 4),
-        circle_of(c, 5),
-        circle_of(c, 6),
-        circle_of(c, 7),
-        circle_of(c, 8),
-        circle_of(c, 9),
-    ]
+    let mut circles = circle::Circles::from(array::from_fn(|i| circle_of(c, i)));
+    circles.truncate(n);
+    circles
 }
 
 pub(crate) fn bounds_of(s: Extents) -> Bounds
@@ -84,67 +77,45 @@ pub(crate) fn bounds_of(s: Extents) -> Bounds
     Bounds::new(s.x_min, s.x_max, s.y_min, s.y_max)
 }
 
-pub(crate) fn number_of_points(list: Intersections) -> usize
-    ensures { result ≡ length (point_list list) }
+#[tactic(auto, unfolding(crate::specs::Handed::met_at))]
+pub(crate) fn point_at(list: &[IntersectionPoint], k: usize) -> Met
+    ensures { result ≡ spec.met_at list.now k }
 {
-    if list.n < 90 { list.n } else { 90 }
-}
-
-pub(crate) fn point_at(list: Intersections, k: usize) -> Met
-    ensures { result ≡ spec.met_at (point_list list) k }
-{
-    let n = list.n;
-    let nowhere = Met {
-        x: 0.0,
-        y: 0.0,
-        first: 0,
-        second: 0,
-        adopters: 0,
-    };
-    if n <= k {
-        return nowhere;
-    }
-    if 90 <= k {
-        return nowhere;
-    }
-    let q = list.all[k];
-    Met {
-        x: q.point.x,
-        y: q.point.y,
-        first: q.first,
-        second: q.second,
-        adopters: q.adopters,
+    match list.get(k) {
+        Some(q) => Met {
+            x: q.point.x,
+            y: q.point.y,
+            first: q.first,
+            second: q.second,
+            adopters: q.adopters,
+        },
+        None => Met {
+            x: 0.0,
+            y: 0.0,
+            first: 0,
+            second: 0,
+            adopters: 0,
+        },
     }
 }
 
-pub(crate) fn number_of_arcs(list: Arcs) -> usize
-    ensures { result ≡ length (arc_list list) }
+#[tactic(auto, unfolding(crate::specs::Handed::arc_at))]
+pub(crate) fn arc_at(list: &[BoundaryArc], k: usize) -> Arc
+    ensures { result ≡ spec.arc_at list.now k }
 {
-    if list.n < 180 { list.n } else { 180 }
-}
-
-pub(crate) fn arc_at(list: Arcs, k: usize) -> Arc
-    ensures { result ≡ spec.arc_at (arc_list list) k }
-{
-    let n = list.n;
-    let none = Arc {
-        head: 0,
-        start: 0.0,
-        end: 0.0,
-        delta: 0.0,
-    };
-    if n <= k {
-        return none;
-    }
-    if 180 <= k {
-        return none;
-    }
-    let a = list.all[k];
-    Arc {
-        head: a.circle,
-        start: a.phi_start,
-        end: a.phi_end,
-        delta: a.delta_phi,
+    match list.get(k) {
+        Some(a) => Arc {
+            head: a.circle,
+            start: a.phi_start,
+            end: a.phi_end,
+            delta: a.delta_phi,
+        },
+        None => Arc {
+            head: 0,
+            start: 0.0,
+            end: 0.0,
+            delta: 0.0,
+        },
     }
 }
 

@@ -1,15 +1,11 @@
-// Exports of crates `boundary` and `outline`: wrapped angles; meeting points, arcs, open areas and gradients of a set of the first
-// n_sets circles. Each works the meeting points out anew.
-ghost use Rattle.std.specs.Prelude.{◌≡◌, length, take};
+// Exports of crates `boundary` and `outline`: wrapped angles; meeting points, arcs, open areas and gradients of a set
+// of the first n_sets circles. Each works the meeting points out anew.
+ghost use Rattle.std.specs.Prelude.{◌≡◌, length};
 ghost use Rattle.outline.specs.Area.{area_of, open_area, add_gradient};
-ghost use Rattle.intersections.specs.Counted.{point_list};
-ghost use Rattle.boundary.specs.Counted.{arc_list};
 ghost use Rattle.boundary.specs.Outline.{wrap_angle};
 ghost use Rattle.probe.specs.Handed as spec;
 
-use crate::given::{
-    Arc, Circles, Met, arc_at, circles_of, number_of_arcs, number_of_points, point_at,
-};
+use crate::given::{Arc, Circles, Met, arc_at, circles_of, point_at};
 use boundary::angles::wrap_angle;
 use boundary::arcs::Arcs;
 use intersections::collect::collect_intersections;
@@ -26,19 +22,18 @@ pub extern "C" fn probe_wrap_angle(x: f64) -> f64
 }
 
 pub(crate) fn points_of(circles: Circles, n_sets: usize) -> Intersections
-    ensures { point_list result ≡ spec.points circles.numbers n_sets }
+    ensures { result.items ≡ spec.points circles.numbers n_sets }
 {
-    collect_intersections(circles_of(circles), n_sets)
+    collect_intersections(&circles_of(circles, n_sets))
 }
 
 pub(crate) fn arcs_of(circles: Circles, n_sets: usize, mask: usize) -> Arcs
-    ensures { arc_list result ≡ spec.arcs circles.numbers n_sets mask }
+    ensures { result.items ≡ spec.arcs circles.numbers n_sets mask }
 {
     region_boundary_arcs(
         mask,
-        circles_of(circles),
-        points_of(circles, n_sets),
-        n_sets,
+        &circles_of(circles, n_sets),
+        &points_of(circles, n_sets),
     )
 }
 
@@ -47,7 +42,7 @@ pub(crate) fn arcs_of(circles: Circles, n_sets: usize, mask: usize) -> Arcs
 pub extern "C" fn probe_number_of_points(circles: Circles, n_sets: usize) -> usize
     ensures { result ≡ length (spec.points circles.numbers n_sets) }
 {
-    number_of_points(points_of(circles, n_sets))
+    points_of(circles, n_sets).len()
 }
 
 // The k-th of them.
@@ -55,7 +50,7 @@ pub extern "C" fn probe_number_of_points(circles: Circles, n_sets: usize) -> usi
 pub extern "C" fn probe_point(circles: Circles, n_sets: usize, k: usize) -> Met
     ensures { result ≡ spec.met_at (spec.points circles.numbers n_sets) k }
 {
-    point_at(points_of(circles, n_sets), k)
+    point_at(&points_of(circles, n_sets), k)
 }
 
 // How many arcs.
@@ -63,7 +58,7 @@ pub extern "C" fn probe_point(circles: Circles, n_sets: usize, k: usize) -> Met
 pub extern "C" fn probe_number_of_arcs(circles: Circles, n_sets: usize, mask: usize) -> usize
     ensures { result ≡ length (spec.arcs circles.numbers n_sets mask) }
 {
-    number_of_arcs(arcs_of(circles, n_sets, mask))
+    arcs_of(circles, n_sets, mask).len()
 }
 
 // The k-th of them.
@@ -71,7 +66,7 @@ pub extern "C" fn probe_number_of_arcs(circles: Circles, n_sets: usize, mask: us
 pub extern "C" fn probe_arc(circles: Circles, n_sets: usize, mask: usize, k: usize) -> Arc
     ensures { result ≡ spec.arc_at (spec.arcs circles.numbers n_sets mask) k }
 {
-    arc_at(arcs_of(circles, n_sets, mask), k)
+    arc_at(&arcs_of(circles, n_sets, mask), k)
 }
 
 // The area that the arcs enclose.
@@ -79,7 +74,10 @@ pub extern "C" fn probe_arc(circles: Circles, n_sets: usize, mask: usize, k: usi
 pub extern "C" fn probe_area_from_boundary_arcs(circles: Circles, n_sets: usize, mask: usize) -> f64
     ensures { result ≡ area_of (spec.circles circles.numbers n_sets) (spec.arcs circles.numbers n_sets mask) }
 {
-    area_from_boundary_arcs(arcs_of(circles, n_sets, mask), circles_of(circles), n_sets)
+    area_from_boundary_arcs(
+        &arcs_of(circles, n_sets, mask),
+        &circles_of(circles, n_sets),
+    )
 }
 
 // The same straight from the members of the set.
@@ -89,9 +87,8 @@ pub extern "C" fn probe_region_area(circles: Circles, n_sets: usize, mask: usize
 {
     region_area(
         mask,
-        circles_of(circles),
-        points_of(circles, n_sets),
-        n_sets,
+        &circles_of(circles, n_sets),
+        &points_of(circles, n_sets),
     )
 }
 
@@ -103,12 +100,12 @@ pub extern "C" fn probe_overlap_gradient(
     mask: usize,
     grad: &mut [f64],
 )
-    ensures { grad.new ≡ add_gradient (spec.circles circles.numbers n_sets) grad.old (spec.arcs circles.numbers n_sets mask) }
+    ensures { grad.new
+        ≡ add_gradient (spec.circles circles.numbers n_sets) grad.old (spec.arcs circles.numbers n_sets mask) }
 {
     accumulate_region_overlap_gradient(
-        arcs_of(circles, n_sets, mask),
-        circles_of(circles),
-        n_sets,
+        &arcs_of(circles, n_sets, mask),
+        &circles_of(circles, n_sets),
         grad,
     );
 }

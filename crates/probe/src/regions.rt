@@ -1,6 +1,6 @@
-// Exports of crate `diagram` and of the gradient form of crate `exclusive`: the exclusive areas of the first n_sets circles, in a box by its
-// centre and sides or without one, with gradients or without.
-ghost use Rattle.std.specs.Prelude.{◌≡◌};
+// Exports of crates `diagram` and `exclusive_gradients`: the exclusive areas of the first n_sets circles, in a box by
+// its centre and sides or without one, with gradients or without.
+ghost use Rattle.std.specs.Prelude.{◌≡◌, ◌<◌, MatchOption, length};
 ghost use Rattle.diagram.specs.Diagram as left;
 ghost use Rattle.exclusive_gradients.specs.Gradient.{gradient_answer, exclusive_areas, exclusive_gradients};
 ghost use Rattle.geometry.specs.Point.{at};
@@ -13,8 +13,9 @@ use diagram::gradients::{
     compute_exclusive_regions_clipped_with_gradient,
     compute_exclusive_regions_with_gradient_circles,
 };
-use exclusive::areas::rows_number;
+use exclusive::areas::{RowsError, rows_number};
 use exclusive_gradients::gradients::to_exclusive_areas_and_gradients;
+use geometry::circle;
 use geometry::point::Point;
 use geometry::rectangle::Rectangle;
 
@@ -23,6 +24,17 @@ fn container(x: f64, y: f64, width: f64, height: f64) -> Rectangle
     ensures { result ≡ around (at x y) width height }
 {
     Rectangle::new(Point::new(x, y), width, height)
+}
+
+// The first n_sets circles: there are ten, and of more the calls are refused.
+fn first_circles(circles: Circles, n_sets: usize) -> Option<circle::Circles>
+    ensures { MatchOption result (10 < n_sets)
+        (λ first. (first.items ≡ spec.circles circles.numbers n_sets) × (length first.items ≡ n_sets)) }
+{
+    if 10 < n_sets {
+        return None;
+    }
+    Some(circles_of(circles, n_sets))
 }
 
 // Exclusive areas and their gradients from presence bytes, areas and gradients, in place.
@@ -49,11 +61,19 @@ pub extern "C" fn probe_compute_exclusive_regions(
     presence: &mut [u8],
     exclusives: &mut [f64],
 ) -> u8
-    ensures value { result ≡ left.answer n_sets (left.open_diagram (spec.circles circles.numbers n_sets)) presence.old exclusives.old }
-    ensures presence_after { presence.new ≡ left.presence_left n_sets (left.open_diagram (spec.circles circles.numbers n_sets)) presence.old exclusives.old }
-    ensures exclusives_after { exclusives.new ≡ left.exclusives_left n_sets (left.open_diagram (spec.circles circles.numbers n_sets)) presence.old exclusives.old }
+    ensures value { result
+        ≡ left.answer n_sets (left.open_diagram (spec.circles circles.numbers n_sets)) presence.old exclusives.old }
+    ensures presence_after { presence.new
+        ≡ left.presence_left n_sets (left.open_diagram (spec.circles circles.numbers n_sets))
+        presence.old exclusives.old }
+    ensures exclusives_after { exclusives.new
+        ≡ left.exclusives_left n_sets (left.open_diagram (spec.circles circles.numbers n_sets))
+        presence.old exclusives.old }
 {
-    rows_number(compute_exclusive_regions(circles_of(circles), n_sets, presence, exclusives))
+    let Some(first) = first_circles(circles, n_sets) else {
+        return RowsError::TooManyHeads as u8;
+    };
+    rows_number(compute_exclusive_regions(&first, presence, exclusives))
 }
 
 // Those in the box.
@@ -68,13 +88,21 @@ pub extern "C" fn probe_compute_exclusive_regions_clipped(
     presence: &mut [u8],
     exclusives: &mut [f64],
 ) -> u8
-    ensures value { result ≡ left.answer n_sets (left.clipped_diagram (around (at x y) width height) (spec.circles circles.numbers n_sets)) presence.old exclusives.old }
-    ensures presence_after { presence.new ≡ left.presence_left n_sets (left.clipped_diagram (around (at x y) width height) (spec.circles circles.numbers n_sets)) presence.old exclusives.old }
-    ensures exclusives_after { exclusives.new ≡ left.exclusives_left n_sets (left.clipped_diagram (around (at x y) width height) (spec.circles circles.numbers n_sets)) presence.old exclusives.old }
+    ensures value { result
+        ≡ left.answer n_sets (left.clipped_diagram (around (at x y) width height)
+        (spec.circles circles.numbers n_sets)) presence.old exclusives.old }
+    ensures presence_after { presence.new
+        ≡ left.presence_left n_sets (left.clipped_diagram (around (at x y) width height)
+        (spec.circles circles.numbers n_sets)) presence.old exclusives.old }
+    ensures exclusives_after { exclusives.new
+        ≡ left.exclusives_left n_sets (left.clipped_diagram (around (at x y) width height)
+        (spec.circles circles.numbers n_sets)) presence.old exclusives.old }
 {
+    let Some(first) = first_circles(circles, n_sets) else {
+        return RowsError::TooManyHeads as u8;
+    };
     rows_number(compute_exclusive_regions_clipped(
-        circles_of(circles),
-        n_sets,
+        &first,
         container(x, y, width, height),
         presence,
         exclusives,
@@ -90,21 +118,28 @@ pub extern "C" fn probe_compute_exclusive_regions_with_gradient_circles(
     exclusives: &mut [f64],
     gradients: &mut [f64],
 ) -> u8
-    ensures value { result ≡ left.answer_with n_sets (left.open_with_gradients (spec.circles circles.numbers n_sets)) presence.old exclusives.old gradients.old }
-    ensures presence_after { presence.new ≡ left.presence_left_with n_sets (left.open_with_gradients (spec.circles circles.numbers n_sets)) presence.old exclusives.old gradients.old }
-    ensures exclusives_after { exclusives.new ≡ left.areas_left n_sets (left.open_with_gradients (spec.circles circles.numbers n_sets)) presence.old exclusives.old gradients.old }
-    ensures gradients_after { gradients.new ≡ left.gradients_left n_sets (left.open_with_gradients (spec.circles circles.numbers n_sets)) presence.old exclusives.old gradients.old }
+    ensures value { result
+        ≡ left.answer_with n_sets (left.open_with_gradients (spec.circles circles.numbers n_sets))
+        presence.old exclusives.old gradients.old }
+    ensures presence_after { presence.new
+        ≡ left.presence_left_with n_sets (left.open_with_gradients (spec.circles circles.numbers n_sets))
+        presence.old exclusives.old gradients.old }
+    ensures exclusives_after { exclusives.new
+        ≡ left.areas_left n_sets (left.open_with_gradients (spec.circles circles.numbers n_sets))
+        presence.old exclusives.old gradients.old }
+    ensures gradients_after { gradients.new
+        ≡ left.gradients_left n_sets (left.open_with_gradients (spec.circles circles.numbers n_sets))
+        presence.old exclusives.old gradients.old }
 {
+    let Some(first) = first_circles(circles, n_sets) else {
+        return RowsError::TooManyHeads as u8;
+    };
     rows_number(compute_exclusive_regions_with_gradient_circles(
-        circles_of(circles),
-        n_sets,
-        presence,
-        exclusives,
-        gradients,
+        &first, presence, exclusives, gradients,
     ))
 }
 
-// Those in the box.
+// Those in the box. (A C name of the differential run, with the parameters that it hands over: nine.)
 #[unsafe(no_mangle)]
 pub extern "C" fn probe_compute_exclusive_regions_clipped_with_gradient(
     circles: Circles,
@@ -117,14 +152,24 @@ pub extern "C" fn probe_compute_exclusive_regions_clipped_with_gradient(
     exclusives: &mut [f64],
     gradients: &mut [f64],
 ) -> u8
-    ensures value { result ≡ left.answer_with n_sets (left.clipped_with_gradients (around (at x y) width height) (spec.circles circles.numbers n_sets)) presence.old exclusives.old gradients.old }
-    ensures presence_after { presence.new ≡ left.presence_left_with n_sets (left.clipped_with_gradients (around (at x y) width height) (spec.circles circles.numbers n_sets)) presence.old exclusives.old gradients.old }
-    ensures exclusives_after { exclusives.new ≡ left.areas_left n_sets (left.clipped_with_gradients (around (at x y) width height) (spec.circles circles.numbers n_sets)) presence.old exclusives.old gradients.old }
-    ensures gradients_after { gradients.new ≡ left.gradients_left n_sets (left.clipped_with_gradients (around (at x y) width height) (spec.circles circles.numbers n_sets)) presence.old exclusives.old gradients.old }
+    ensures value { result
+        ≡ left.answer_with n_sets (left.clipped_with_gradients (around (at x y) width height)
+        (spec.circles circles.numbers n_sets)) presence.old exclusives.old gradients.old }
+    ensures presence_after { presence.new
+        ≡ left.presence_left_with n_sets (left.clipped_with_gradients (around (at x y) width height)
+        (spec.circles circles.numbers n_sets)) presence.old exclusives.old gradients.old }
+    ensures exclusives_after { exclusives.new
+        ≡ left.areas_left n_sets (left.clipped_with_gradients (around (at x y) width height)
+        (spec.circles circles.numbers n_sets)) presence.old exclusives.old gradients.old }
+    ensures gradients_after { gradients.new
+        ≡ left.gradients_left n_sets (left.clipped_with_gradients (around (at x y) width height)
+        (spec.circles circles.numbers n_sets)) presence.old exclusives.old gradients.old }
 {
+    let Some(first) = first_circles(circles, n_sets) else {
+        return RowsError::TooManyHeads as u8;
+    };
     rows_number(compute_exclusive_regions_clipped_with_gradient(
-        circles_of(circles),
-        n_sets,
+        &first,
         container(x, y, width, height),
         presence,
         exclusives,

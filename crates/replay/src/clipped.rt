@@ -7,16 +7,16 @@
 //      head numbers and then the box's four entries (from 3 on)
 // The areas and the gradient we work out from the arcs and straight from the members.
 use crate::numbers::{float, same_all};
-use boundary::arcs::Arcs;
+use boundary::arcs::BoundaryArc;
 use clip::gradient::{area_and_gradient_from_clipped_arcs, clipped_region_area_and_gradient};
 use geometry::bounds::Bounds;
-use geometry::circle::Circle;
+use geometry::circle::Circles;
 use inside::span::{Span, horizontal_edge_inside_interval, vertical_edge_inside_interval};
-use intersections::members::Members;
-use intersections::points::Intersections;
+use intersections::members::HeadCircle;
+use intersections::points::IntersectionPoint;
 use stored::numbers::same;
 
-fn span_of(edge: u64, b: Bounds, set: Members) -> Span {
+fn span_of(edge: u64, b: Bounds, set: &[HeadCircle]) -> Span {
     match edge {
         0 => horizontal_edge_inside_interval(b.y_min, b.x_min, b.x_max, set),
         1 => vertical_edge_inside_interval(b.x_max, b.y_min, b.y_max, set),
@@ -26,7 +26,7 @@ fn span_of(edge: u64, b: Bounds, set: Members) -> Span {
     }
 }
 
-pub(crate) fn same_span(words: &[u64; 40], bounds: Bounds, set: Members) -> bool {
+pub(crate) fn same_span(words: &[u64; 40], bounds: Bounds, set: &[HeadCircle]) -> bool {
     let edge = words[2];
     match span_of(edge, bounds, set) {
         Span::None => edge < 4 && same_all(&[0.0, 0.0, 0.0], &words[3..]),
@@ -51,14 +51,13 @@ fn by_heads(from: [f64; 34], mask: usize, n: usize) -> [f64; 34] {
 // By the arcs of the set.
 pub(crate) fn same_from_arcs(
     words: &[u64; 40],
-    arcs: Arcs,
-    circles: [Circle; 10],
+    arcs: &[BoundaryArc],
+    circles: &Circles,
     bounds: Bounds,
     mask: usize,
-    n: usize,
 ) -> bool {
     let mut grad = [0.0; 34];
-    let area = area_and_gradient_from_clipped_arcs(arcs, circles, bounds, mask, n, &mut grad);
+    let area = area_and_gradient_from_clipped_arcs(arcs, circles, bounds, mask, &mut grad);
     same(area, words[2]) && same_all(&grad, &words[3..])
 }
 
@@ -66,12 +65,11 @@ pub(crate) fn same_from_arcs(
 pub(crate) fn same_straight(
     words: &[u64; 40],
     mask: usize,
-    circles: [Circle; 10],
-    points: Intersections,
-    n: usize,
+    circles: &Circles,
+    points: &[IntersectionPoint],
     bounds: Bounds,
 ) -> bool {
     let mut grad = [0.0; 34];
-    let area = clipped_region_area_and_gradient(mask, circles, points, n, bounds, &mut grad);
-    same(area, words[2]) && same_all(&by_heads(grad, mask, n), &words[3..])
+    let area = clipped_region_area_and_gradient(mask, circles, points, bounds, &mut grad);
+    same(area, words[2]) && same_all(&by_heads(grad, mask, circles.len()), &words[3..])
 }

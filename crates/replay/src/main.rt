@@ -59,24 +59,24 @@ fn last_place(letter: u8, n: usize) -> usize
 
 // Whether every answer on a line that needs a plan is ours. A line that is about a set of heads has
 // its mask first.
-fn agrees_on_plan(letter: u8, words: &[u64; 40], n: usize, plan: Plan) -> bool
+fn agrees_on_plan(letter: u8, words: &[u64; 40], n: usize, plan: &Plan) -> bool
     requires { n ≤ 10 }
 {
     let first = words[1] as usize;
     match letter {
         b'H' => true,
         b'X' => plan.bounds.is_some(),
-        b'I' => plan.points.n == first,
-        b'Q' => points::same_point(&words[2..], first, plan.points),
+        b'I' => plan.points.len() == first,
+        b'Q' => points::same_point(&words[2..], first, &plan.points),
         _ => first >> n == 0 && sets::agrees(letter, words, first, plan),
     }
 }
 
 // Whether every answer on the line that was read is ours, the plan being the one after the line.
-fn agrees(line: &Line, plan: Plan) -> bool {
+fn agrees(line: &Line, plan: &Plan) -> bool {
     let letter = line.letter();
     let words = &line.words;
-    let n = plan.n.min(10);
+    let n = plan.circles.len();
     line.last == last_place(letter, n)
         && match letter {
             b'P' => pair::agrees(words),
@@ -112,7 +112,7 @@ fn replay<R: Read, W: Write>(list: &mut R, out: &mut W) -> io::Result<()> {
                 continue;
             }
             plan = plans::after(&line, plan);
-            let ours = agrees(&line, plan);
+            let ours = agrees(&line, &plan);
             counts.count(out, line.letter(), ours)?;
             line = Line::begun();
         }

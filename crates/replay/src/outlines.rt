@@ -4,14 +4,13 @@
 //   R  of a set (1) the open area (2), which we work out from the arcs and straight from the members
 //   G  of a set (1) the gradient of that area onto zeros, by head numbers (from 2 on)
 use crate::numbers::{float, same_all};
-use boundary::arcs::Arcs;
-use geometry::circle::Circle;
+use boundary::arcs::BoundaryArc;
+use geometry::circle::Circles;
 use outline::gradient::accumulate_region_overlap_gradient;
 
 // Whether the k-th arc has these numbers.
-pub(crate) fn same_arc(words: &[u64], k: usize, arcs: Arcs) -> bool {
-    if k < arcs.n && k < 180 {
-        let arc = arcs.all[k];
+pub(crate) fn same_arc(words: &[u64], k: usize, arcs: &[BoundaryArc]) -> bool {
+    if let Some(arc) = arcs.get(k) {
         let ours = [
             float(arc.circle as u64),
             arc.phi_start,
@@ -23,8 +22,8 @@ pub(crate) fn same_arc(words: &[u64], k: usize, arcs: Arcs) -> bool {
     false
 }
 
-pub(crate) fn same_gradient(words: &[u64], arcs: Arcs, circles: [Circle; 10], n: usize) -> bool {
+pub(crate) fn same_gradient(words: &[u64], arcs: &[BoundaryArc], circles: &Circles) -> bool {
     let mut grad = [0.0; 34];
-    accumulate_region_overlap_gradient(arcs, circles, n, &mut grad);
+    accumulate_region_overlap_gradient(arcs, circles, &mut grad);
     same_all(&grad, words)
 }

@@ -19,6 +19,7 @@ fn met(m: Meeting) -> [f64; 5] {
     }
 }
 
+// A test's answer as the list has it.
 fn yes(answer: bool) -> f64 {
     if answer { float(1) } else { 0.0 }
 }

@@ -5,17 +5,17 @@ ghost use Rattle.std.specs.Prelude.{◌<◌};
 
 use crate::numbers::float;
 use geometry::bounds::Bounds;
-use geometry::circle::Circle;
+use geometry::circle::{Circle, Circles};
 use geometry::point::Point;
 use intersections::collect::collect_intersections;
 use intersections::points::Intersections;
+use std::array;
 use stored::line::Line;
 
-// The first n circles, their meeting points, and the box, where it is given. Of no plan n is 0.
-#[derive(Clone, Copy)]
+// The circles, their meeting points, and the box, where it is given. Of no plan there is no circle.
+#[derive(Drop)]
 pub struct Plan {
-    pub n: usize,
-    pub circles: [Circle; 10],
+    pub circles: Circles,
     pub points: Intersections,
     pub bounds: Option<Bounds>,
 }
@@ -38,22 +38,12 @@ pub(crate) fn begun(line: &Line) -> Plan {
     } else {
         0
     };
-    let circles = [
-        circle_at(words, 2),
-        circle_at(words, 5),
-        circle_at(words, 8),
-        circle_at(words, 11),
-        circle_at(words, 14),
-        circle_at(words, 17),
-        circle_at(words, 20),
-        circle_at(words, 23),
-        circle_at(words, 26),
-        circle_at(words, 29),
-    ];
+    let mut circles = Circles::from(array::from_fn(|i| circle_at(words, 2 + i * 3)));
+    circles.truncate(n);
+    let points = collect_intersections(&circles);
     Plan {
-        n,
         circles,
-        points: collect_intersections(circles, n),
+        points,
         bounds: None,
     }
 }

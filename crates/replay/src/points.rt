@@ -2,12 +2,11 @@
 //   I  the number of meeting points (place 1)
 //   Q  the k-th (1) of them: x, y (2, 3), the two circles (4, 5) and the adopters as a mask (6)
 use crate::numbers::{float, same_all};
-use intersections::points::Intersections;
+use intersections::points::IntersectionPoint;
 
 // Whether the k-th meeting point has these numbers.
-pub(crate) fn same_point(words: &[u64], k: usize, points: Intersections) -> bool {
-    if k < points.n && k < 90 {
-        let q = points.all[k];
+pub(crate) fn same_point(words: &[u64], k: usize, points: &[IntersectionPoint]) -> bool {
+    if let Some(q) = points.get(k) {
         let ours = [
             q.point.x,
             q.point.y,

@@ -19,7 +19,7 @@ pub struct Table {
 }
 
 // The tables of a plan, in the box or without it, where all calls take it. A gradient has three numbers a head,
-// and four for the box.
+// and four for the box. `has_box` says which two of the calls: the box itself is the plan's.
 pub(crate) fn table_of(
     plan: Plan,
     has_box: bool,

@@ -84,7 +84,8 @@ pub(crate) fn held_of(
     })
 }
 
-// Whether the sets of a line D are the present rows, and the others +0. With the box there is row 0 too.
+// Whether the sets of a line D are the present rows, and the others +0. With the box there is row 0 too, whatever the
+// box is.
 fn same_sets(
     sets: &[u64],
     masks: usize,
@@ -146,8 +147,8 @@ pub(crate) fn agrees(
         b'U' => s < masks && same_row(&words, s, &held.open),
         b'G' => same_slopes(&words, s, &held.clipped, clipped_gradients),
         b'F' => same_slopes(&words, s, &held.open, open_gradients),
-        b'O' => same(compute_overlaps_circles(circles_of(held.plan), n), words[1]),
-        b'M' => same(compute_overlaps_of(s, circles_of(held.plan), n), words[2]),
+        b'O' => same(compute_overlaps_circles(&circles_of(held.plan)), words[1]),
+        b'M' => same(compute_overlaps_of(s, &circles_of(held.plan)), words[2]),
         _ => false,
     }
 }

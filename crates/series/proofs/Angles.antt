@@ -1,10 +1,12 @@
--- The recipe's fixed-point sine and cosine against the 40-term sums, as fractions: at every fraction ±x/y they differ by at most
--- 442 × 2^-61. Rests on Quarter, which has the same for the polynomials, and on Sums, which has the polynomials for the sums.
+-- The recipe's fixed-point sine and cosine against the 40-term sums, as fractions: at every fraction ±x/y they differ
+-- by at most 442 × 2^-61. Rests on Quarter, which has the same for the polynomials, and on Sums, which has the
+-- polynomials for the sums.
 use mathlib.Core.Path.{◌≡◌, refl, sym, ap, ap₂, ◌∙◌, subst, subst₂}
 use mathlib.Core.List.{List}
 use mathlib.Core.Bool.{Bool, true, false, cond}
 use Prim.Native.Nat.{ℕ, zero, suc, ◌+◌, ◌*◌, ◌/◌, ◌%◌, ◌^◌, ◌≤◌, ◌<◌}
-use native.Mathlib.Nat.{le_trans, le_of_eq, le_of_lt, mul-le-mul_left, mul-le-mul_right, mul_comm, mul_assoc, mul-pos, one-le-pow, le_of_mul-le-mul_right, div-add-mod', mod-lt, add-zero}
+use native.Mathlib.Nat.{le_trans, le_of_eq, le_of_lt, mul-le-mul_left, mul-le-mul_right, mul_comm}
+use native.Mathlib.Nat.{mul_assoc, mul-pos, one-le-pow, le_of_mul-le-mul_right, div-add-mod', mod-lt, add-zero}
 use native.Mathlib.Omega.{arith}
 use lib.ListN.{length}
 use lib.IntN.{ℤ, pos, neg_ℤ, ◌+ℤ◌, ◌*ℤ◌, neg_ℤ-neg_ℤ, *ℤ_comm}
@@ -22,7 +24,8 @@ use Rattle.series.proofs.Quarter.{recipe_near}
 
 -- ---- the sine is odd, the cosine even
 
-odd_step : (x c H : ℤ) (Y Z : ℕ) → pos (0 * Z) +ℤ neg_ℤ x *ℤ (c *ℤ pos Y +ℤ neg_ℤ x *ℤ neg_ℤ H) ≡ neg_ℤ (pos (0 * Z) +ℤ x *ℤ (c *ℤ pos Y +ℤ x *ℤ H))
+odd_step : (x c H : ℤ) (Y Z : ℕ)
+    → pos (0 * Z) +ℤ neg_ℤ x *ℤ (c *ℤ pos Y +ℤ neg_ℤ x *ℤ neg_ℤ H) ≡ neg_ℤ (pos (0 * Z) +ℤ x *ℤ (c *ℤ pos Y +ℤ x *ℤ H))
 odd_step x c H Y Z =
     let x' = parts x in
     let c' = parts c in
@@ -32,7 +35,10 @@ odd_step x c H Y Z =
 sin_odd : (k m : ℕ) (x : ℤ) (y : ℕ) → hval (sin_from k m) (neg_ℤ x) y ≡ neg_ℤ (hval (sin_from k m) x y)
 unfolding hval sin_from
 sin_odd k zero x y = refl
-sin_odd k (suc m) x y = rw (sin_odd (suc k) m x y) (odd_step x (sign k *ℤ pos (rising (2 * k + 1) (2 * m))) (hval (sin_from (suc k) m) x y) (y ^ suc (length (sin_from (suc k) m))) (y ^ suc (suc (length (sin_from (suc k) m)))))
+sin_odd k (suc m) x y =
+    rw (sin_odd (suc k) m x y)
+    (odd_step x (sign k *ℤ pos (rising (2 * k + 1) (2 * m))) (hval (sin_from (suc k) m) x y)
+    (y ^ suc (length (sin_from (suc k) m))) (y ^ suc (suc (length (sin_from (suc k) m)))))
 
 even_step : (x c H : ℤ) (Y : ℕ) → c +ℤ neg_ℤ x *ℤ (pos (0 * Y) +ℤ neg_ℤ x *ℤ H) ≡ c +ℤ x *ℤ (pos (0 * Y) +ℤ x *ℤ H)
 even_step x c H Y =
@@ -46,7 +52,8 @@ unfolding hval cos_from
 cos_even k zero x y = refl
 cos_even k (suc m) x y =
     rw (cos_even (suc k) m x y)
-    (even_step x ((sign k *ℤ pos (rising (2 * k) (2 * m + 1))) *ℤ pos (y ^ suc (suc (length (cos_from (suc k) m))))) (hval (cos_from (suc k) m) x y) (y ^ suc (length (cos_from (suc k) m))))
+    (even_step x ((sign k *ℤ pos (rising (2 * k) (2 * m + 1))) *ℤ pos (y ^ suc (suc (length (cos_from (suc k) m)))))
+    (hval (cos_from (suc k) m) x y) (y ^ suc (length (cos_from (suc k) m))))
 
 -- -z or z
 neg_if : Bool → ℤ → ℤ
@@ -127,7 +134,10 @@ module _ (S : Fraction) (H : ℤ) (Y : ℕ) (Y-pos : 0 < Y) (bridge : S.num *ℤ
   apart : dist (S.num *ℤ pos (2 ^ 61)) (signed s q *ℤ pos S.den) ≤ 442 * S.den
   apart =
       le_of_mul-le-mul_right
-      (le_trans (le_of_eq (mul_comm _ (Y * unit) ∙ sym (dist_scale (Y * unit) (S.num *ℤ pos (2 ^ 61)) (signed s q *ℤ pos S.den)) ∙ ap₂ dist left right ∙ dist_scale S.den (pos spread *ℤ H) (signed s (Y * (q * unit)))))
+      (le_trans
+      (le_of_eq
+      (mul_comm _ (Y * unit) ∙ sym (dist_scale (Y * unit) (S.num *ℤ pos (2 ^ 61)) (signed s q *ℤ pos S.den))
+      ∙ ap₂ dist left right ∙ dist_scale S.den (pos spread *ℤ H) (signed s (Y * (q * unit)))))
       (le_trans (mul-le-mul_left S.den close) (le_of_eq (regroup S.den Y unit))))
       (mul-pos Y-pos unit_pos)
     where
@@ -158,36 +168,56 @@ fraction t x y = record { num = signed t x; den = y }
 module _ (x y : ℕ) (y-pos : 0 < y) (small : 2 ^ 59 * x / y ≤ 2 ^ 63) where
   -- the polynomial p over angles in units of 2^-59, at x / y
   finer_near : (p : List ℤ) → length p ≡ 80 → length (finer (2 ^ 59) p) ≡ 80 → (o : ℕ) → Waves (finer (2 ^ 59) p) o →
-      dist (pos spread *ℤ hval p (pos x) y) (signed (half_turned (2 ^ 59 * x / y + o * quarter)) (y ^ 80 * (quarter_sine (reduced (2 ^ 59 * x / y + o * quarter)) * unit))) ≤ y ^ 80 * (442 * unit)
+      dist (pos spread *ℤ hval p (pos x) y)
+      (signed (half_turned (2 ^ 59 * x / y + o * quarter))
+      (y ^ 80 * (quarter_sine (reduced (2 ^ 59 * x / y + o * quarter)) * unit))) ≤ y ^ 80 * (442 * unit)
   finer_near p l m o waves =
-      subst (λ (z : ℤ). dist z (signed (half_turned (2 ^ 59 * x / y + o * quarter)) (y ^ 80 * (quarter_sine (reduced (2 ^ 59 * x / y + o * quarter)) * unit))) ≤ y ^ 80 * (442 * unit))
-      (ap (λ (k : ℕ). hval (finer (2 ^ 59) p) (pos k) y) (div-add-mod' (2 ^ 59 * x) y) ∙ finer_value (2 ^ 59) p (pos x) y ∙ ap (λ (k : ℕ). pos ((2 ^ 59) ^ k) *ℤ hval p (pos x) y) l)
-      (recipe_near (finer (2 ^ 59) p) m o waves (2 ^ 59 * x / y) (2 ^ 59 * x % y) y small (le_of_lt (mod-lt (2 ^ 59 * x) y-pos)))
+      subst (λ (z : ℤ). dist z
+      (signed (half_turned (2 ^ 59 * x / y + o * quarter))
+      (y ^ 80 * (quarter_sine (reduced (2 ^ 59 * x / y + o * quarter)) * unit))) ≤ y ^ 80 * (442 * unit))
+      (ap (λ (k : ℕ). hval (finer (2 ^ 59) p) (pos k) y) (div-add-mod' (2 ^ 59 * x) y)
+      ∙ finer_value (2 ^ 59) p (pos x) y ∙ ap (λ (k : ℕ). pos ((2 ^ 59) ^ k) *ℤ hval p (pos x) y) l)
+      (recipe_near (finer (2 ^ 59) p) m o waves (2 ^ 59 * x / y) (2 ^ 59 * x % y) y small
+      (le_of_lt (mod-lt (2 ^ 59 * x) y-pos)))
 
   y80_pos : 0 < y ^ 80
   y80_pos = one-le-pow 80 y y-pos
 
   -- The sine of ±x / y.
-  pub sine_within : (t : Bool) → Within (sin40 (fraction t x y)) (fraction (unlike t (half_turned (2 ^ 59 * x / y))) (quarter_sine (reduced (2 ^ 59 * x / y))) (2 ^ 61)) 442 (2 ^ 61)
+  pub sine_within : (t : Bool)
+      → Within (sin40 (fraction t x y))
+      (fraction (unlike t (half_turned (2 ^ 59 * x / y))) (quarter_sine (reduced (2 ^ 59 * x / y))) (2 ^ 61)) 442
+      (2 ^ 61)
   unfolding sine
   sine_within t =
-      sum_within (sin40 (fraction t x y)) (hval sin79 (signed t x) y) (y ^ 80) y80_pos (sin40_value (fraction t x y)) (unlike t (half_turned w)) (quarter_sine (reduced w))
+      sum_within (sin40 (fraction t x y)) (hval sin79 (signed t x) y) (y ^ 80) y80_pos (sin40_value (fraction t x y))
+      (unlike t (half_turned w)) (quarter_sine (reduced w))
       (subst₂ (λ (a b : ℤ). dist a b ≤ y ^ 80 * (442 * unit))
       (sym (neg_if_scale t spread (hval sin79 (pos x) y)) ∙ ap (λ (z : ℤ). pos spread *ℤ z) (sym (sin79_signed t x y)))
       (neg_if_signed t (half_turned w) (y ^ 80 * (quarter_sine (reduced w) * unit)))
-      (le_trans (le_of_eq (dist_neg_if t (pos spread *ℤ hval sin79 (pos x) y) (signed (half_turned w) (y ^ 80 * (quarter_sine (reduced w) * unit)))))
-      (subst (λ (v : ℕ). dist (pos spread *ℤ hval sin79 (pos x) y) (signed (half_turned v) (y ^ 80 * (quarter_sine (reduced v) * unit))) ≤ y ^ 80 * (442 * unit)) (add-zero w)
+      (le_trans
+      (le_of_eq
+      (dist_neg_if t (pos spread *ℤ hval sin79 (pos x) y)
+      (signed (half_turned w) (y ^ 80 * (quarter_sine (reduced w) * unit)))))
+      (subst (λ (v : ℕ). dist (pos spread *ℤ hval sin79 (pos x) y)
+      (signed (half_turned v) (y ^ 80 * (quarter_sine (reduced v) * unit))) ≤ y ^ 80 * (442 * unit)) (add-zero w)
       (finer_near sin79 length_sin79 length_sine 0 sine_waves))))
     where
       w : ℕ
       w = 2 ^ 59 * x / y
 
   -- The cosine of ±x / y: the sine a quarter turn on.
-  pub cosine_within : (t : Bool) → Within (cos40 (fraction t x y)) (fraction (half_turned (2 ^ 59 * x / y + quarter)) (quarter_sine (reduced (2 ^ 59 * x / y + quarter))) (2 ^ 61)) 442 (2 ^ 61)
+  pub cosine_within : (t : Bool)
+      → Within (cos40 (fraction t x y))
+      (fraction (half_turned (2 ^ 59 * x / y + quarter)) (quarter_sine (reduced (2 ^ 59 * x / y + quarter)))
+      (2 ^ 61)) 442 (2 ^ 61)
   unfolding cosine
   cosine_within t =
-      sum_within (cos40 (fraction t x y)) (hval cos79 (signed t x) y) (y ^ 80) y80_pos (cos40_value (fraction t x y)) (half_turned (w + quarter)) (quarter_sine (reduced (w + quarter)))
-      (subst (λ (z : ℤ). dist (pos spread *ℤ z) (signed (half_turned (w + quarter)) (y ^ 80 * (quarter_sine (reduced (w + quarter)) * unit))) ≤ y ^ 80 * (442 * unit)) (sym (cos79_signed t x y))
+      sum_within (cos40 (fraction t x y)) (hval cos79 (signed t x) y) (y ^ 80) y80_pos (cos40_value (fraction t x y))
+      (half_turned (w + quarter)) (quarter_sine (reduced (w + quarter)))
+      (subst (λ (z : ℤ). dist (pos spread *ℤ z)
+      (signed (half_turned (w + quarter)) (y ^ 80 * (quarter_sine (reduced (w + quarter)) * unit))) ≤ y ^ 80 *
+      (442 * unit)) (sym (cos79_signed t x y))
       (finer_near cos79 length_cos79 length_cosine 1 cosine_waves))
     where
       w : ℕ

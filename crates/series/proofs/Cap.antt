@@ -1,5 +1,5 @@
--- The cap at 1 moves the recipe's sine by at most 277 units of 2^-61: its polynomial is near the sine, and a quarter turn on the sine is
--- near a polynomial that is at most 1. Rests on Turns.
+-- The cap at 1 moves the recipe's sine by at most 277 units of 2^-61: its polynomial is near the sine, and a quarter
+-- turn on the sine is near a polynomial that is at most 1. Rests on Turns.
 use mathlib.Core.Path.{◌≡◌, refl, sym, ap, ap₂, ◌∙◌, subst, subst₂}
 use mathlib.Core.List.{◌∷◌}
 use Prim.Native.Nat.{ℕ, suc, ◌+◌, ◌-◌, ◌*◌, ◌^◌, ◌≤◌, ◌<◌, zero-le}
@@ -14,7 +14,8 @@ use Rattle.series.proofs.Integers.{parts, ⊖-eq, differences, dist, dist-⊖, d
 use Rattle.series.proofs.Polynomial.{hval, one_pow, finer}
 use Rattle.series.proofs.Alternating.{negated, negated_value, alternating, exact_sum, falling, alternating_value}
 use Rattle.series.proofs.Sums.{sin_from, sin79}
-use Rattle.series.proofs.Tests.{grain, unit, recipe, summit, turned, near, sine, sine_summit, summit_first, summit_coefficients, summit_rest}
+use Rattle.series.proofs.Tests.{grain, unit, recipe, summit, turned}
+use Rattle.series.proofs.Tests.{near, sine, sine_summit, summit_first, summit_coefficients, summit_rest}
 use Rattle.series.proofs.Exact.{sum_at, exact_sine, square_small, raw_stands, zeros_value, length_recipe, recipe_value}
 use Rattle.series.proofs.Turns.{near_values, abs_pos, sine_waves}
 
@@ -30,7 +31,13 @@ length_summit = refl
 
 summit_opened : (x : ℤ) → hval summit x 1 ≡ pos (2 ^ 61 * unit) -ℤ (x *ℤ x) *ℤ hval summit_rest x 1
 unfolding summit hval
-summit_opened x = rw (negated_value summit_rest x 1, one_pow (suc (suc (length (negated summit_rest)))), one_pow (suc (length (negated summit_rest)))) (gather (2 ^ 61 * unit) x (hval summit_rest x 1))
+summit_opened x =
+    rw (
+      negated_value summit_rest x 1,
+      one_pow (suc (suc (length (negated summit_rest)))),
+      one_pow
+          (suc (length (negated summit_rest))),
+    ) (gather (2 ^ 61 * unit) x (hval summit_rest x 1))
   where
     gather : (A : ℕ) (x H : ℤ) → pos (A * 1) +ℤ x *ℤ (pos (0 * 1) +ℤ x *ℤ neg_ℤ H) ≡ pos A -ℤ (x *ℤ x) *ℤ H
     gather A x H =
@@ -42,10 +49,13 @@ summit_opened x = rw (negated_value summit_rest x 1, one_pow (suc (suc (length (
 summit_value : (t : ℕ) → t ≤ quarter → (B : ℕ) × (hval summit (neg_ℤ (pos t)) 1 ≡ pos (2 ^ 61 * unit) -ℤ pos B)
 unfolding summit_rest
 summit_value t l = (
-  t * t * (1 ^ length summit_rest * (grain * 2 ^ 60 * exact_sum (2 ^ 120) (t * t) (summit_first ∷ summit_coefficients))),
+  t * t * (1 ^ length summit_rest *
+      (grain * 2 ^ 60 * exact_sum (2 ^ 120) (t * t) (summit_first ∷ summit_coefficients))),
   summit_opened (neg_ℤ (pos t))
       ∙ ap₂ (λ (a b : ℤ). pos (2 ^ 61 * unit) -ℤ a *ℤ b) (square t)
-      (alternating_value (grain * 2 ^ 60) (2 ^ 120) t 1 (square_small t l) (replicate 58 (pos 0)) (neg_ℤ (pos t)) (zeros_value 58 (neg_ℤ (pos t)) 1) (square t ∙ ap pos (sym (mul-one (t * t)))) summit_first summit_coefficients summit_falls),
+      (alternating_value (grain * 2 ^ 60) (2 ^ 120) t 1 (square_small t l) (replicate 58 (pos 0)) (neg_ℤ (pos t))
+      (zeros_value 58 (neg_ℤ (pos t)) 1) (square t ∙ ap pos (sym (mul-one (t * t)))) summit_first summit_coefficients
+      summit_falls),
 )
   where
     square : (t : ℕ) → neg_ℤ (pos t) *ℤ neg_ℤ (pos t) ≡ pos (t * t)
@@ -61,7 +71,9 @@ length_sine = refl
 
 recipe_at : (n : ℕ) → n ≤ quarter → hval recipe (pos n) 1 ≡ pos (exact_sine n)
 unfolding exact_sine
-recipe_at n l = recipe_value n 1 l (pos n) (ap pos (sym (mul-one (n * n)))) ∙ ap (λ (k : ℕ). pos (n * k)) (one-mul (grain * sum_at n))
+recipe_at n l =
+    recipe_value n 1 l (pos n) (ap pos (sym (mul-one (n * n))))
+    ∙ ap (λ (k : ℕ). pos (n * k)) (one-mul (grain * sum_at n))
 
 sine_start : T (near sine 0 recipe)
 unfolding turned
@@ -84,24 +96,21 @@ exact_cap n l =
     both : {d e : ℕ} (U : ℕ) → d ≤ 1 ^ 80 * (128 * U) → e ≤ 1 ^ 80 * (128 * U) → d + e ≤ 256 * U
     both U h k = omega arith
 
-    start : (n : ℕ) → n + 0 * quarter * 1 ≡ n
-    start n = omega arith
-
     turn : (n : ℕ) → n ≤ quarter → neg_ℤ (pos (quarter - n)) +ℤ pos (1 * quarter * 1) ≡ pos n
     turn n l = simp differences (⊖-eq _ _ _ _ (omega arith))
 
     from_recipe : dist (hval sine (pos n) 1) (pos (exact_sine n)) ≤ 1 ^ 80 * (128 * unit)
     from_recipe =
-        subst₂ (λ (a b : ℤ). dist (hval sine a 1) b ≤ 1 ^ 80 * (128 * unit)) (ap pos (start n)) (recipe_at n l)
-        (near_values sine recipe 0 length_sine length_recipe sine_start (pos n) 1 (le_trans l (le_of_eq (sym (mul-one quarter)))))
+        subst₂ (λ (a b : ℤ). dist (hval sine a 1) b ≤ 1 ^ 80 * (128 * unit)) (ap pos (omega arith)) (recipe_at n l)
+        (near_values sine recipe 0 length_sine length_recipe sine_start (pos n) 1
+        (le_trans l (le_of_eq (sym (mul-one quarter)))))
 
     from_summit : dist (hval sine (pos n) 1) (hval summit (neg_ℤ (pos (quarter - n))) 1) ≤ 1 ^ 80 * (128 * unit)
     from_summit =
-        subst (λ (a : ℤ). dist (hval sine a 1) (hval summit (neg_ℤ (pos (quarter - n))) 1) ≤ 1 ^ 80 * (128 * unit)) (turn n l)
-        (near_values sine summit 1 length_sine length_summit sine_summit (neg_ℤ (pos (quarter - n))) 1 (le_trans (le_of_eq (abs_pos (quarter - n))) (le_trans (sub-le quarter n) (le_of_eq (sym (mul-one quarter))))))
+        subst (λ (a : ℤ). dist (hval sine a 1) (hval summit (neg_ℤ (pos (quarter - n))) 1) ≤ 1 ^ 80 * (128 * unit))
+        (turn n l)
+        (near_values sine summit 1 length_sine length_summit sine_summit (neg_ℤ (pos (quarter - n))) 1
+        (le_trans (le_of_eq (abs_pos (quarter - n))) (le_trans (sub-le quarter n) (le_of_eq (sym (mul-one quarter))))))
 
 pub raw_cap : (n : ℕ) → n ≤ quarter → raw_sine n ≤ 2 ^ 61 + 277
-raw_cap n l = le_of_mul-le-mul_right (cut (raw_sine n) (exact_sine n) unit (raw_stands n l).above (exact_cap n l)) unit_pos
-  where
-    cut : (f E U : ℕ) → f * U ≤ E + 21 * U → E ≤ 2 ^ 61 * U + 256 * U → f * U ≤ (2 ^ 61 + 277) * U
-    cut f E U h k = omega arith
+raw_cap n l = le_of_mul-le-mul_right (omega (arith, (raw_stands n l).above, exact_cap n l)) unit_pos

@@ -1,5 +1,5 @@
--- The recipe's fixed-point sine against its own polynomial without any cut: 21 units of 2^-61; and that polynomial's value at ±n, as
--- the list of integer coefficients that the tests speak of. Rests on Alternating.
+-- The recipe's fixed-point sine against its own polynomial without any cut: 21 units of 2^-61; and that polynomial's
+-- value at ±n, as the list of integer coefficients that the tests speak of. Rests on Alternating.
 use mathlib.Core.Path.{◌≡◌, refl, ap, ap₂, ◌∙◌, subst}
 use mathlib.Core.List.{◌∷◌}
 use Prim.Native.Nat.{ℕ, zero, suc, ◌+◌, ◌*◌, ◌/◌, ◌^◌, ◌≤◌}
@@ -11,7 +11,8 @@ use lib.Pow.{pow_pos}
 use lib.IntN.{ℤ, pos, ◌+ℤ◌, ◌*ℤ◌, *ℤ-zero, zero-*ℤ, +ℤ_idl}
 use Rattle.series.specs.Kernel.{quarter, first_coefficient, coefficients, mulhi, horner, raw_sine}
 use Rattle.series.proofs.Polynomial.{hval}
-use Rattle.series.proofs.Alternating.{negated, alternating, exact_sum, falling, alternating_value, Stands, horner_stands, quotient_above, quotient_below}
+use Rattle.series.proofs.Alternating.{negated, alternating, exact_sum, falling}
+use Rattle.series.proofs.Alternating.{alternating_value, Stands, horner_stands, quotient_above, quotient_below}
 use Rattle.series.proofs.Tests.{alternating_part, grain, unit, recipe}
 
 -- ---- the recipe against its own exact polynomial
@@ -43,7 +44,8 @@ module _ (n : ℕ) (small : n ≤ quarter) where
 
   squared_high : n * n ≤ squared * 2 ^ 56 + 2 ^ 56
   unfolding squared
-  squared_high = cut (mulhi (16 * n) (16 * n)) (n * n) (quotient_below (16 * n * (16 * n)) (2 ^ 64) (pow_pos 64)) (omega arith)
+  squared_high =
+      cut (mulhi (16 * n) (16 * n)) (n * n) (quotient_below (16 * n * (16 * n)) (2 ^ 64) (pow_pos 64)) (omega arith)
     where
       cut : (z m : ℕ) → 16 * n * (16 * n) ≤ z * 2 ^ 64 + 2 ^ 64 → 16 * n * (16 * n) ≡ 256 * m → m ≤ z * 2 ^ 56 + 2 ^ 56
       cut z m h e = omega arith
@@ -51,24 +53,34 @@ module _ (n : ℕ) (small : n ≤ quarter) where
   raw_horner : Stands (horner first_coefficient coefficients squared) (sum_at n) ((2 ^ 64 * 2 ^ 56) ^ 10) 20
   unfolding sum_at
   raw_horner =
-      (horner_stands (2 ^ 56) (n * n) squared squared_low squared_high square_small (pow_pos 56) first_coefficient coefficients (leb→le first_coefficient (2 ^ 64) tt) coefficients_fall).0
+      (horner_stands (2 ^ 56) (n * n) squared squared_low squared_high square_small (pow_pos 56) first_coefficient
+      coefficients (leb→le first_coefficient (2 ^ 64) tt) coefficients_fall).0
 
   raw_quotient : (16 * n) * horner first_coefficient coefficients squared / 2 ^ 64 ≡ raw_sine n
   unfolding raw_sine squared
   raw_quotient = refl
 
 -- f = n h / C, cut, stands for n g E / (g C U) where h stands for E / U
-times_stands : (g C U n h E f e : ℕ) → n ≤ C → f * C ≤ n * h → n * h ≤ f * C + C → Stands h E U e → Stands f (n * (g * E)) (g * C * U) (suc e)
+times_stands : (g C U n h E f e : ℕ) → n ≤ C → f * C ≤ n * h → n * h ≤ f * C + C → Stands h E U e
+    → Stands f (n * (g * E)) (g * C * U) (suc e)
 times_stands g C U n h E f e small low high t = record {
-  above = up (mul-le-mul_right (g * U) low) (mul-le-mul_left (n * g) t.above) (mul-le-mul_right (g * (e * U)) small);
-  below = down (mul-le-mul_right (g * U) high) (mul-le-mul_left (n * g) t.below) (mul-le-mul_right (g * (e * U)) small);
+  above =
+      omega (
+        arith,
+        mul-le-mul_right (g * U) low,
+        mul-le-mul_left (n * g) t.above,
+        mul-le-mul_right (g * (e * U))
+            small,
+      );
+  below =
+      omega (
+        arith,
+        mul-le-mul_right (g * U) high,
+        mul-le-mul_left (n * g) t.below,
+        mul-le-mul_right (g * (e * U))
+            small,
+      );
 }
-  where
-    up : f * C * (g * U) ≤ n * h * (g * U) → n * g * (h * U) ≤ n * g * (E + e * U) → n * (g * (e * U)) ≤ C * (g * (e * U)) → f * (g * C * U) ≤ n * (g * E) + suc e * (g * C * U)
-    up p q r = omega arith
-
-    down : n * h * (g * U) ≤ (f * C + C) * (g * U) → n * g * E ≤ n * g * (h * U + e * U) → n * (g * (e * U)) ≤ C * (g * (e * U)) → n * (g * E) ≤ f * (g * C * U) + suc e * (g * C * U)
-    down p q r = omega arith
 
 unit_is : unit ≡ grain * 2 ^ 60 * (2 ^ 64 * 2 ^ 56) ^ 10
 unfolding unit
@@ -79,9 +91,13 @@ pub raw_stands : (n : ℕ) → n ≤ quarter → Stands (raw_sine n) (exact_sine
 unfolding exact_sine
 raw_stands n small =
     rw unit_is
-    (times_stands grain (2 ^ 60) ((2 ^ 64 * 2 ^ 56) ^ 10) n h (sum_at n) (raw_sine n) 20 (le_trans small (leb→le quarter (2 ^ 60) tt))
-    (low (raw_sine n) (subst (λ (f : ℕ). f * 2 ^ 64 ≤ 16 * n * h) (raw_quotient n small) (quotient_above (16 * n * h) (2 ^ 64))))
-    (high (raw_sine n) (subst (λ (f : ℕ). 16 * n * h ≤ f * 2 ^ 64 + 2 ^ 64) (raw_quotient n small) (quotient_below (16 * n * h) (2 ^ 64) (pow_pos 64))))
+    (times_stands grain (2 ^ 60) ((2 ^ 64 * 2 ^ 56) ^ 10) n h (sum_at n) (raw_sine n) 20
+    (le_trans small (leb→le quarter (2 ^ 60) tt))
+    (low (raw_sine n)
+    (subst (λ (f : ℕ). f * 2 ^ 64 ≤ 16 * n * h) (raw_quotient n small) (quotient_above (16 * n * h) (2 ^ 64))))
+    (high (raw_sine n)
+    (subst (λ (f : ℕ). 16 * n * h ≤ f * 2 ^ 64 + 2 ^ 64) (raw_quotient n small)
+    (quotient_below (16 * n * h) (2 ^ 64) (pow_pos 64))))
     (raw_horner n small))
   where
     h : ℕ
@@ -98,7 +114,9 @@ raw_stands n small =
 pub zeros_value : (k : ℕ) (x : ℤ) (y : ℕ) → hval (replicate k (pos 0)) x y ≡ pos 0
 unfolding hval
 zeros_value zero x y = refl
-zeros_value (suc k) x y = rw (zeros_value k x y) (ap₂ (λ (a b : ℤ). a +ℤ b) (zero-*ℤ (pos (y ^ suc (length (replicate k (pos 0)))))) (*ℤ-zero x) ∙ +ℤ_idl (pos 0))
+zeros_value (suc k) x y =
+    rw (zeros_value k x y)
+    (ap₂ (λ (a b : ℤ). a +ℤ b) (zero-*ℤ (pos (y ^ suc (length (replicate k (pos 0)))))) (*ℤ-zero x) ∙ +ℤ_idl (pos 0))
 
 length_part : length alternating_part ≡ 79
 unfolding alternating_part negated alternating
@@ -110,13 +128,18 @@ length_recipe = ap suc length_part
 
 recipe_times : (x : ℤ) (y : ℕ) → hval recipe x y ≡ x *ℤ hval alternating_part x y
 unfolding recipe hval
-recipe_times x y = ap (λ (z : ℤ). z +ℤ x *ℤ hval alternating_part x y) (zero-*ℤ (pos (y ^ suc (length alternating_part)))) ∙ +ℤ_idl (x *ℤ hval alternating_part x y)
+recipe_times x y =
+    ap (λ (z : ℤ). z +ℤ x *ℤ hval alternating_part x y) (zero-*ℤ (pos (y ^ suc (length alternating_part))))
+    ∙ +ℤ_idl (x *ℤ hval alternating_part x y)
 
 module _ (n y : ℕ) (small : n ≤ quarter) (x : ℤ) (square : x *ℤ x ≡ pos (n * n * (y * y))) where
   part_value : hval alternating_part x y ≡ pos (y ^ length alternating_part * (grain * sum_at n))
   unfolding alternating_part sum_at
   part_value =
-      alternating_value grain (2 ^ 120) n y (square_small n small) (replicate 57 (pos 0)) x (zeros_value 57 x y) square first_coefficient coefficients coefficients_fall
+      alternating_value grain (2 ^ 120) n y (square_small n small) (replicate 57 (pos 0)) x (zeros_value 57 x y) square
+      first_coefficient coefficients coefficients_fall
 
   pub recipe_value : hval recipe x y ≡ x *ℤ pos (y ^ 79 * (grain * sum_at n))
-  recipe_value = recipe_times x y ∙ ap (λ (z : ℤ). x *ℤ z) (part_value ∙ ap (λ (k : ℕ). pos (y ^ k * (grain * sum_at n))) length_part)
+  recipe_value =
+      recipe_times x y
+      ∙ ap (λ (z : ℤ). x *ℤ z) (part_value ∙ ap (λ (k : ℕ). pos (y ^ k * (grain * sum_at n))) length_part)

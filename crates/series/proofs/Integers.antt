@@ -1,10 +1,12 @@
--- Integers as differences of natural numbers: a ⊖ b. Sums, products, equality and size of such differences are those of natural numbers,
--- which `omega` settles, so that every identity and every bound over ℤ is proved in ℕ. Rests on lib.IntN.
+-- Integers as differences of natural numbers: a ⊖ b. Sums, products, equality and size of such differences are those of
+-- natural numbers, which `omega` settles, so that every identity and every bound over ℤ is proved in ℕ. Rests on
+-- lib.IntN.
 use mathlib.Core.Path.{◌≡◌, refl, sym, ap, ap₂, ◌∙◌, subst}
 use Prim.Native.Nat.{ℕ, zero, suc, ◌+◌, ◌-◌, ◌*◌, ◌≤◌}
 use native.Mathlib.Omega.{arith}
 use native.Mathlib.Decide.{dec_le}
-use lib.IntN.{ℤ, pos, negsuc, neg_ℤ, ◌+ℤ◌, ◌-ℤ◌, ◌*ℤ◌, nat_abs, +ℤ_assoc, +ℤ_comm, +ℤ_idl, +ℤ_idr, +ℤ_invr, neg_ℤ-+ℤ, neg_ℤ-neg_ℤ, suc_ℤ-*ℤ, zero-*ℤ, *ℤ_comm, *ℤ-negsuc}
+use lib.IntN.{ℤ, pos, negsuc, neg_ℤ, ◌+ℤ◌, ◌-ℤ◌, ◌*ℤ◌, nat_abs, +ℤ_assoc}
+use lib.IntN.{+ℤ_comm, +ℤ_idl, +ℤ_idr, +ℤ_invr, neg_ℤ-+ℤ, neg_ℤ-neg_ℤ, suc_ℤ-*ℤ, zero-*ℤ, *ℤ_comm, *ℤ-negsuc}
 
 -- ---- ℤ as a ring
 
@@ -55,7 +57,9 @@ a ⊖ b = pos a -ℤ pos b
 
 pub ⊖-neg : (a b : ℕ) → neg_ℤ (a ⊖ b) ≡ b ⊖ a
 unfolding ◌⊖◌
-⊖-neg a b = neg_ℤ-+ℤ (pos a) (neg_ℤ (pos b)) ∙ ap (λ (z : ℤ). neg_ℤ (pos a) +ℤ z) (neg_ℤ-neg_ℤ (pos b)) ∙ +ℤ_comm (neg_ℤ (pos a)) (pos b)
+⊖-neg a b =
+    neg_ℤ-+ℤ (pos a) (neg_ℤ (pos b)) ∙ ap (λ (z : ℤ). neg_ℤ (pos a) +ℤ z) (neg_ℤ-neg_ℤ (pos b))
+    ∙ +ℤ_comm (neg_ℤ (pos a)) (pos b)
 
 pub pos-⊖ : (a : ℕ) → pos a ≡ a ⊖ 0
 unfolding ◌⊖◌
@@ -83,7 +87,8 @@ product_of_differences a b c d =
     ∙ ap₂ (λ (x y : ℤ). x +ℤ y)
     (distrib a c (neg_ℤ d) ∙ ap (λ (z : ℤ). a *ℤ c +ℤ z) (*ℤ-neg a d))
     (neg-*ℤ b (c -ℤ d) ∙ ap neg_ℤ (distrib b c (neg_ℤ d) ∙ ap (λ (z : ℤ). b *ℤ c +ℤ z) (*ℤ-neg b d))
-    ∙ neg_ℤ-+ℤ (b *ℤ c) (neg_ℤ (b *ℤ d)) ∙ ap (λ (z : ℤ). neg_ℤ (b *ℤ c) +ℤ z) (neg_ℤ-neg_ℤ (b *ℤ d)) ∙ +ℤ_comm (neg_ℤ (b *ℤ c)) (b *ℤ d))
+    ∙ neg_ℤ-+ℤ (b *ℤ c) (neg_ℤ (b *ℤ d)) ∙ ap (λ (z : ℤ). neg_ℤ (b *ℤ c) +ℤ z) (neg_ℤ-neg_ℤ (b *ℤ d))
+    ∙ +ℤ_comm (neg_ℤ (b *ℤ c)) (b *ℤ d))
     ∙ sum_of_differences (a *ℤ c) (a *ℤ d) (b *ℤ d) (b *ℤ c)
 
 pub ⊖-mul : (a b c d : ℕ) → (a ⊖ b) *ℤ (c ⊖ d) ≡ (a * c + b * d) ⊖ (a * d + b * c)
@@ -136,23 +141,14 @@ abs_mul (negsuc a) (negsuc b) = refl
 pub abs-⊖ : (a b : ℕ) → nat_abs (a ⊖ b) ≡ (a - b) + (b - a)
 abs-⊖ a b = go (dec_le b a)
   where
-    down : (a b : ℕ) → b ≤ a → a + 0 ≡ a - b + b
-    down a b h = omega arith
-
-    above : (a b : ℕ) → b ≤ a → a - b ≡ (a - b) + (b - a)
-    above a b h = omega arith
-
-    below : (a b : ℕ) → ¬ (b ≤ a) → b - a ≡ (a - b) + (b - a)
-    below a b h = omega arith
-
     over : (a b : ℕ) → ¬ (b ≤ a) → b + 0 ≡ b - a + a
     over a b h = omega arith
 
     go : Dec (b ≤ a) → nat_abs (a ⊖ b) ≡ (a - b) + (b - a)
-    go (yes h) = ap nat_abs (⊖-eq a b (a - b) 0 (down a b h) ∙ sym (pos-⊖ (a - b))) ∙ above a b h
+    go (yes h) = ap nat_abs (⊖-eq a b (a - b) 0 (omega arith) ∙ sym (pos-⊖ (a - b))) ∙ (omega arith)
     go (no h) =
         ap nat_abs (sym (⊖-neg b a) ∙ ap neg_ℤ (⊖-eq b a (b - a) 0 (over a b h) ∙ sym (pos-⊖ (b - a))))
-        ∙ abs_neg (b - a) ∙ below a b h
+        ∙ abs_neg (b - a) ∙ (omega arith)
 
 -- |x + y| ≤ |x| + |y|
 pub abs_add : (x y : ℤ) → nat_abs (x +ℤ y) ≤ nat_abs x + nat_abs y
@@ -181,7 +177,9 @@ dist_self x = ap nat_abs (+ℤ_invr x)
 
 pub dist_comm : (x y : ℤ) → dist x y ≡ dist y x
 unfolding dist
-dist_comm x y = sym (abs-negℤ (x -ℤ y)) ∙ ap nat_abs (neg_ℤ-+ℤ x (neg_ℤ y) ∙ ap (λ (z : ℤ). neg_ℤ x +ℤ z) (neg_ℤ-neg_ℤ y) ∙ +ℤ_comm (neg_ℤ x) y)
+dist_comm x y =
+    sym (abs-negℤ (x -ℤ y))
+    ∙ ap nat_abs (neg_ℤ-+ℤ x (neg_ℤ y) ∙ ap (λ (z : ℤ). neg_ℤ x +ℤ z) (neg_ℤ-neg_ℤ y) ∙ +ℤ_comm (neg_ℤ x) y)
 
 pub dist_trans : (x y z : ℤ) → dist x z ≤ dist x y + dist y z
 dist_trans x y z =
@@ -190,7 +188,9 @@ dist_trans x y z =
     let r = parts z in
     rw (p.2, q.2, r.2) (simp dist-⊖ (triangle p.0 p.1 q.0 q.1 r.0 r.1))
   where
-    triangle : (a b c d e f : ℕ) → (a + f - (b + e)) + (b + e - (a + f)) ≤ ((a + d - (b + c)) + (b + c - (a + d))) + ((c + f - (d + e)) + (d + e - (c + f)))
+    triangle : (a b c d e f : ℕ)
+        → (a + f - (b + e)) + (b + e - (a + f)) ≤ ((a + d - (b + c)) + (b + c - (a + d))) +
+        ((c + f - (d + e)) + (d + e - (c + f)))
     triangle a b c d e f = omega arith
 
 -- |x| ≤ |y| + |x - y|
@@ -208,4 +208,6 @@ dist_neg x y = ap nat_abs (sym (neg_ℤ-+ℤ x (neg_ℤ y))) ∙ abs-negℤ (x -
 -- a common factor
 pub dist_scale : (n : ℕ) (x y : ℤ) → dist (pos n *ℤ x) (pos n *ℤ y) ≡ n * dist x y
 unfolding dist
-dist_scale n x y = ap nat_abs (ap (λ (z : ℤ). pos n *ℤ x +ℤ z) (sym (*ℤ-neg (pos n) y)) ∙ sym (distrib (pos n) x (neg_ℤ y))) ∙ abs_mul (pos n) (x -ℤ y)
+dist_scale n x y =
+    ap nat_abs (ap (λ (z : ℤ). pos n *ℤ x +ℤ z) (sym (*ℤ-neg (pos n) y)) ∙ sym (distrib (pos n) x (neg_ℤ y)))
+    ∙ abs_mul (pos n) (x -ℤ y)

@@ -2,7 +2,8 @@
 use mathlib.Core.Path.{◌≡◌, refl, sym, ap, ◌∙◌}
 use mathlib.Core.List.{List, [], ◌∷◌}
 use Prim.Native.Nat.{ℕ, zero, suc, ◌+◌, ◌*◌, ◌^◌, ◌≤◌, zero-le}
-use native.Mathlib.Nat.{mul-zero, mul-one, le_refl, le_trans, le_of_eq, add-le-add, suc_inj, mul-le-mul, mul-le-mul_left, pow-suc}
+use native.Mathlib.Nat.{mul-zero, mul-one, le_refl, le_trans, le_of_eq}
+use native.Mathlib.Nat.{add-le-add, suc_inj, mul-le-mul, mul-le-mul_left, pow-suc}
 use native.Mathlib.Omega.{arith}
 use lib.ListN.{length}
 use lib.IntN.{ℤ, pos, ◌+ℤ◌, ◌-ℤ◌, ◌*ℤ◌, nat_abs, *ℤ-zero}
@@ -41,13 +42,15 @@ unfolding shift
 length_shift [] b = refl
 length_shift (c ∷ p) b = length_step c b (shift p b) ∙ ap suc (length_shift p b)
 
-lift_coefficient : (c d : ℤ) (b y Y : ℕ) → (c +ℤ pos b *ℤ d) *ℤ pos (Y * y) ≡ c *ℤ pos (Y * y) +ℤ pos (b * y) *ℤ (d *ℤ pos Y)
+lift_coefficient : (c d : ℤ) (b y Y : ℕ)
+    → (c +ℤ pos b *ℤ d) *ℤ pos (Y * y) ≡ c *ℤ pos (Y * y) +ℤ pos (b * y) *ℤ (d *ℤ pos Y)
 lift_coefficient c d b y Y =
     let c' = parts c in
     let d' = parts d in
     rw (c'.2, d'.2) (simp differences (⊖-eq _ _ _ _ (omega arith)))
 
-step_identity : (A E r H : ℤ) (t : ℕ) → (A +ℤ pos t *ℤ E) +ℤ r *ℤ (E +ℤ (r +ℤ pos t) *ℤ H) ≡ A +ℤ (r +ℤ pos t) *ℤ (E +ℤ r *ℤ H)
+step_identity : (A E r H : ℤ) (t : ℕ)
+    → (A +ℤ pos t *ℤ E) +ℤ r *ℤ (E +ℤ (r +ℤ pos t) *ℤ H) ≡ A +ℤ (r +ℤ pos t) *ℤ (E +ℤ r *ℤ H)
 step_identity A E r H t =
     let A' = parts A in
     let E' = parts E in
@@ -110,7 +113,8 @@ abs_linear : (a x b : ℤ) (Y : ℕ) → nat_abs (a *ℤ pos Y +ℤ x *ℤ b) �
 abs_linear a x b Y = rw (← abs_mul x b, ← (abs_mul a (pos Y))) (abs_add (a *ℤ pos Y) (x *ℤ b))
 
 -- where the coefficients are close, so are the values
-pub values_near : (p q : List ℤ) → length p ≡ length q → (x : ℤ) (X : ℕ) → nat_abs x ≤ X → (y : ℕ) → dist (hval p x y) (hval q x y) ≤ nval (dists p q) X y
+pub values_near : (p q : List ℤ) → length p ≡ length q → (x : ℤ) (X : ℕ) → nat_abs x ≤ X → (y : ℕ)
+    → dist (hval p x y) (hval q x y) ≤ nval (dists p q) X y
 unfolding hval nval dists dist
 values_near [] [] e x X h y = le_refl 0
 values_near [] (d ∷ q) e x X h y = absurd (no_length (length q) (sym e))
@@ -118,7 +122,8 @@ values_near (c ∷ p) [] e x X h y = absurd (no_length (length p) e)
 values_near (c ∷ p) (d ∷ q) e x X h y =
     rw (← e, apart)
     (le_trans (abs_linear (c -ℤ d) x (hval p x y -ℤ hval q x y) (y ^ suc (length p)))
-    (rw (length_dists p q (suc_inj e)) (add-le-add (le_refl (dist c d * y ^ suc (length p))) (mul-le-mul h (values_near p q (suc_inj e) x X h y)))))
+    (rw (length_dists p q (suc_inj e))
+    (add-le-add (le_refl (dist c d * y ^ suc (length p))) (mul-le-mul h (values_near p q (suc_inj e) x X h y)))))
 
 -- |p (x/y)|
 pub value_size : (p : List ℤ) (x : ℤ) (X : ℕ) → nat_abs x ≤ X → (y : ℕ) → nat_abs (hval p x y) ≤ nval (sizes p) X y
@@ -144,14 +149,16 @@ moved c x z H G Y =
     rw (c'.2, x'.2, z'.2, H'.2, G'.2) (simp differences (⊖-eq _ _ _ _ (omega arith)))
 
 -- where the arguments are close, so are the values
-pub values_follow : (p : List ℤ) (x z : ℤ) (X : ℕ) → nat_abs x ≤ X → nat_abs z ≤ X → (y : ℕ) → dist (hval p x y) (hval p z y) ≤ dist x z * slope (sizes p) X y
+pub values_follow : (p : List ℤ) (x z : ℤ) (X : ℕ) → nat_abs x ≤ X → nat_abs z ≤ X → (y : ℕ)
+    → dist (hval p x y) (hval p z y) ≤ dist x z * slope (sizes p) X y
 unfolding hval slope sizes dist
 values_follow [] x z X h k y = zero-le
 values_follow (c ∷ p) x z X h k y =
     rw moved
     (le_trans (abs_add ((x -ℤ z) *ℤ hval p x y) (z *ℤ (hval p x y -ℤ hval p z y)))
     (simp abs_mul
-    (le_trans (add-le-add (mul-le-mul_left (dist x z) (value_size p x X h y)) (mul-le-mul k (values_follow p x z X h k y)))
+    (le_trans
+    (add-le-add (mul-le-mul_left (dist x z) (value_size p x X h y)) (mul-le-mul k (values_follow p x z X h k y)))
     (le_of_eq (gather (dist x z) (nval (sizes p) X y) X (slope (sizes p) X y))))))
   where
     gather : (d n X s : ℕ) → d * n + X * (d * s) ≡ d * (n + X * s)
@@ -176,7 +183,8 @@ pub slope_units : (p : List ℕ) (X z : ℕ) → z * slope p (X * z) z ≡ z ^ l
 unfolding slope
 slope_units [] X z = mul-zero z ∙ sym (mul-zero (z ^ 0))
 slope_units (c ∷ p) X z =
-    rw (nval_units p X z, pow-suc) (spread (z ^ length p) (nval p X 1) X (slope p (X * z) z) z (slope p X 1) (slope_units p X z))
+    rw (nval_units p X z, pow-suc)
+    (spread (z ^ length p) (nval p X 1) X (slope p (X * z) z) z (slope p X 1) (slope_units p X z))
   where
     spread : (Z n X s z t : ℕ) → z * s ≡ Z * t → z * (Z * n + X * z * s) ≡ Z * z * (n + X * t)
     spread Z n X s z t h = omega (arith, ap (λ (k : ℕ). X * z * k) h)
@@ -193,12 +201,16 @@ unfolding finer
 length_finer d [] = refl
 length_finer d (c ∷ p) = ap suc (length_finer d p)
 
-pub finer_value : (d : ℕ) (p : List ℤ) (x : ℤ) (y : ℕ) → hval (finer d p) (pos d *ℤ x) y ≡ pos (d ^ length p) *ℤ hval p x y
+pub finer_value : (d : ℕ) (p : List ℤ) (x : ℤ) (y : ℕ)
+    → hval (finer d p) (pos d *ℤ x) y ≡ pos (d ^ length p) *ℤ hval p x y
 unfolding hval finer
 finer_value d [] x y = ap pos (sym (mul-zero (d ^ 0)))
-finer_value d (c ∷ p) x y = rw (length_finer d p, finer_value d p x y, pow-suc d (length p)) (gather c x (hval p x y) (d ^ length p) d (y ^ suc (length p)))
+finer_value d (c ∷ p) x y =
+    rw (length_finer d p, finer_value d p x y, pow-suc d (length p))
+    (gather c x (hval p x y) (d ^ length p) d (y ^ suc (length p)))
   where
-    gather : (c x H : ℤ) (D d Y : ℕ) → (c *ℤ pos (D * d)) *ℤ pos Y +ℤ (pos d *ℤ x) *ℤ (pos D *ℤ H) ≡ pos (D * d) *ℤ (c *ℤ pos Y +ℤ x *ℤ H)
+    gather : (c x H : ℤ) (D d Y : ℕ)
+        → (c *ℤ pos (D * d)) *ℤ pos Y +ℤ (pos d *ℤ x) *ℤ (pos D *ℤ H) ≡ pos (D * d) *ℤ (c *ℤ pos Y +ℤ x *ℤ H)
     gather c x H D d Y =
         let c' = parts c in
         let x' = parts x in

@@ -1,5 +1,6 @@
--- What the recipe's fixed-point sine is worth at every angle: its distance from the sums' polynomials is at most 442 units of 2^-61 (128
--- between the polynomials, 16 for the cut of the angle, 21 for the cut products, 277 for the cap). Rests on Turns and Cap.
+-- What the recipe's fixed-point sine is worth at every angle: its distance from the sums' polynomials is at most 442
+-- units of 2^-61 (128 between the polynomials, 16 for the cut of the angle, 21 for the cut products, 277 for the cap).
+-- Rests on Turns and Cap.
 use mathlib.Core.Path.{◌≡◌, refl, sym, ap, ◌∙◌, subst}
 use mathlib.Core.List.{List}
 use mathlib.Core.Bool.{Bool, true, false, cond}
@@ -26,17 +27,19 @@ flip_signed : (j v : ℕ) → flip j (pos v) ≡ signed (eqb (j % 2) 1) v
 unfolding flip
 flip_signed zero v = refl
 flip_signed (suc zero) v = refl
-flip_signed (suc (suc j)) v = neg_ℤ-neg_ℤ (flip j (pos v)) ∙ flip_signed j v ∙ ap (λ (m : ℕ). signed (eqb m 1) v) (two_less j)
-  where
-    two_less : (j : ℕ) → j % 2 ≡ suc (suc j) % 2
-    two_less j = omega arith
+flip_signed (suc (suc j)) v =
+    neg_ℤ-neg_ℤ (flip j (pos v)) ∙ flip_signed j v ∙ ap (λ (m : ℕ). signed (eqb m 1) v) (omega arith)
 
-module _ (p : List ℤ) (p-length : length p ≡ 80) (o : ℕ) (waves : Waves p o) (w f y : ℕ) (w-small : w ≤ 2 ^ 63) (f-small : f ≤ y) where
+module _ (p : List ℤ) (p-length : length p ≡ 80) (o : ℕ) (waves : Waves p o) (w f y : ℕ) (w-small : w ≤ 2 ^ 63)
+    (f-small : f ≤ y) where
   -- k quarter turns and r more, with o added
   by_parity : (k r : ℕ) → w + o * quarter ≡ k * quarter + r → r < quarter → (even : Bool) → eqb (k % 2) 0 ≡ even →
-      dist (hval p (pos (w * y + f)) y) (flip (k / 2) (pos (y ^ 80 * exact_sine (cond even r (quarter - r))))) ≤ y ^ 80 * (144 * unit)
+      dist (hval p (pos (w * y + f)) y) (flip (k / 2) (pos (y ^ 80 * exact_sine (cond even r (quarter - r))))) ≤ y ^ 80
+      * (144 * unit)
   by_parity k r e l true t =
-      beyond p p-length (k - o) r w f y f-small (k / 2) (waves (k - o) (k / 2) (base k o r w (eqb→eq (k % 2) 0 (subst T (sym t) tt)) e l) (few k o r w e w-small)) (rest k o r w e l) l
+      beyond p p-length (k - o) r w f y f-small (k / 2)
+      (waves (k - o) (k / 2) (base k o r w (eqb→eq (k % 2) 0 (subst T (sym t) tt)) e l) (few k o r w e w-small))
+      (rest k o r w e l) l
     where
       base : (k o r w : ℕ) → k % 2 ≡ 0 → w + o * quarter ≡ k * quarter + r → r < quarter → k - o + o ≡ 2 * (k / 2)
       base k o r w h e l = omega arith
@@ -48,7 +51,8 @@ module _ (p : List ℤ) (p-length : length p ≡ 80) (o : ℕ) (waves : Waves p 
       rest k o r w e l = omega arith
   by_parity k r e l false t =
       short p p-length (suc k - o) (quarter - r) w f y f-small (k / 2)
-      (waves (suc k - o) (suc (k / 2)) (base k o r w (odd k t) e l) (few k o r w e w-small)) (rest k o r w e l) (above r l) (sub-le quarter r)
+      (waves (suc k - o) (suc (k / 2)) (base k o r w (odd k t) e l) (few k o r w e w-small)) (rest k o r w e l)
+      (above r l) (sub-le quarter r)
     where
       one_left : (m : ℕ) → m < 2 → eqb m 0 ≡ false → m ≡ 1
       one_left zero l t = absurd (subst T t tt)
@@ -58,7 +62,8 @@ module _ (p : List ℤ) (p-length : length p ≡ 80) (o : ℕ) (waves : Waves p 
       odd : (k : ℕ) → eqb (k % 2) 0 ≡ false → k % 2 ≡ 1
       odd k t = one_left (k % 2) (omega arith) t
 
-      base : (k o r w : ℕ) → k % 2 ≡ 1 → w + o * quarter ≡ k * quarter + r → r < quarter → suc k - o + o ≡ 2 * suc (k / 2)
+      base : (k o r w : ℕ) → k % 2 ≡ 1 → w + o * quarter ≡ k * quarter + r → r < quarter
+          → suc k - o + o ≡ 2 * suc (k / 2)
       base k o r w h e l = omega arith
 
       few : (k o r w : ℕ) → w + o * quarter ≡ k * quarter + r → w ≤ 2 ^ 63 → suc k - o ≤ 11
@@ -71,12 +76,15 @@ module _ (p : List ℤ) (p-length : length p ≡ 80) (o : ℕ) (waves : Waves p 
       above r l = omega arith
 
   -- what the recipe reduces the angle to, and its sign
-  angle_near : dist (hval p (pos (w * y + f)) y) (signed (half_turned (w + o * quarter)) (y ^ 80 * exact_sine (reduced (w + o * quarter)))) ≤ y ^ 80 * (144 * unit)
+  angle_near : dist (hval p (pos (w * y + f)) y)
+      (signed (half_turned (w + o * quarter)) (y ^ 80 * exact_sine (reduced (w + o * quarter)))) ≤ y ^ 80 * (144 * unit)
   unfolding half_turned reduced
   angle_near =
       subst (λ (z : ℤ). dist (hval p (pos (w * y + f)) y) z ≤ y ^ 80 * (144 * unit))
-      (flip_signed (W / quarter / 2) (y ^ 80 * exact_sine (cond (eqb (W / quarter % 2) 0) (W % quarter) (quarter - W % quarter))))
-      (by_parity (W / quarter) (W % quarter) (sym (div-add-mod' W quarter)) (mod-lt W (leb→le 1 quarter tt)) (eqb (W / quarter % 2) 0) refl)
+      (flip_signed (W / quarter / 2)
+      (y ^ 80 * exact_sine (cond (eqb (W / quarter % 2) 0) (W % quarter) (quarter - W % quarter))))
+      (by_parity (W / quarter) (W % quarter) (sym (div-add-mod' W quarter)) (mod-lt W (leb→le 1 quarter tt))
+      (eqb (W / quarter % 2) 0) refl)
     where
       W : ℕ
       W = w + o * quarter
@@ -85,21 +93,17 @@ module _ (p : List ℤ) (p-length : length p ≡ 80) (o : ℕ) (waves : Waves p 
 capped_stands : (n : ℕ) → n ≤ quarter → Stands (quarter_sine n) (exact_sine n) unit 298
 unfolding quarter_sine
 capped_stands n l = record {
-  above = le_trans (mul-le-mul_right unit (less (raw_sine n))) (up (raw_sine n * unit) (exact_sine n) unit (raw_stands n l).above);
-  below = down (raw_sine n) (min (raw_sine n) (2 ^ 61)) (exact_sine n) unit (raw_stands n l).below (mul-le-mul_right unit (more (raw_sine n) (raw_cap n l)));
+  above =
+      le_trans (mul-le-mul_right unit (omega arith))
+      (up (raw_sine n * unit) (exact_sine n) unit (raw_stands n l).above);
+  below = omega (arith, (raw_stands n l).below, mul-le-mul_right unit (more (raw_sine n) (raw_cap n l)));
 }
   where
-    less : (r : ℕ) → min r (2 ^ 61) ≤ r
-    less r = omega arith
-
     more : (r : ℕ) → r ≤ 2 ^ 61 + 277 → r ≤ min r (2 ^ 61) + 277
     more r h = omega arith
 
     up : (a E U : ℕ) → a ≤ E + 21 * U → a ≤ E + 298 * U
     up a E U h = omega arith
-
-    down : (r c E U : ℕ) → E ≤ r * U + 21 * U → r * U ≤ (c + 277) * U → E ≤ c * U + 298 * U
-    down r c E U h k = omega arith
 
 reduced_small : (w : ℕ) → reduced w ≤ quarter
 unfolding reduced
@@ -116,12 +120,21 @@ dist_signed false a b e h k = simp (pos-⊖, dist-⊖) (omega arith)
 
 -- The recipe's fixed-point sine at the angle X / y, in units of 2^-59, against the polynomial: 442 units of 2^-61.
 pub recipe_near : (p : List ℤ) → length p ≡ 80 → (o : ℕ) → Waves p o → (w f y : ℕ) → w ≤ 2 ^ 63 → f ≤ y →
-    dist (hval p (pos (w * y + f)) y) (signed (half_turned (w + o * quarter)) (y ^ 80 * (quarter_sine (reduced (w + o * quarter)) * unit))) ≤ y ^ 80 * (442 * unit)
+    dist (hval p (pos (w * y + f)) y)
+    (signed (half_turned (w + o * quarter)) (y ^ 80 * (quarter_sine (reduced (w + o * quarter)) * unit))) ≤ y ^ 80 *
+    (442 * unit)
 recipe_near p p-length o waves w f y h k =
-    le_trans (dist_trans (hval p (pos (w * y + f)) y) (signed s (y ^ 80 * exact_sine n)) (signed s (y ^ 80 * (quarter_sine n * unit))))
-    (both (y ^ 80) unit (angle_near p p-length o waves w f y h k)
-    (dist_signed s (y ^ 80 * exact_sine n) (y ^ 80 * (quarter_sine n * unit)) (y ^ 80 * (298 * unit))
-    (spread (y ^ 80) (exact_sine n) (quarter_sine n * unit) (298 * unit) stands.below) (spread (y ^ 80) (quarter_sine n * unit) (exact_sine n) (298 * unit) stands.above)))
+    le_trans
+    (dist_trans (hval p (pos (w * y + f)) y) (signed s (y ^ 80 * exact_sine n))
+    (signed s (y ^ 80 * (quarter_sine n * unit))))
+    (omega (
+      arith,
+      angle_near p p-length o waves w f y h k,
+      dist_signed s (y ^ 80 * exact_sine n)
+          (y ^ 80 * (quarter_sine n * unit)) (y ^ 80 * (298 * unit))
+          (spread (y ^ 80) (exact_sine n) (quarter_sine n * unit) (298 * unit) stands.below)
+          (spread (y ^ 80) (quarter_sine n * unit) (exact_sine n) (298 * unit) stands.above),
+    ))
   where
     n : ℕ
     n = reduced (w + o * quarter)
@@ -131,9 +144,6 @@ recipe_near p p-length o waves w f y h k =
 
     stands : Stands (quarter_sine n) (exact_sine n) unit 298
     stands = capped_stands n (reduced_small (w + o * quarter))
-
-    both : {d e : ℕ} (Y U : ℕ) → d ≤ Y * (144 * U) → e ≤ Y * (298 * U) → d + e ≤ Y * (442 * U)
-    both Y U h k = omega arith
 
     spread : (Y a b c : ℕ) → a ≤ b + c → Y * a ≤ Y * b + Y * c
     spread Y a b c h = omega (arith, mul-le-mul_left Y h)

@@ -1,5 +1,5 @@
--- The 40-term sums as integer polynomials: 79! times the sum has the coefficients ±79! / i!. The bridge: at a fraction x / q the sum is
--- the polynomial's value over 79! q^80. Rests on Polynomial and Integers.
+-- The 40-term sums as integer polynomials: 79! times the sum has the coefficients ±79! / i!. The bridge: at a fraction
+-- x / q the sum is the polynomial's value over 79! q^80. Rests on Polynomial and Integers.
 use mathlib.Core.Path.{◌≡◌, refl, sym, ap, ap₂, ◌∙◌, subst}
 use mathlib.Core.List.{List, [], ◌∷◌}
 use Prim.Native.Nat.{ℕ, zero, suc, ◌+◌, ◌*◌, ◌^◌}
@@ -22,7 +22,9 @@ rising i (suc r) = suc i * rising (suc i) r
 factorial_rising : (i r : ℕ) → rising i r * factorial i ≡ factorial (i + r)
 unfolding rising factorial
 factorial_rising i zero = one-mul (factorial i) ∙ ap factorial (sym (add-zero i))
-factorial_rising i (suc r) = regroup (suc i) (rising (suc i) r) (factorial i) ∙ factorial_rising (suc i) r ∙ ap factorial (suc-add i r ∙ sym (add-suc i r))
+factorial_rising i (suc r) =
+    regroup (suc i) (rising (suc i) r) (factorial i) ∙ factorial_rising (suc i) r
+    ∙ ap factorial (suc-add i r ∙ sym (add-suc i r))
   where
     regroup : (a b c : ℕ) → a * b * c ≡ b * (a * c)
     regroup a b c = omega arith
@@ -70,7 +72,8 @@ Over n e f = f.num *ℤ pos e ≡ n *ℤ pos f.den
 
 over_sum : (n o : ℤ) (e : ℕ) (f g : Fraction) → Over n e f → Over o e g → Over (n +ℤ o) e (f ⊹ g)
 unfolding Over ◌⊹◌
-over_sum n o e f g p q = first f.num g.num e f.den g.den ∙ ap₂ (λ (a b : ℤ). a *ℤ pos g.den +ℤ b *ℤ pos f.den) p q ∙ last n o f.den g.den
+over_sum n o e f g p q =
+    first f.num g.num e f.den g.den ∙ ap₂ (λ (a b : ℤ). a *ℤ pos g.den +ℤ b *ℤ pos f.den) p q ∙ last n o f.den g.den
   where
     first : (a c : ℤ) (e b d : ℕ) → (a *ℤ pos d +ℤ c *ℤ pos b) *ℤ pos e ≡ (a *ℤ pos e) *ℤ pos d +ℤ (c *ℤ pos e) *ℤ pos b
     first a c e b d =
@@ -85,7 +88,8 @@ over_sum n o e f g p q = first f.num g.num e f.den g.den ∙ ap₂ (λ (a b : �
         rw (n'.2, o'.2) (simp differences (⊖-eq _ _ _ _ (omega arith)))
 
 -- one term: its coefficient R with R i! = N, and the power Y of q with Y q^i = Q
-over_term : (k i : ℕ) (v : Fraction) (R Y N Q : ℕ) → R * factorial i ≡ N → Y * v.den ^ i ≡ Q → Over (pow v.num i *ℤ ((sign k *ℤ pos R) *ℤ pos Y)) (N * Q) (term k i v)
+over_term : (k i : ℕ) (v : Fraction) (R Y N Q : ℕ) → R * factorial i ≡ N → Y * v.den ^ i ≡ Q
+    → Over (pow v.num i *ℤ ((sign k *ℤ pos R) *ℤ pos Y)) (N * Q) (term k i v)
 unfolding Over term
 over_term k i v R Y N Q p q =
     ap (λ (e : ℕ). (sign k *ℤ pow v.num i) *ℤ pos e) (sym (ap₂ (λ (a b : ℕ). a * b) p q))
@@ -94,7 +98,8 @@ over_term k i v R Y N Q p q =
     reorder : (s X r a y b : ℤ) → (s *ℤ X) *ℤ ((r *ℤ a) *ℤ (y *ℤ b)) ≡ (X *ℤ ((s *ℤ r) *ℤ y)) *ℤ (a *ℤ b)
     reorder s X r a y b = simp (*ℤ-assoc, *ℤ-left-comm)
 
-    regroup : (s X : ℤ) (R a Y b : ℕ) → (s *ℤ X) *ℤ pos (R * a * (Y * b)) ≡ (X *ℤ ((s *ℤ pos R) *ℤ pos Y)) *ℤ pos (a * b)
+    regroup : (s X : ℤ) (R a Y b : ℕ)
+        → (s *ℤ X) *ℤ pos (R * a * (Y * b)) ≡ (X *ℤ ((s *ℤ pos R) *ℤ pos Y)) *ℤ pos (a * b)
     regroup s X R a Y b = reorder s X (pos R) (pos a) (pos Y) (pos b)
 
 -- X (c Y + x H) = X (c Y) + (X x) H
@@ -122,7 +127,8 @@ module _ (v : Fraction) where
   Rest : ℕ → List ℤ → Fraction → Type 0
   Rest i p f = Over (pow v.num i *ℤ hval p v.num v.den) (scale * v.den ^ 80) f
 
-  rest_term : (k i r : ℕ) (p : List ℤ) (f : Fraction) → i + r ≡ 79 → length p ≡ r → Rest (suc i) p f → Rest i ((sign k *ℤ pos (rising i r)) ∷ p) (term k i v ⊹ f)
+  rest_term : (k i r : ℕ) (p : List ℤ) (f : Fraction) → i + r ≡ 79 → length p ≡ r → Rest (suc i) p f
+      → Rest i ((sign k *ℤ pos (rising i r)) ∷ p) (term k i v ⊹ f)
   unfolding Rest hval pow
   rest_term k i r p f h l t =
       subst (λ (n : ℤ). Over n (scale * v.den ^ 80) (term k i v ⊹ f))
@@ -130,16 +136,14 @@ module _ (v : Fraction) where
       (over_sum _ _ (scale * v.den ^ 80) (term k i v) f
       (over_term k i v (rising i r) (v.den ^ suc (length p)) scale (v.den ^ 80)
       (factorial_rising i r ∙ ap factorial h)
-      (sym (pow-add v.den (suc (length p)) i) ∙ ap (λ (n : ℕ). v.den ^ n) (degrees i r (length p) h l)))
+      (sym (pow-add v.den (suc (length p)) i) ∙ ap (λ (n : ℕ). v.den ^ n) (omega arith)))
       t)
-    where
-      degrees : (i r n : ℕ) → i + r ≡ 79 → n ≡ r → suc n + i ≡ 80
-      degrees i r n h l = omega arith
 
   rest_zero : (i : ℕ) (p : List ℤ) (f : Fraction) → Rest (suc i) p f → Rest i (pos 0 ∷ p) f
   unfolding Rest hval pow
   rest_zero i p f t =
-      subst (λ (n : ℤ). Over n (scale * v.den ^ 80) f) (skip_zero (pow v.num i) v.num (hval p v.num v.den) (v.den ^ suc (length p))) t
+      subst (λ (n : ℤ). Over n (scale * v.den ^ 80) f)
+      (skip_zero (pow v.num i) v.num (hval p v.num v.den) (v.den ^ suc (length p))) t
 
   rest_none : (i : ℕ) → Rest i [] (record { num = pos 0; den = 1 })
   unfolding Rest Over hval
@@ -150,9 +154,11 @@ module _ (v : Fraction) where
   sin_rest k zero h = rest_none (2 * k)
   sin_rest k (suc m) h =
       rest_zero (2 * k) _ _
-      (subst (λ (i : ℕ). Rest i ((sign k *ℤ pos (rising (2 * k + 1) (2 * m))) ∷ sin_from (suc k) m) (term k (2 * k + 1) v ⊹ total (suc k) m (λ j. term j (2 * j + 1) v))) (add-one (2 * k))
+      (subst (λ (i : ℕ). Rest i ((sign k *ℤ pos (rising (2 * k + 1) (2 * m))) ∷ sin_from (suc k) m)
+      (term k (2 * k + 1) v ⊹ total (suc k) m (λ j. term j (2 * j + 1) v))) (add-one (2 * k))
       (rest_term k (2 * k + 1) (2 * m) (sin_from (suc k) m) _ (degree k m h) (length_sin (suc k) m)
-      (subst (λ (i : ℕ). Rest i (sin_from (suc k) m) (total (suc k) m (λ j. term j (2 * j + 1) v))) (next k) (sin_rest (suc k) m (onward k m h)))))
+      (subst (λ (i : ℕ). Rest i (sin_from (suc k) m) (total (suc k) m (λ j. term j (2 * j + 1) v))) (next k)
+      (sin_rest (suc k) m (onward k m h)))))
     where
       degree : (k m : ℕ) → k + suc m ≡ 40 → 2 * k + 1 + 2 * m ≡ 79
       degree k m h = omega arith
@@ -167,9 +173,11 @@ module _ (v : Fraction) where
   unfolding cos_from total
   cos_rest k zero h = rest_none (2 * k)
   cos_rest k (suc m) h =
-      rest_term k (2 * k) (2 * m + 1) (pos 0 ∷ cos_from (suc k) m) _ (degree k m h) (ap suc (length_cos (suc k) m) ∙ sym (add-one (2 * m)))
+      rest_term k (2 * k) (2 * m + 1) (pos 0 ∷ cos_from (suc k) m) _ (degree k m h)
+      (ap suc (length_cos (suc k) m) ∙ sym (add-one (2 * m)))
       (rest_zero (suc (2 * k)) (cos_from (suc k) m) _
-      (subst (λ (i : ℕ). Rest i (cos_from (suc k) m) (total (suc k) m (λ j. term j (2 * j) v))) (next k) (cos_rest (suc k) m (onward k m h))))
+      (subst (λ (i : ℕ). Rest i (cos_from (suc k) m) (total (suc k) m (λ j. term j (2 * j) v))) (next k)
+      (cos_rest (suc k) m (onward k m h))))
     where
       degree : (k m : ℕ) → k + suc m ≡ 40 → 2 * k + (2 * m + 1) ≡ 79
       degree k m h = omega arith

@@ -1,4 +1,5 @@
--- The computed tests: the 40-term sums, shifted by quarter turns, against plus or minus the polynomial that the recipe evaluates.
+-- The computed tests: the 40-term sums, shifted by quarter turns, against plus or minus the polynomial that the recipe
+-- evaluates.
 use mathlib.Core.Path.{◌≡◌}
 use mathlib.Core.List.{List, [], ◌∷◌}
 use mathlib.Core.Bool.{Bool, true, ◌&&◌}
@@ -42,7 +43,8 @@ alternating_part = alternating grain (2 ^ 120) (replicate 57 (pos 0)) (first_coe
 unfoldable pub recipe : List ℤ
 recipe = pos 0 ∷ alternating_part
 
--- No sine exceeds 1: a quarter turn on, the sine is 2^61 - t² (..), with the coefficients 4^i / (2i)! of the cosine in units of 2^-61, rounded.
+-- No sine exceeds 1: a quarter turn on, the sine is 2^61 - t² (..), with the coefficients 4^i / (2i)! of the cosine in
+-- units of 2^-61, rounded.
 abbrev pub summit_first : ℕ
 summit_first = 4611686018427387904
 
@@ -77,11 +79,13 @@ nears p b h zero = true
 nears p b h (suc n) = near p b (turned h recipe) && nears p (b + 2) (suc h) n
 
 pub sine_nears : T (nears sine 0 0 6)
-unfolding nears near recipe alternating_part turned sine rising factorial sign sin_from sin79 finer negated alternating dist
+unfolding nears near recipe alternating_part turned sine rising factorial sign sin_from sin79 finer negated alternating
+    dist
 sine_nears = tt
 
 pub cosine_nears : T (nears cosine 1 1 6)
-unfolding nears near recipe alternating_part turned cosine rising factorial sign cos_from cos79 finer negated alternating dist
+unfolding nears near recipe alternating_part turned cosine rising factorial sign cos_from cos79 finer negated
+    alternating dist
 cosine_nears = tt
 
 pub sine_summit : T (near sine 1 summit)
@@ -95,13 +99,13 @@ recipe_slope = tt
 -- one of them
 pub nears_at : (p : List ℤ) (b h n i : ℕ) → T (nears p b h n) → i < n → T (near p (b + 2 * i) (turned (h + i) recipe))
 unfolding nears
-nears_at p b h zero i t l = absurd (none i l)
-  where
-    none : (i : ℕ) → i < 0 → ⊥
-    none i l = omega arith
-nears_at p b h (suc n) zero t l = simp (mul-zero, add-zero) (and_l (near p b (turned h recipe)) (nears p (b + 2) (suc h) n) t)
+nears_at p b h zero i t l = absurd (omega arith)
+nears_at p b h (suc n) zero t l =
+    simp (mul-zero, add-zero) (and_l (near p b (turned h recipe)) (nears p (b + 2) (suc h) n) t)
 nears_at p b h (suc n) (suc i) t l =
-    rw (two_more b i, one_more h i) (nears_at p (b + 2) (suc h) n i (and_r (near p b (turned h recipe)) (nears p (b + 2) (suc h) n) t) (le_of_suc-le-suc l))
+    rw (two_more b i, one_more h i)
+    (nears_at p (b + 2) (suc h) n i (and_r (near p b (turned h recipe)) (nears p (b + 2) (suc h) n) t)
+    (le_of_suc-le-suc l))
   where
     two_more : (b i : ℕ) → b + 2 * suc i ≡ b + 2 + 2 * i
     two_more b i = omega arith

@@ -1,4 +1,5 @@
--- Fractions of an integer and a natural number, compared without dividing. A denominator is never 0 where a promise names it.
+-- Fractions of an integer and a natural number, compared without dividing. A denominator is never 0 where a promise
+-- names it.
 use Rattle.std.specs.Prelude.{ℕ, ◌*◌, ◌≤◌, ℤ, pos, neg_ℤ, nat_abs, ◌+ℤ◌, ◌-ℤ◌, ◌*ℤ◌, Bool, cond, Float}
 use Rattle.std.specs.Float.{nan, inf, fin}
 use Rattle.std.specs.Float.Ieee.{up, down}

@@ -1,6 +1,7 @@
--- The fixed-point part of the recipe of sine and cosine. An angle is a whole number of units of 2^-59, a sine one of units of 2^-61.
--- Method: the angle is taken to the first quarter turn, where the sine is n times an alternating polynomial in n², by Horner's rule
--- with 11 coefficients, each product cut to its upper 64 bits. Error, against the 40-term sums: below 2^-51 (measured 2^-53.9).
+-- The fixed-point part of the recipe of sine and cosine. An angle is a whole number of units of 2^-59, a sine one of
+-- units of 2^-61. Method: the angle is taken to the first quarter turn, where the sine is n times an alternating
+-- polynomial in n², by Horner's rule with 11 coefficients, each product cut to its upper 64 bits. Error, against the
+-- 40-term sums: below 2^-51 (measured 2^-53.9).
 use Rattle.std.specs.Prelude.{ℕ, ◌-◌, ◌*◌, ◌/◌, ◌%◌, ◌^◌, min, List, [], ◌∷◌, Bool, cond, eqb}
 
 -- A quarter turn, PI / 2 in units of 2^-59, rounded.
@@ -35,7 +36,8 @@ unfoldable pub quarter_sine : ℕ → ℕ
 unfolding raw_sine
 quarter_sine n = min (raw_sine n) (2 ^ 61)
 
--- The angle of the first quarter turn that has the sine of w up to sign: what w has beyond its quarter turns, taken backward in every other one.
+-- The angle of the first quarter turn that has the sine of w up to sign: what w has beyond its quarter turns, taken
+-- backward in every other one.
 unfoldable pub reduced : ℕ → ℕ
 reduced w = cond (eqb (w / quarter % 2) 0) (w % quarter) (quarter - w % quarter)
 

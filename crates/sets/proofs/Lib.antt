@@ -2,11 +2,10 @@ pub mod Masks
 pub mod Marks
 pub mod Pairing
 pub mod Contained
-pub mod Adopted
-pub mod Taken
 pub mod LevelStep
 pub mod TwiceContained
 pub mod Overlapping
 pub mod Singles
 pub mod Assembled
 pub mod Bytes
+pub mod Taken

@@ -1,21 +1,26 @@
--- What code writes on usize masks, for heads below n, as sets of width n.
+-- What code writes on usize masks, for heads below n, as sets of width n; and one head taken away or put back.
 use mathlib.Core.Path.{◌≡◌, sym, ap, ◌∙◌, subst}
-use mathlib.Core.Bool.{Bool, true, false, not, ◌&&◌}
+use mathlib.Core.Bool.{true, false, not, ◌&&◌}
 use Prim.Native.Nat.{ℕ, suc, ◌^◌, ◌≤◌, ◌<◌}
-use lib.Count.{ones}
 use native.Mathlib.Nat.{lt_of_lt_of_le}
 use native.Mathlib.Omega.{arith}
+use Rattle.std.proofs.lemmas.Bool.Decides.{nat_tests}
 use lib.Bits.{bit_and, bit_or, or_zero_l}
+use lib.Count.{ones}
 use lib.Dec.{eqb}
 use lib.Pow.{pow_mono}
 use Rattle.masks.specs.Mask.{in_set, single, with_head, without_head, shifted, complement}
-use Rattle.masks.specs.Operations.{shifted_is, shifted_lt, in_minus, in_shifted, in_of_zero, in_of_one, zero_by_mask, one_by_mask, in_by_mask, without_below, one_of_in, zero_of_in, with_below}
+use Rattle.masks.specs.Operations.{shifted_is, shifted_lt, in_minus, in_shifted, in_of_zero, in_of_one}
+use Rattle.masks.specs.Operations.{zero_by_mask, one_by_mask, in_by_mask, one_of_in, zero_of_in}
+use Rattle.masks.specs.Operations.{with_below, without_below}
 use Rattle.masks.specs.Size.{ones_with, ones_without}
-use Rattle.masks.specs.Subset.{without_lt}
+use Rattle.masks.specs.Subset.{without_lt, with_gt}
+use Rattle.masks.specs.Gather.{gather_unique, gather_lt, in_gather, shifted_single, or_with_head, and_without_head}
 use Rattle.sets.specs.Sets.{pair}
-use Rattle.masks.specs.Gather.{gather_unique, gather_lt, shifted_single, or_with_head, and_without_head}
 
-pub wide : (n S : ℕ) → n ≤ 10 → S < 2 ^ n → S < 2 ^ 64
+-- ---- the terms of code
+
+wide : (n S : ℕ) → n ≤ 10 → S < 2 ^ n → S < 2 ^ 64
 wide n S h k = lt_of_lt_of_le k (pow_mono {i = n} {j = 64} (omega arith))
 
 same_shift : (n i : ℕ) → n ≤ 10 → i < n → shifted 64 i ≡ shifted n i
@@ -30,11 +35,15 @@ pub with_at : (n S i : ℕ) → n ≤ 10 → S < 2 ^ n → i < n → bit_or S (s
 with_at n S i h hs k = ap (bit_or S) (same_shift n i h k) ∙ or_with_head n S i hs k
 
 -- `S & !(1 << i)`
-pub without_at : (n S i : ℕ) → n ≤ 10 → S < 2 ^ n → i < n → bit_and S (complement 64 (shifted 64 i)) ≡ without_head n S i
+pub without_at : (n S i : ℕ) → n ≤ 10 → S < 2 ^ n → i < n
+    → bit_and S (complement 64 (shifted 64 i)) ≡ without_head n S i
 without_at n S i h hs k =
-    gather_unique n (bit_and S (complement 64 (shifted 64 i))) (λ j. in_set S j && not (eqb j i)) (without_below n S (complement 64 (shifted 64 i)) hs)
-    (λ j l. in_minus 64 S (shifted 64 i) j (wide n S h hs) (shifted_lt 64 i)
-    ∙ ap (λ (b : Bool). in_set S j && not b) (in_shifted 64 i j (omega arith)))
+    gather_unique n _ _ (without_below n S _ hs)
+    (λ j l. grind (arith, in_minus 64 S (shifted 64 i) j (wide n S h hs) (shifted_lt 64 i), in_shifted 64 i j))
+
+-- `1 << i | 1 << j`
+pub pair_at : (n i j : ℕ) → n ≤ 10 → i < n → j < n → bit_or (shifted 64 i) (shifted 64 j) ≡ pair n i j
+pair_at n i j h k l = rw (single_at n i h k) (with_at n (single n i) j h (gather_lt n _) l)
 
 -- `S & 1 << i == 0`
 pub lacks_at : (S i : ℕ) → i < 64 → bit_and S (shifted 64 i) ≡ 0 → in_set S i ≡ false
@@ -70,18 +79,37 @@ part_row S U h = without_below 10 S U h
 -- for masks of the heads below n as indices, and compared with their number
 pub ruleset rows = (count_at, count_most, with_row, single_row, part_row)
 
--- S without one of its heads: one head fewer, and a smaller number
-pub ones_less : (n S i : ℕ) → S < 2 ^ n → i < n → in_set S i ≡ true → suc (ones (without_head n S i)) ≡ ones S
-ones_less n S i hs h e = ap (λ (m : ℕ). suc (ones m)) (sym (and_without_head n S i hs h)) ∙ ones_without n S i hs h (one_of_in S i e)
+-- ---- one head taken away, or put back
 
-pub less : (n S i : ℕ) → S < 2 ^ n → i < n → in_set S i ≡ true → without_head n S i < S
-less n S i hs h e = subst (λ (m : ℕ). m < S) (and_without_head n S i hs h) (without_lt n S i hs h (one_of_in S i e))
+module _ (n S i : ℕ) (hs : S < 2 ^ n) (h : i < n) where
+  -- with one head fewer, and a smaller number
+  pub ones_less : in_set S i ≡ true → suc (ones (without_head n S i)) ≡ ones S
+  ones_less e = rw (← and_without_head n S i hs h) (ones_without n S i hs h (one_of_in S i e))
 
--- S with a head that it lacks: one head more
-pub ones_more : (n S i : ℕ) → S < 2 ^ n → i < n → in_set S i ≡ false → ones (with_head n S i) ≡ suc (ones S)
-ones_more n S i hs h e = ap ones (sym (or_with_head n S i hs h)) ∙ ones_with n S i h (zero_of_in S i e)
+  pub less : in_set S i ≡ true → without_head n S i < S
+  less e = rw (← and_without_head n S i hs h) (without_lt n S i hs h (one_of_in S i e))
 
--- `1 << i | 1 << j`
-pub pair_at : (n i j : ℕ) → n ≤ 10 → i < n → j < n → bit_or (shifted 64 i) (shifted 64 j) ≡ pair n i j
-pair_at n i j h k l =
-    ap (λ (m : ℕ). bit_or m (shifted 64 j)) (single_at n i h k) ∙ with_at n (single n i) j h (gather_lt n (λ m. eqb m i)) l
+  -- with a head that it lacks: one head more, and a larger number
+  pub ones_more : in_set S i ≡ false → ones (with_head n S i) ≡ suc (ones S)
+  ones_more e = rw (← or_with_head n S i hs h) (ones_with n S i h (zero_of_in S i e))
+
+  pub more : in_set S i ≡ false → S < with_head n S i
+  more e = rw (← or_with_head n S i hs h) (with_gt n S i h (zero_of_in S i e))
+
+  pub with_without : in_set S i ≡ true → with_head n (without_head n S i) i ≡ S
+  with_without e = sym (gather_unique n S _ hs (λ j k. grind (arith, nat_tests, in_gather)))
+
+  pub without_with : in_set S i ≡ false → without_head n (with_head n S i) i ≡ S
+  without_with e = sym (gather_unique n S _ hs (λ j k. grind (arith, nat_tests, in_gather)))
+
+pub has : (n S i : ℕ) → i < n → in_set (with_head n S i) i ≡ true
+has n S i h = grind (arith, nat_tests, in_gather)
+
+pub lacks : (n S i : ℕ) → i < n → in_set (without_head n S i) i ≡ false
+lacks n S i h = grind (arith, nat_tests, in_gather)
+
+-- T is S with head i exactly if S is T without it
+pub with_or_without : (n S T i : ℕ) → S < 2 ^ n → T < 2 ^ n → i < n
+    → (not (in_set S i) && eqb (with_head n S i) T) ≡ (eqb S (without_head n T i) && in_set T i)
+with_or_without n S T i hs ht h =
+    grind (arith, nat_tests, with_without n T i ht h, without_with n S i hs h, has n S i h, lacks n T i h)

@@ -1,169 +1,143 @@
--- One head taken from a mask and put back; and the parts of one mask, and of masks that are found by one of two tests.
+-- Heads taken from a mask, one at a time, leave its parts: those of one mask, of masks found by one of two tests, and of
+-- the adopters of one point and of one point more.
 use mathlib.Core.Path.{◌≡◌, refl, sym, ap, ap₂, ◌∙◌}
-use mathlib.Core.Bool.{Bool, true, false, not, ◌&&◌, ◌||◌, or-false, false≢true}
-use Prim.Native.Nat.{ℕ, zero, suc, ◌^◌, ◌≤◌, ◌<◌}
+use mathlib.Core.Bool.{Bool, true, false, not, ◌&&◌, ◌||◌}
+use mathlib.Core.List.{List}
+use Prim.Native.Nat.{ℕ, zero, suc, ◌+◌, ◌^◌, ◌≤◌, ◌<◌}
 use native.Mathlib.Omega.{arith}
-use borrow.Author.Tests.{eqb-true, eq-eqb, ne_eqb, le-leb, leb-true}
-use lib.Bits.{bit_or}
+use Rattle.std.proofs.lemmas.Bool.Decides.{nat_tests}
+use Rattle.std.proofs.lemmas.List.{take_all}
 use lib.Count.{ones}
 use lib.Dec.{eqb, leb}
-use Rattle.masks.specs.Mask.{in_set, with_head, without_head, shifted}
-use Rattle.masks.specs.Operations.{one_of_in}
-use Rattle.masks.specs.Gather.{gather_lt, in_gather, gather_unique, or_with_head, and_without_head}
-use Rattle.masks.specs.Size.{without_with}
-use Rattle.masks.specs.Subset.{and_both}
-use Rattle.lists.specs.Some.{some}
-use Rattle.lists.proofs.Somes.{some_cong, some_of, some_none}
+use lib.ListN.{length, take, get_or, set, length-set}
+use Rattle.masks.specs.Mask.{in_set}
+use Rattle.masks.specs.Gather.{gather_lt}
+use Rattle.intersections.specs.declared.points.IntersectionPoint.{IntersectionPoint}
+use Rattle.intersections.specs.Members.{no_point}
+use Rattle.lists.specs.Some.{some, any}
+use Rattle.lists.proofs.Somes.{some_cong, some_none, any_next}
+use Rattle.sets.specs.Marked.{marked}
 use Rattle.sets.specs.Sets.{is_part}
-use Rattle.sets.specs.Steps.{part_of}
-use Rattle.sets.proofs.Masks.{ones_less, ones_more}
+use Rattle.sets.specs.Regions.{is_adopters_of}
+use Rattle.sets.specs.Steps.{part_of, adopted, mask_or_part}
+use Rattle.sets.proofs.Marks.{length_marked, marked_at, marked_is, marked_same, marked_none, marked_again, set_at}
+use Rattle.sets.proofs.Masks.{ones_more, with_or_without}
 
--- ---- tests
+-- ---- some number that passes
+
+pub some_at : (n : ℕ) (p : ℕ → Bool) → some n p ≡ true → (i : ℕ) × (i < n) × (p i ≡ true)
+unfolding some
+some_at zero p e = absurd (cc)
+some_at (suc n) p e = go (p n) refl (some_at n p)
+  where
+    go : (b : Bool) → p n ≡ b → (some n p ≡ true → (i : ℕ) × (i < n) × (p i ≡ true))
+        → (i : ℕ) × (i < suc n) × (p i ≡ true)
+    go true k below = (n, omega arith, k)
+    go false k below = let w = below (grind arith) in (w.0, omega (arith, w.1), w.2)
 
 pub same_truth : (a b : Bool) → (a ≡ true → b ≡ true) → (b ≡ true → a ≡ true) → a ≡ b
-same_truth true true f g = refl
-same_truth true false f g = sym (f refl)
-same_truth false true f g = g refl
-same_truth false false f g = refl
+same_truth a b f g = grind (arith, f, g)
 
--- what follows from each number that passes follows from some
-pub some_then : (n : ℕ) (p : ℕ → Bool) (q : Bool) → ((i : ℕ) → i < n → p i ≡ true → q ≡ true) → some n p ≡ true → q ≡ true
+-- both of two tests, and one of two
+pub some_and : (n : ℕ) (b : Bool) (p : ℕ → Bool) → (b && some n p) ≡ some n (λ i. b && p i)
 unfolding some
-some_then zero p q f e = absurd (false≢true e)
-some_then (suc n) p q f e = go (p n) refl (some_then n p q (λ i h. f i (omega arith)))
-  where
-    go : (b : Bool) → p n ≡ b → (some n p ≡ true → q ≡ true) → q ≡ true
-    go true k below = f n (omega arith) k
-    go false k below = below (sym (or-false (some n p)) ∙ ap (λ (b : Bool). some n p || b) (sym k) ∙ e)
+some_and zero b p = grind arith
+some_and (suc n) b p = grind (arith, some_and n b p)
 
-pub or_swap : (a b c d : Bool) → ((a || b) || (c || d)) ≡ ((a || c) || (b || d))
-or_swap true b c d = refl
-or_swap false true true d = refl
-or_swap false true false d = refl
-or_swap false false c d = refl
-
-pub and_or : (a b c : Bool) → (a && (b || c)) ≡ ((a && b) || (a && c))
-and_or true b c = refl
-and_or false b c = refl
-
-pub and_no : (a b : Bool) → b ≡ false → (a && b) ≡ false
-and_no true b e = e
-and_no false b e = refl
-
-pub not_yes : (a : Bool) → not a ≡ true → a ≡ false
-not_yes true e = sym e
-not_yes false e = refl
-
--- one of two tests
 some_or : (n : ℕ) (p q : ℕ → Bool) → some n (λ i. p i || q i) ≡ (some n p || some n q)
 unfolding some
 some_or zero p q = refl
-some_or (suc n) p q = ap (λ (b : Bool). b || (p n || q n)) (some_or n p q) ∙ or_swap (some n p) (some n q) (p n) (q n)
-
--- ---- one head taken away, and put back
-
-pub with_without : (n M i : ℕ) → M < 2 ^ n → i < n → in_set M i ≡ true → with_head n (without_head n M i) i ≡ M
-with_without n M i hm h e =
-    sym (or_with_head n (without_head n M i) i (gather_lt n _) h)
-    ∙ ap (λ (T : ℕ). bit_or T (shifted n i)) (sym (and_without_head n M i hm h))
-    ∙ without_with n M i hm h (one_of_in M i e)
-
-pub lacks : (n M i : ℕ) → i < n → in_set (without_head n M i) i ≡ false
-lacks n M i h =
-    in_gather n (λ j. in_set M j && not (eqb j i)) i h ∙ and_no (in_set M i) (not (eqb i i)) (ap not (eq-eqb i i refl))
-
-pub has : (n S i : ℕ) → i < n → in_set (with_head n S i) i ≡ true
-has n S i h = in_gather n (λ j. in_set S j || eqb j i) i h ∙ or_yes (in_set S i) (eqb i i) (eq-eqb i i refl)
-  where
-    or_yes : (a b : Bool) → b ≡ true → (a || b) ≡ true
-    or_yes true b e = refl
-    or_yes false b e = e
-
-pub without_with_it : (n S i : ℕ) → S < 2 ^ n → in_set S i ≡ false → S ≡ without_head n (with_head n S i) i
-without_with_it n S i hs e =
-    gather_unique n S (λ j. in_set (with_head n S i) j && not (eqb j i)) hs
-    (λ j k. at j (eqb j i) refl ∙ sym (ap (λ (b : Bool). b && not (eqb j i)) (in_gather n (λ m. in_set S m || eqb m i) j k)))
-  where
-    as_was : (a : Bool) → a ≡ ((a || false) && true)
-    as_was true = refl
-    as_was false = refl
-
-    away : (a : Bool) → false ≡ ((a || true) && false)
-    away true = refl
-    away false = refl
-
-    at : (j : ℕ) (b : Bool) → eqb j i ≡ b → in_set S j ≡ ((in_set S j || eqb j i) && not (eqb j i))
-    at j true f = ap (in_set S) (eqb-true j i f) ∙ e ∙ away (in_set S j) ∙ sym (ap (λ (b : Bool). (in_set S j || b) && not b) f)
-    at j false f = as_was (in_set S j) ∙ sym (ap (λ (b : Bool). (in_set S j || b) && not b) f)
+some_or (suc n) p q = grind (arith, some_or n p q)
 
 -- ---- parts
 
--- of one mask M
-module _ (n S M : ℕ) where
-  -- from the head that is taken away
-  to_part : (i : ℕ) → M < 2 ^ n → i < n → leb 3 (ones M) ≡ true → S ≡ without_head n M i → in_set M i ≡ true
-      → (leb 2 (ones S) && some n (λ j. not (in_set S j) && eqb (with_head n S j) M)) ≡ true
-  to_part i hm h l e k =
-      let same : ones S ≡ ones (without_head n M i) = ap ones e in
-      ap₂ ◌&&◌ (le-leb 2 (ones S) (omega (arith, leb-true 3 (ones M) l, ones_less n M i hm h k, same)))
-      (some_of n (λ j. not (in_set S j) && eqb (with_head n S j) M) i h
-      (ap₂ ◌&&◌ (ap not (ap (λ (T : ℕ). in_set T i) e ∙ lacks n M i h))
-      (ap (λ (T : ℕ). eqb (with_head n T i) M) e ∙ eq-eqb (with_head n (without_head n M i) i) M (with_without n M i hm h k))))
-
-  -- to the head that is put back
-  from_part : (i : ℕ) → S < 2 ^ n → i < n → leb 2 (ones S) ≡ true → in_set S i ≡ false → with_head n S i ≡ M → (leb 3 (ones M) && part_of n M S) ≡ true
-  from_part i hs h l out e =
-      let in_m : in_set M i ≡ true = ap (λ (T : ℕ). in_set T i) (sym e) ∙ has n S i h in
-      let back : S ≡ without_head n M i = without_with_it n S i hs out ∙ ap (λ (T : ℕ). without_head n T i) e in
-      let same : ones (with_head n S i) ≡ ones M = ap ones e in
-      ap₂ ◌&&◌ (le-leb 3 (ones M) (omega (arith, leb-true 2 (ones S) l, ones_more n S i hs h out, same)))
-      (some_of n (λ j. eqb S (without_head n M j) && in_set M j) i h (ap₂ ◌&&◌ (eq-eqb S (without_head n M i) back) in_m))
-
-  pub part_of_is : S < 2 ^ n → M < 2 ^ n → is_part n (λ T. eqb T M) S ≡ (leb 3 (ones M) && part_of n M S)
+module _ (n S : ℕ) where
+  -- of one mask
+  pub part_of_is : (M : ℕ) → S < 2 ^ n → M < 2 ^ n → is_part n (λ T. eqb T M) S ≡ (leb 3 (ones M) && part_of n M S)
   unfolding is_part
-  part_of_is hs hm =
-      same_truth (is_part n (λ T. eqb T M) S) (leb 3 (ones M) && part_of n M S)
-      (λ e. let two = and_both (leb 2 (ones S)) (some n (λ i. not (in_set S i) && eqb (with_head n S i) M)) e in
-      some_then n (λ i. not (in_set S i) && eqb (with_head n S i) M) (leb 3 (ones M) && part_of n M S)
-      (λ i h k. let three = and_both (not (in_set S i)) (eqb (with_head n S i) M) k in
-      from_part i hs h two.0 (not_yes (in_set S i) three.0) (eqb-true (with_head n S i) M three.1)) two.1)
-      (λ e. let two = and_both (leb 3 (ones M)) (part_of n M S) e in
-      some_then n (λ i. eqb S (without_head n M i) && in_set M i) (is_part n (λ T. eqb T M) S)
-      (λ i h k. let three = and_both (eqb S (without_head n M i)) (in_set M i) k in
-      to_part i hm h two.0 (eqb-true S (without_head n M i) three.0) three.1) two.1)
+  part_of_is M hs hm =
+      some_and n _ _
+      ∙ some_cong n _ _ (λ i h. grind (arith, nat_tests, with_or_without n S M i hs hm h, ones_more n S i hs h))
+      ∙ sym (some_and n _ _)
 
   -- with a head more it is a mask of n heads, and so not M
-  pub part_past : 2 ^ n ≤ M → is_part n (λ T. eqb T M) S ≡ false
+  pub part_past : (M : ℕ) → 2 ^ n ≤ M → is_part n (λ T. eqb T M) S ≡ false
   unfolding is_part
-  part_past h =
-      and_no (leb 2 (ones S)) (some n (λ i. not (in_set S i) && eqb (with_head n S i) M))
-      (some_none n (λ i. not (in_set S i) && eqb (with_head n S i) M)
-      (λ i k. and_no (not (in_set S i)) (eqb (with_head n S i) M)
-      (ne_eqb (with_head n S i) M (λ e. omega (arith, e, gather_lt n (λ j. in_set S j || eqb j i))))))
+  part_past M h = some_and n _ _ ∙ some_none n _ (λ i k. grind (arith, nat_tests, gather_lt))
 
   -- the mask without a head is one of n heads
-  pub part_of_past : 2 ^ n ≤ S → part_of n M S ≡ false
-  part_of_past h =
-      some_none n (λ i. eqb S (without_head n M i) && in_set M i)
-      (λ i k. ap (λ (b : Bool). b && in_set M i)
-      (ne_eqb S (without_head n M i) (λ e. omega (arith, e, gather_lt n (λ j. in_set M j && not (eqb j i))))))
+  pub part_of_past : (M : ℕ) → 2 ^ n ≤ S → part_of n M S ≡ false
+  part_of_past M h = some_none n _ (λ i k. grind (arith, nat_tests, gather_lt))
 
-module _ (n : ℕ) (f g : ℕ → Bool) (S : ℕ) where
-  -- of masks found by tests that agree on masks of n heads
-  pub part_agree : ((T : ℕ) → T < 2 ^ n → f T ≡ g T) → is_part n f S ≡ is_part n g S
-  unfolding is_part
-  part_agree same =
-      ap (λ (t : Bool). leb 2 (ones S) && t)
-      (some_cong n (λ i. not (in_set S i) && f (with_head n S i)) (λ i. not (in_set S i) && g (with_head n S i))
-      (λ i k. ap (λ (b : Bool). not (in_set S i) && b) (same (with_head n S i) (gather_lt n _))))
+  module _ (f g : ℕ → Bool) where
+    -- of masks found by tests that agree on masks of n heads
+    pub part_agree : ((T : ℕ) → T < 2 ^ n → f T ≡ g T) → is_part n f S ≡ is_part n g S
+    unfolding is_part
+    part_agree same =
+        ap (λ (t : Bool). leb 2 (ones S) && t)
+        (some_cong n _ _ (λ i h. ap (λ (b : Bool). not (in_set S i) && b) (same _ (gather_lt n _))))
 
-  -- of masks found by one of two tests
-  pub part_or : is_part n (λ T. f T || g T) S ≡ (is_part n f S || is_part n g S)
-  unfolding is_part
-  part_or =
-      ap (λ (t : Bool). leb 2 (ones S) && t)
-      (some_cong n (λ i. not (in_set S i) && (f (with_head n S i) || g (with_head n S i)))
-      (λ i. (not (in_set S i) && f (with_head n S i)) || (not (in_set S i) && g (with_head n S i)))
-      (λ i k. and_or (not (in_set S i)) (f (with_head n S i)) (g (with_head n S i)))
-      ∙ some_or n (λ i. not (in_set S i) && f (with_head n S i)) (λ i. not (in_set S i) && g (with_head n S i)))
-      ∙ and_or (leb 2 (ones S)) (some n (λ i. not (in_set S i) && f (with_head n S i))) (some n (λ i. not (in_set S i) && g (with_head n S i)))
+    -- of masks found by one of two tests
+    pub part_or : is_part n (λ T. f T || g T) S ≡ (is_part n f S || is_part n g S)
+    unfolding is_part
+    part_or =
+        some_and n _ _ ∙ some_cong n _ _ (λ i h. grind arith) ∙ some_or n _ _
+        ∙ ap₂ ◌||◌ (sym (some_and n _ _)) (sym (some_and n _ _))
+
+-- ---- the adopters of one point
+
+module _ (n v : ℕ) (l : List ℕ) where
+  mask_or_part_is : v < 2 ^ n → (S : ℕ) → mask_or_part n v S ≡ (eqb S v || (leb 3 (ones v) && part_of n v S))
+  unfolding mask_or_part
+  mask_or_part_is h S = grind (arith, nat_tests, part_of_is n S v, part_of_past n S v)
+
+  -- with its parts, where it has three heads or more
+  pub one_many : v < 2 ^ n → 3 ≤ ones v → marked (part_of n v) (set l v 1) ≡ marked (mask_or_part n v) l
+  one_many h e =
+      marked_is _ l _ (length_marked _ _ ∙ length-set l v 1)
+      (λ S k. grind (arith, nat_tests, length-set {A = ℕ}, marked_at, set_at, mask_or_part_is h S))
+
+  pub one_few : v < 2 ^ n → ones v < 3 → marked (mask_or_part n v) l ≡ set l v 1
+  one_few h e = sym (marked_is _ l _ (length-set l v 1) (λ S k. grind (arith, nat_tests, set_at, mask_or_part_is h S)))
+
+  pub one_past : 2 ^ n ≤ v → marked (mask_or_part n v) l ≡ l
+  unfolding mask_or_part
+  one_past h = sym (marked_none _ l (λ S k. grind (arith, nat_tests, part_past n S v)))
+
+pub ruleset of_one = (one_many, one_few, one_past)
+
+-- ---- the adopters of the first k points
+
+unfoldable pub adopters_to : ℕ → List IntersectionPoint → ℕ → List ℕ → List ℕ
+adopters_to n points k l = marked (adopted n (is_adopters_of (take k points))) l
+
+module _ (n : ℕ) (points : List IntersectionPoint) (k : ℕ) (l : List ℕ) where
+  pub adopters_start : adopters_to n points 0 l ≡ l
+  unfolding adopters_to any is_part
+  adopters_start =
+      sym (marked_none _ l (λ S h. grind (arith, some_none n (λ i. not (in_set S i) && false) (λ i k. grind arith))))
+
+  pub adopters_next : k < length points
+      → marked (mask_or_part n (get_or points k no_point).adopters) (adopters_to n points k l)
+      ≡ adopters_to n points (k + 1) l
+  unfolding adopters_to mask_or_part
+  adopters_next h =
+      let first = is_adopters_of (take k points) in
+      let more : (S : ℕ) → is_adopters_of (take (k + 1) points) S ≡ (first S || eqb S v) =
+      λ S. any_next (λ q. eqb S q.adopters) points k no_point h in
+      marked_again _ _ l
+      ∙ marked_same _ _ l (λ S g. grind (
+        arith,
+        more S,
+        part_agree n S (is_adopters_of (take (k + 1) points)) (λ T. first T || eqb T v) (λ T g. more T),
+        part_or n S first (λ T. eqb T v),
+      ))
+    where
+      v : ℕ
+      v = (get_or points k no_point).adopters
+
+  pub adopters_end : length points ≤ k → adopters_to n points k l ≡ marked (adopted n (is_adopters_of points)) l
+  unfolding adopters_to
+  adopters_end h = rw (take_all k points h) refl
+
+pub ruleset of_points = (adopters_start, adopters_next, adopters_end)

@@ -1,11 +1,11 @@
--- What sets there are for some answers about three or four heads: one list, `examples`, of cases that tell the rules of specs/Sets.antt
--- from the slips that this trade makes. Both sides of each equation are computed.
+-- What sets there are for some answers about three or four heads: one list, `examples`, of cases that tell the rules of
+-- specs/Sets.antt from the slips that this trade makes. Both sides of each equation are computed.
 use Prim.{Unit, tt}
 use Rattle.std.specs.Prelude.{ℕ, Bool, true, false, ◌||◌, List, [], ◌∷◌, ◌≡◌, refl, eqb}
 use Rattle.std.specs.Int.Count.{ones}
-use Rattle.lists.specs.Some.{some, any}
-use Rattle.masks.specs.Mask.{bit, in_set, gather, every}
-use Rattle.sets.specs.Sets.{is_pair, witnessed, is_part, all_pairs, one_in_all, in_level, is_set}
+use Rattle.lists.specs.Some.{any}
+use Rattle.masks.specs.Mask.{in_set, gather, every}
+use Rattle.sets.specs.Sets.{is_set}
 use Rattle.sets.specs.Regions.{is_one_head}
 
 -- the mask is one of these
@@ -48,7 +48,8 @@ examples =
     ∷ (set 3 (7 ∷ []) nobody nobody 5 ≡ true)
     ∷ (set 4 (15 ∷ []) nobody nobody 13 ≡ true)
     ∷ (set 4 (15 ∷ []) nobody nobody 5 ≡ false)
-    -- level by level: all pairs, and head 0 in all others; not where heads 1 and 2 are no pair; not where no head is in all others
+    -- level by level: all pairs, and head 0 in all others; not where heads 1 and 2 are no pair; not where no head is in
+    -- all others
     ∷ (set 3 [] everybody containing_head0 7 ≡ true)
     ∷ (set 3 [] with_head0 containing_head0 7 ≡ false)
     ∷ (set 3 [] everybody nobody 7 ≡ false)
@@ -58,5 +59,5 @@ examples =
     ∷ []
 
 pub worked : All examples
-unfolding any some ones bit in_set gather every is_one_head is_pair witnessed is_part all_pairs one_in_all in_level is_set
+unfolding any ones in_set gather every is_one_head is_set
 worked = (refl, (refl, (refl, (refl, (refl, (refl, (refl, (refl, (refl, (refl, (refl, (refl, (refl, tt)))))))))))))

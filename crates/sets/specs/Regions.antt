@@ -1,5 +1,5 @@
--- The sets of circles and their meeting points, as the Rust's discover_regions finds them: the four questions of specs/Sets.antt, each
--- answered in one place, and the presence bytes.
+-- The sets of circles and their meeting points, as the Rust's discover_regions finds them: the four questions of
+-- specs/Sets.antt, each answered in one place, and the presence bytes.
 use Rattle.std.specs.Prelude.{ℕ, ◌^◌, Bool, ◌&&◌, ◌||◌, List, eqb, length, replicate}
 use Rattle.geometry.specs.Circle.{contains}
 use Rattle.geometry.specs.declared.circle.Circle.{Circle}
@@ -34,7 +34,9 @@ contains_at circles i j = contains (circle_at circles i) (circle_at circles j)
 
 -- The mask S is among the sets of these circles.
 abbrev pub in_regions : List Circle → List IntersectionPoint → ℕ → Bool
-in_regions circles points S = is_set (length circles) (is_one_head (length circles)) (is_adopters_of points) (meets_at points) (contains_at circles) S
+in_regions circles points S =
+    is_set (length circles) (is_one_head (length circles)) (is_adopters_of points) (meets_at points)
+    (contains_at circles) S
 
 -- The presence bytes: byte S for each mask S of the heads, and 0 beyond.
 abbrev pub set_bytes : List Circle → List IntersectionPoint → List ℕ

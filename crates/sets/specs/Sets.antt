@@ -1,6 +1,7 @@
--- Which masks are among the sets of n heads: document 01, "Sets (`discover_regions`)", phase by phase. Each phase says of one mask S of n
--- heads whether it is there, so that no order of visiting enters. Four questions are asked of the heads, and any answers will do: is S a
--- single, is S the adopters of a meeting point, do two heads meet, does one contain another. specs/Regions.antt has the answers of circles.
+-- Which masks are among the sets of n heads: document 01, "Sets (`discover_regions`)", phase by phase. Each phase says
+-- of one mask S of n heads whether it is there, so that no order of visiting enters. Four questions are asked of the
+-- heads, and any answers will do: is S a single, is S the adopters of a meeting point, do two heads meet, does one
+-- contain another. specs/Regions.antt has the answers of circles.
 use Prim.Native.Nat.{ℕ, zero, suc, ◌-◌}
 use Rattle.std.specs.Prelude.{Bool, ◌&&◌, ◌||◌, leb}
 use Rattle.std.proofs.Math.Bool.{not}
@@ -61,13 +62,15 @@ unfolding some
 one_in_all n containing S = some n (λ i. in_set S i && subset n (without_head n S i) (containing i))
 
 module _ (n : ℕ) (found : ℕ → Bool) (overlapping containing : ℕ → ℕ) where
-  -- The first level is the pairs found. A level more has new masks only, as in the Rust: not found before the levels, and a mask of the level
-  -- below with one head more.
+  -- The first level is the pairs found. A level more has new masks only, as in the Rust: not found before the levels,
+  -- and a mask of the level below with one head more.
   unfoldable pub in_level : ℕ → ℕ → Bool
   unfolding some all_pairs one_in_all
   in_level zero S = eqb (ones S) 2 && found S
   in_level (suc d) S =
-      not (found S) && (all_pairs n overlapping S && (one_in_all n containing S && some n (λ i. in_set S i && in_level d (without_head n S i))))
+      not (found S)
+      && (all_pairs n overlapping S
+      && (one_in_all n containing S && some n (λ i. in_set S i && in_level d (without_head n S i))))
 
   -- in the level of its number of heads
   abbrev pub joined : ℕ → Bool

@@ -1,22 +1,25 @@
 // Which masks are among the sets of circles (the Rust's discover_regions), as presence bytes: the byte of mask S stands
 // at index S. Rests on specs/Sets.antt and specs/Regions.antt.
-ghost use Rattle.std.specs.Prelude.{◌≡◌, take};
-ghost use Rattle.intersections.specs.Counted.{point_list};
+ghost use Rattle.std.specs.Prelude.{◌≡◌};
 ghost use Rattle.sets.specs.Regions.{set_bytes};
 
 use crate::heads::Heads;
 use crate::levels::Levels;
-use geometry::circle::Circle;
-use intersections::points::Intersections;
+use geometry::circle::Circles;
+use intersections::points::IntersectionPoint;
 
-// The sets of the first n_sets circles, of which these are the meeting points.
-pub fn discover_regions(circles: [Circle; 10], points: Intersections, n_sets: usize) -> [u8; 1024]
-    ensures { result ≡ set_bytes (take n_sets circles) (point_list points) }
+// The sets of the circles, of which these are the meeting points.
+pub fn discover_regions(circles: &Circles, points: &[IntersectionPoint]) -> [u8; 1024]
+    ensures { result ≡ set_bytes circles.now.items points.now }
 {
-    let heads = Heads { n: n_sets.min(10) };
+    // The list has ten at most. `min` says so to the compiler: without it, it vectorises the loops over so few heads, and
+    // plans with many meeting points take longer.
+    let heads = Heads {
+        n: circles.len().min(10),
+    };
     let mut found = [0u8; 1024];
     let meeting = heads.add_points(&mut found, points);
-    let containing = heads.containing_heads(&circles[..heads.n]);
+    let containing = heads.containing_heads(circles);
     heads.add_pairs(&mut found, &meeting, &containing);
     heads.add_singles(&mut found);
     let twice = heads.twice_contained(&containing);

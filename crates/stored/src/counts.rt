@@ -8,6 +8,7 @@ use std::io;
 use std::io::Write;
 
 // How many lines were read, by letter and in all, and on how many of them an answer differs.
+// By letter in an array, which needs no heap.
 #[derive(Clone, Copy)]
 pub struct Counts {
     pub by_letter: [u64; 128],
@@ -34,14 +35,14 @@ impl Counts {
         }
     }
 
-    // One line more. One that differs is named.
+    // One line more. One that differs is named: whether it agrees is all that is known of it here.
     pub fn count<W: Write>(&mut self, out: &mut W, letter: u8, agrees: bool) -> io::Result<()>
         ensures counted { self.new ≡ counted self.old letter agrees }
         ensures told { OnOk result (Appends (W.contents out.old) (W.contents out.new) (told self.old agrees)) }
     {
         self.lines = self.lines.wrapping_add(1);
         if letter < 128 {
-            let at = letter as usize;
+            let at = usize::from(letter);
             self.by_letter[at] = self.by_letter[at].wrapping_add(1);
         }
         if agrees {
@@ -56,7 +57,11 @@ impl Counts {
         ensures { OnOk result (Appends (W.contents out.old) (W.contents out.new)
             (decimal (get_or self.now.by_letter letter 0) ++ 32 ∷ what.now ++ 10 ∷ [])) }
     {
-        let n = self.by_letter.get(letter as usize).copied().unwrap_or(0);
+        let n = self
+            .by_letter
+            .get(usize::from(letter))
+            .copied()
+            .unwrap_or(0);
         writeln!(out, "{n} {what}")
     }
 

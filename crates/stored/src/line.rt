@@ -4,6 +4,7 @@ ghost use Rattle.stored.specs.Line.{digit, begun, fed, letter};
 
 // Place 0 has the code of the line's letter, the places from 1 on its numbers. `last` is the place of the last
 // one so far: it stays at 39, if there are more than that.
+// `last`, since the last number grows digit by digit, and a number that the line lacks is 0.
 #[derive(Clone, Copy)]
 pub struct Line {
     pub words: [u64; 40],
@@ -15,9 +16,9 @@ fn digit(b: u8) -> u64
     ensures { result ≡ digit b }
 {
     match b {
-        b'0'..=b'9' => (b - b'0') as u64,
-        b'A'..=b'F' => (b - b'A' + 10) as u64,
-        _ => b as u64,
+        b'0'..=b'9' => u64::from(b - b'0'),
+        b'A'..=b'F' => u64::from(b - b'A' + 10),
+        _ => u64::from(b),
     }
 }
 
@@ -40,7 +41,7 @@ impl Line {
         if b == b' ' {
             self.last = if at < 39 { at + 1 } else { at };
         } else if at == 0 {
-            self.words[0] = self.words[0] << 8 | b as u64;
+            self.words[0] = self.words[0] << 8 | u64::from(b);
         } else if at < 40 {
             self.words[at] = self.words[at] << 4 | digit(b);
         }

@@ -51,19 +51,24 @@ module _ (circles : List Circle) (S j : ℕ) where
   around first (a ∷ []) g n h k = up_to_one g ∙ k 0 refl
   around first (a ∷ (b ∷ rest)) g n h k =
       up_to_front g (length (b ∷ rest))
-      ∙ ap₂ ◌++◌ (h 0 (omega arith)) (around first (b ∷ rest) (λ i. g (suc i)) (omega arith) (λ i e. h (suc i) (omega arith)) (λ i e. k (suc i) (ap suc e)))
+      ∙ ap₂ ◌++◌ (h 0 (omega arith))
+      (around first (b ∷ rest) (λ i. g (suc i)) (omega arith) (λ i e. h (suc i) (omega arith))
+      (λ i e. k (suc i) (ap suc e)))
 
 -- ---- the arcs of one member
 
-numbered_between : (heads : List ℕ) (k : ℕ) (c : Circle) (a d : Float) → numbered heads (between k c a d) ≡ between (get_or heads k 0) c a d
+numbered_between : (heads : List ℕ) (k : ℕ) (c : Circle) (a d : Float)
+    → numbered heads (between k c a d) ≡ between (get_or heads k 0) c a d
 unfolding numbered between
 numbered_between heads k c a d = refl
 
-pub numbered_whole : (heads : List ℕ) (k : ℕ) (c : Circle) → numbered heads (full_circle k c) ≡ full_circle (get_or heads k 0) c
+pub numbered_whole : (heads : List ℕ) (k : ℕ) (c : Circle)
+    → numbered heads (full_circle k c) ≡ full_circle (get_or heads k 0) c
 unfolding numbered full_circle
 numbered_whole heads k c = refl
 
-map_one : {A B : Type 0} (f : A → B) (x : A) (y : B) (b : Bool) → f x ≡ y → map f (cond b (x ∷ []) []) ≡ cond b (y ∷ []) []
+map_one : {A B : Type 0} (f : A → B) (x : A) (y : B) (b : Bool) → f x ≡ y
+    → map f (cond b (x ∷ []) []) ≡ cond b (y ∷ []) []
 map_one f x y true e = ap (λ z. z ∷ []) e
 map_one f x y false e = refl
 
@@ -81,15 +86,18 @@ module _ (circles : List Circle) (S j : ℕ) (in-S : in_set S j ≡ true) (below
   -- one gap
   gap_numbered : (a b : Float)
       → map (numbered heads)
-      (cond (not (collapsed (gap a b)) && owned (rank S j) (point_at (circle_at circles j) (a +ᶠ gap a b *ᶠ half64)) theirs)
+      (cond (not (collapsed (gap a b)) && owned (rank S j) (point_at (circle_at circles j) (a +ᶠ gap a b *ᶠ half64))
+      theirs)
       (between (rank S j) (circle_at circles j) a (gap a b) ∷ []) [])
       ≡ gap_in circles S j a b
   unfolding gap_in is_arc midpoint theirs
   gap_numbered a b =
       rw (owned_is circles S j (point_at (circle_at circles j) (a +ᶠ gap a b *ᶠ half64)) in-S)
-      (map_one (numbered heads) (between (rank S j) (circle_at circles j) a (gap a b)) (between j (circle_at circles j) a (gap a b))
+      (map_one (numbered heads) (between (rank S j) (circle_at circles j) a (gap a b))
+      (between j (circle_at circles j) a (gap a b))
       (not (collapsed (gap a b)) && owned_in circles S j (point_at (circle_at circles j) (a +ᶠ gap a b *ᶠ half64)))
-      (numbered_between heads (rank S j) (circle_at circles j) a (gap a b) ∙ ap (λ k. between k (circle_at circles j) a (gap a b)) at_rank))
+      (numbered_between heads (rank S j) (circle_at circles j) a (gap a b)
+      ∙ ap (λ k. between k (circle_at circles j) a (gap a b)) at_rank))
 
   arc_numbered : (phis : List Float) (i : ℕ)
       → map (numbered heads) (arc_from theirs (rank S j) (circle_at circles j) phis i)
@@ -101,13 +109,21 @@ module _ (circles : List Circle) (S j : ℕ) (in-S : in_set S j ≡ true) (below
       → map (numbered heads) (up_to (arc_from theirs (rank S j) (circle_at circles j) (a ∷ rest)) (length (a ∷ rest)))
       ≡ gaps_in circles S j a (a ∷ rest)
   gaps_numbered a rest =
-      up_to_through (map (numbered heads)) refl (map-append (numbered heads)) (arc_from theirs (rank S j) (circle_at circles j) (a ∷ rest)) (length (a ∷ rest))
-      ∙ around circles S j a (a ∷ rest) (λ i. map (numbered heads) (arc_from theirs (rank S j) (circle_at circles j) (a ∷ rest) i)) (omega arith)
-      (λ i h. arc_numbered (a ∷ rest) i ∙ ap (λ n. gap_in circles S j (get_or (a ∷ rest) i nan) (get_or (a ∷ rest) n nan)) (next_is i (length (a ∷ rest)) h))
-      (λ i h. arc_numbered (a ∷ rest) i ∙ ap (λ n. gap_in circles S j (get_or (a ∷ rest) i nan) (get_or (a ∷ rest) n nan)) (last_is i (length (a ∷ rest)) h))
+      up_to_through (map (numbered heads)) refl (map-append (numbered heads))
+      (arc_from theirs (rank S j) (circle_at circles j) (a ∷ rest)) (length (a ∷ rest))
+      ∙ around circles S j a (a ∷ rest)
+      (λ i. map (numbered heads) (arc_from theirs (rank S j) (circle_at circles j) (a ∷ rest) i)) (omega arith)
+      (λ i h. arc_numbered (a ∷ rest) i
+      ∙ ap (λ n. gap_in circles S j (get_or (a ∷ rest) i nan) (get_or (a ∷ rest) n nan))
+      (next_is i (length (a ∷ rest)) h))
+      (λ i h. arc_numbered (a ∷ rest) i
+      ∙ ap (λ n. gap_in circles S j (get_or (a ∷ rest) i nan) (get_or (a ∷ rest) n nan))
+      (last_is i (length (a ∷ rest)) h))
 
   whole_numbered :
-      map (numbered heads) (cond (owned (rank S j) (probe (circle_at circles j)) theirs) (full_circle (rank S j) (circle_at circles j) ∷ []) [])
+      map (numbered heads)
+      (cond (owned (rank S j) (probe (circle_at circles j)) theirs)
+      (full_circle (rank S j) (circle_at circles j) ∷ []) [])
       ≡ whole_in circles S j
   unfolding whole_in theirs
   whole_numbered =
@@ -116,14 +132,16 @@ module _ (circles : List Circle) (S j : ℕ) (in-S : in_set S j ≡ true) (below
       (owned_in circles S j (probe (circle_at circles j)))
       (numbered_whole heads (rank S j) (circle_at circles j) ∙ ap (λ k. full_circle k (circle_at circles j)) at_rank))
 
-  member_numbered : (phis : List Float) → map (numbered heads) (arcs_at theirs (rank S j) (circle_at circles j) phis) ≡ head_in circles S j phis
+  member_numbered : (phis : List Float)
+      → map (numbered heads) (arcs_at theirs (rank S j) (circle_at circles j) phis) ≡ head_in circles S j phis
   unfolding arcs_at head_in
   member_numbered [] = whole_numbered
   member_numbered (a ∷ rest) = gaps_numbered a rest
 
   -- the arcs of head j as a member of S
   pub head_numbered : (phis : List Float)
-      → map (numbered (heads_of (length circles) S)) (arcs_at (map (circle_at circles) (heads_of (length circles) S)) (rank S j) (circle_at circles j) phis)
+      → map (numbered (heads_of (length circles) S))
+      (arcs_at (map (circle_at circles) (heads_of (length circles) S)) (rank S j) (circle_at circles j) phis)
       ≡ head_in circles S j phis
   unfolding heads theirs
   head_numbered = member_numbered

@@ -10,7 +10,6 @@ use borrow.Author.Tests.{eqb-true, eqb-false}
 use lib.Dec.{eqb, ltb}
 use lib.Count.{ones, count_trailing_zeros}
 use lib.ListN.{length, get_or, length-append, length-map}
-use lib.Ieee.{Float}
 use Rattle.masks.specs.Mask.{in_set, bit, size, Subset}
 use Rattle.masks.specs.Operations.{one_of_in, zero_of_in}
 use Rattle.masks.specs.Size.{ones_size}
@@ -24,26 +23,33 @@ use Rattle.intersections.proofs.Gathering.{single_heads}
 use Rattle.boundary.specs.Outline.{angles_of, arcs_at, full_circle, outline_from, outline}
 use Rattle.boundary.specs.Set.{numbered}
 use Rattle.outline.proofs.Walking.{circles_of_members, members_many}
-use Rattle.boundary.specs.Marks.{Mark}
-use Rattle.sums.specs.Marks.{marks_at, angles_in}
-use Rattle.sums.specs.Walk.{rank, Few, marks_in, head_in, part_in, heads_in, arcs_by, Ready, Marked}
+use Rattle.boundary.specs.declared.sort.Mark.{Mark}
+use Rattle.gaps.specs.Marks.{marks_at, angles_in}
+use Rattle.sums.specs.declared.pass.Pass.{Pass}
+use Rattle.sums.specs.Walk.{rank, marks_of, head_in, part_in, heads_in, arcs_by, outline_arcs}
+use Rattle.gaps.specs.Marks.{Few}
 use Rattle.sums.proofs.Sorting.{angles-in}
 use Rattle.chords.proofs.Heads.{heads_with, heads_without}
 use Rattle.sums.proofs.Gaps.{head_numbered, numbered_whole}
+use Rattle.sums.proofs.Held.{marks_held}
+use Rattle.sums.proofs.Walking.{set_below}
 
 -- the marks of each head
-abbrev pub marks_of : List Circle → List IntersectionPoint → ℕ → List Mark
-marks_of circles points j = marks_at (circle_at circles j) j points
+abbrev pub marks_for : List Circle → List IntersectionPoint → ℕ → List Mark
+marks_for circles points j = marks_at (circle_at circles j) j points
 
-outline_append : (cs : List Circle) (k : ℕ) (a b : List Member) → outline_from cs k (a ++ b) ≡ outline_from cs k a ++ outline_from cs (k + length a) b
+outline_append : (cs : List Circle) (k : ℕ) (a b : List Member)
+    → outline_from cs k (a ++ b) ≡ outline_from cs k a ++ outline_from cs (k + length a) b
 unfolding outline_from
 outline_append cs k [] b = ap (λ n. outline_from cs n b) (omega arith)
 outline_append cs k (m ∷ a) b =
     ap (λ t. arcs_at cs k m.circle (angles_of m) ++ t)
     (outline_append cs (suc k) a b ∙ ap (λ n. outline_from cs (suc k) a ++ outline_from cs n b) (omega arith))
-    ∙ sym (append_assoc (arcs_at cs k m.circle (angles_of m)) (outline_from cs (suc k) a) (outline_from cs (k + suc (length a)) b))
+    ∙ sym (append_assoc (arcs_at cs k m.circle (angles_of m)) (outline_from cs (suc k) a)
+    (outline_from cs (k + suc (length a)) b))
 
-outline_single : (cs : List Circle) (k : ℕ) (m : Member) → outline_from cs k (m ∷ []) ≡ arcs_at cs k m.circle (angles_of m)
+outline_single : (cs : List Circle) (k : ℕ) (m : Member)
+    → outline_from cs k (m ∷ []) ≡ arcs_at cs k m.circle (angles_of m)
 unfolding outline_from
 outline_single cs k m = append-nil (arcs_at cs k m.circle (angles_of m))
 
@@ -70,7 +76,8 @@ module _ (circles : List Circle) (points : List IntersectionPoint) (S : ℕ) (fe
   members_to : ℕ → List Member
   members_to n = map (member_at circles points S) (heads_of n S)
 
-  member_angles : (j : ℕ) → j < length circles → angles_of (member_at circles points S j) ≡ angles_in S (marks_of circles points j)
+  member_angles : (j : ℕ) → j < length circles
+      → angles_of (member_at circles points S j) ≡ angles_in S (marks_for circles points j)
   unfolding angles_of member_at
   member_angles j h = sym (angles-in (circle_at circles j) S j points (few j h))
 
@@ -80,14 +87,16 @@ module _ (circles : List Circle) (points : List IntersectionPoint) (S : ℕ) (fe
 
   outline_next : (n : ℕ) → in_set S n ≡ true
       → outline_from theirs 0 (members_to (suc n))
-      ≡ outline_from theirs 0 (members_to n) ++ arcs_at theirs (rank S n) (circle_at circles n) (angles_of (member_at circles points S n))
+      ≡ outline_from theirs 0 (members_to n) ++ arcs_at theirs (rank S n) (circle_at circles n)
+      (angles_of (member_at circles points S n))
   unfolding members_to
   outline_next n e =
       ap (λ t. outline_from theirs 0 (map (member_at circles points S) t)) (heads_with S n e)
       ∙ ap (outline_from theirs 0) (map-append (member_at circles points S) (heads_of n S) (n ∷ []))
       ∙ outline_append theirs 0 (map (member_at circles points S) (heads_of n S)) (member_at circles points S n ∷ [])
       ∙ ap (λ t. outline_from theirs 0 (map (member_at circles points S) (heads_of n S)) ++ t)
-      (ap (λ m. outline_from theirs m (member_at circles points S n ∷ [])) (omega (arith, length-map (heads_of n S) (member_at circles points S)))
+      (ap (λ m. outline_from theirs m (member_at circles points S n ∷ []))
+      (omega (arith, length-map (heads_of n S) (member_at circles points S)))
       ∙ outline_single theirs (rank S n) (member_at circles points S n)
       ∙ ap (λ c. arcs_at theirs (rank S n) c (angles_of (member_at circles points S n))) (member_circle n))
 
@@ -96,38 +105,46 @@ module _ (circles : List Circle) (points : List IntersectionPoint) (S : ℕ) (fe
   none_listed = refl
 
   next_listed : (n : ℕ) → n < length circles → in_set S n ≡ true
-      → map (numbered heads) (arcs_at theirs (rank S n) (circle_at circles n) (angles_of (member_at circles points S n)))
-      ≡ head_in circles S n (angles_in S (marks_of circles points n))
+      → map (numbered heads)
+      (arcs_at theirs (rank S n) (circle_at circles n) (angles_of (member_at circles points S n)))
+      ≡ head_in circles S n (angles_in S (marks_for circles points n))
   unfolding heads theirs
   next_listed n h e =
       ap (λ phis. map (numbered (heads_of (length circles) S))
       (arcs_at (map (circle_at circles) (heads_of (length circles) S)) (rank S n) (circle_at circles n) phis))
       (member_angles n h)
-      ∙ head_numbered circles S n e h (angles_in S (marks_of circles points n))
+      ∙ head_numbered circles S n e h (angles_in S (marks_for circles points n))
 
-  heads_listed : (n : ℕ) → n ≤ length circles → map (numbered heads) (outline_from theirs 0 (members_to n)) ≡ up_to (part_in circles (marks_of circles points) S) n
+  heads_listed : (n : ℕ) → n ≤ length circles
+      → map (numbered heads) (outline_from theirs 0 (members_to n))
+      ≡ up_to (part_in circles (marks_for circles points) S) n
   unfolding part_in members_to up_to
   heads_listed zero h = none_listed
   heads_listed (suc n) h = by (in_set S n) refl (heads_listed n (omega arith))
     where
-      by : (b : Bool) → in_set S n ≡ b → map (numbered heads) (outline_from theirs 0 (members_to n)) ≡ up_to (part_in circles (marks_of circles points) S) n
+      by : (b : Bool) → in_set S n ≡ b
+          → map (numbered heads) (outline_from theirs 0 (members_to n))
+          ≡ up_to (part_in circles (marks_for circles points) S) n
           → map (numbered heads) (outline_from theirs 0 (members_to (suc n)))
-          ≡ up_to (part_in circles (marks_of circles points) S) n ++ cond b (head_in circles S n (angles_in S (marks_of circles points n))) []
+          ≡ up_to (part_in circles (marks_for circles points) S) n ++ cond b
+          (head_in circles S n (angles_in S (marks_for circles points n))) []
       by true e r =
           ap (map (numbered heads)) (outline_next n e)
           ∙ map-append (numbered heads) (outline_from theirs 0 (members_to n))
           (arcs_at theirs (rank S n) (circle_at circles n) (angles_of (member_at circles points S n)))
           ∙ ap₂ ◌++◌ r (next_listed n h e)
       by false e r =
-          ap (λ t. map (numbered heads) (outline_from theirs 0 (map (member_at circles points S) t))) (heads_without S n e)
-          ∙ r ∙ sym (append-nil (up_to (part_in circles (marks_of circles points) S) n))
+          ap (λ t. map (numbered heads) (outline_from theirs 0 (map (member_at circles points S) t)))
+          (heads_without S n e)
+          ∙ r ∙ sym (append-nil (up_to (part_in circles (marks_for circles points) S) n))
 
 heads_size : (n S : ℕ) → length (heads_of n S) ≡ size n S
 unfolding heads_of up_to size
 heads_size zero S = refl
 heads_size (suc n) S = by (in_set S n) refl (heads_size n S)
   where
-    by : (b : Bool) → in_set S n ≡ b → length (heads_of n S) ≡ size n S → length (heads_of n S ++ cond b (n ∷ []) []) ≡ size n S + bit S n
+    by : (b : Bool) → in_set S n ≡ b → length (heads_of n S) ≡ size n S
+        → length (heads_of n S ++ cond b (n ∷ []) []) ≡ size n S + bit S n
     by true e r = omega (arith, length-append (heads_of n S) (n ∷ []), one_of_in S n e)
     by false e r = omega (arith, ap length (append-nil (heads_of n S)), zero_of_in S n e)
 
@@ -149,7 +166,8 @@ module _ (circles : List Circle) (points : List IntersectionPoint) (S : ℕ) (be
   many = members_many circles points S ∙ heads_size (length circles) S ∙ sym (ones_size (length circles) S below)
 
   others_listed : Few circles points → (ones S ≡ 1 → ⊥)
-      → heads_in circles (marks_of circles points) S (length circles) ≡ map (numbered (heads_of (length circles) S)) (outline (members_of circles points S))
+      → heads_in circles (marks_for circles points) S (length circles)
+      ≡ map (numbered (heads_of (length circles) S)) (outline (members_of circles points S))
   unfolding heads_in members_of heads theirs members_to
   others_listed few h =
       rw (outline_other (members_of circles points S) (λ e. h (sym many ∙ e)), circles_of_members circles points S)
@@ -159,47 +177,55 @@ module _ (circles : List Circle) (points : List IntersectionPoint) (S : ℕ) (be
       → full_circle (count_trailing_zeros 64 S) (circle_at circles (count_trailing_zeros 64 S)) ∷ []
       ≡ map (numbered (heads_of (length circles) S)) (outline (members_of circles points S))
   single_listed most e =
-      rw (outline_one (members_of circles points S) (many ∙ e), circles_of_members circles points S, single_head (length circles) S most below e)
-      (ap (λ a. a ∷ []) (sym (numbered_whole (count_trailing_zeros 64 S ∷ []) 0 (circle_at circles (count_trailing_zeros 64 S)))))
+      rw (
+        outline_one (members_of circles points S) (many ∙ e),
+        circles_of_members circles points S,
+        single_head (length circles) S most below e,
+      )
+      (ap (λ a. a ∷ []) (sym
+      (numbered_whole (count_trailing_zeros 64 S ∷ []) 0 (circle_at circles (count_trailing_zeros 64 S)))))
 
-  -- the arcs of S by the marks of its heads are those of its outline, under head numbers. The empty set has none in either form.
+  -- the arcs of S by the marks of its heads are those of its outline, under head numbers. The empty set has none in
+  -- either form.
   pub arcs_are : Few circles points → length circles ≤ 64
-      → arcs_by circles (marks_of circles points) S ≡ map (numbered (heads_of (length circles) S)) (outline (members_of circles points S))
+      → arcs_by circles (marks_for circles points) S
+      ≡ map (numbered (heads_of (length circles) S)) (outline (members_of circles points S))
   unfolding arcs_by
   arcs_are few most = by (eqb (ones S) 1) refl
     where
       by : (b : Bool) → eqb (ones S) 1 ≡ b
-          → cond b (full_circle (count_trailing_zeros 64 S) (circle_at circles (count_trailing_zeros 64 S)) ∷ []) (heads_in circles (marks_of circles points) S (length circles))
+          → cond b (full_circle (count_trailing_zeros 64 S) (circle_at circles (count_trailing_zeros 64 S)) ∷ [])
+          (heads_in circles (marks_for circles points) S (length circles))
           ≡ map (numbered (heads_of (length circles) S)) (outline (members_of circles points S))
       by true e = single_listed most (eqb-true (ones S) 1 e)
       by false e = others_listed few (eqb-false (ones S) 1 e)
 
 -- only the marks of the heads of S are looked at
-part_same : (circles : List Circle) (f g : ℕ → List Mark) (S j : ℕ) → (in_set S j ≡ true → f j ≡ g j) → part_in circles f S j ≡ part_in circles g S j
+part_same : (circles : List Circle) (f g : ℕ → List Mark) (S j : ℕ) → (in_set S j ≡ true → f j ≡ g j)
+    → part_in circles f S j ≡ part_in circles g S j
 unfolding part_in
 part_same circles f g S j h = by (in_set S j) refl
   where
-    by : (b : Bool) → in_set S j ≡ b → cond b (head_in circles S j (angles_in S (f j))) [] ≡ cond b (head_in circles S j (angles_in S (g j))) []
+    by : (b : Bool) → in_set S j ≡ b
+        → cond b (head_in circles S j (angles_in S (f j))) [] ≡ cond b (head_in circles S j (angles_in S (g j))) []
     by true e = ap (λ l. head_in circles S j (angles_in S l)) (h e)
     by false e = refl
 
-pub arcs_same : (circles : List Circle) (f g : ℕ → List Mark) (S : ℕ) → ((j : ℕ) → j < length circles → in_set S j ≡ true → f j ≡ g j)
+pub arcs_same : (circles : List Circle) (f g : ℕ → List Mark) (S : ℕ)
+    → ((j : ℕ) → j < length circles → in_set S j ≡ true → f j ≡ g j)
     → arcs_by circles f S ≡ arcs_by circles g S
 unfolding arcs_by heads_in
 arcs_same circles f g S h =
-    ap (cond (eqb (ones S) 1) (full_circle (count_trailing_zeros 64 S) (circle_at circles (count_trailing_zeros 64 S)) ∷ []))
+    ap (cond (eqb (ones S) 1)
+    (full_circle (count_trailing_zeros 64 S) (circle_at circles (count_trailing_zeros 64 S)) ∷ []))
     (up_to_cong (part_in circles f S) (part_in circles g S) (length circles) (λ j k. part_same circles f g S j (h j k)))
 
--- what the walk round S asks, of arrays filled for more heads
-pub ready_within : (circles : List Circle) (points : List IntersectionPoint) (needed S : ℕ) (counts owners : List ℕ) (phi : List Float) (adopters lets : List ℕ)
-    → Marked circles points needed (length circles) counts owners phi adopters lets → Subset S needed → Ready circles S counts owners phi lets
-ready_within circles points needed S counts owners phi adopters lets m sub j h i = m.ready j h (subset_head S needed sub j i)
-
--- and the arcs that it gives are those of the outline
-pub marked_arcs : (circles : List Circle) (points : List IntersectionPoint) (needed S : ℕ) (counts owners : List ℕ) (phi : List Float) (adopters lets : List ℕ)
-    → Marked circles points needed (length circles) counts owners phi adopters lets → Subset S needed → S < 2 ^ length circles → Few circles points
-    → length circles ≤ 64
-    → arcs_by circles (marks_in counts phi adopters) S ≡ map (numbered (heads_of (length circles) S)) (outline (members_of circles points S))
-marked_arcs circles points needed S counts owners phi adopters lets m sub below few most =
-    arcs_same circles (marks_in counts phi adopters) (marks_of circles points) S (λ j h i. m.marks j h (subset_head S needed sub j i))
-    ∙ arcs_are circles points S below few most
+-- the arcs that the walk lists are those of the outline
+pub marked_arcs : (pass : Pass) (S : ℕ) → Subset S pass.needed
+    → arcs_by pass.circles.now.items (marks_of pass.heads.now.items) S
+    ≡ outline_arcs pass.circles.now.items pass.points.now S
+marked_arcs pass S within =
+    arcs_same pass.circles.now.items (marks_of pass.heads.now.items)
+    (marks_for pass.circles.now.items pass.points.now) S
+    (λ j h i. marks_held pass j h (subset_head S pass.needed within j i))
+    ∙ arcs_are pass.circles.now.items pass.points.now S (set_below pass S within) pass.few (omega (arith, pass.ten))

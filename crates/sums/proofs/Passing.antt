@@ -1,6 +1,6 @@
 -- All rows of a pass: the heads of the wanted rows, and what is held for these serves each such row.
-use mathlib.Core.Path.{◌≡◌, sym, ap, ◌∙◌}
-use mathlib.Core.Bool.{Bool, true, false, true≢false}
+use mathlib.Core.Path.{◌≡◌, sym, ◌∙◌}
+use mathlib.Core.Bool.{true, false, true≢false}
 use mathlib.Core.List.{List}
 use mathlib.Core.Logic.{⊎_elim}
 use Prim.Native.Nat.{ℕ, ◌+◌, ◌^◌, ◌<◌}
@@ -8,21 +8,16 @@ use native.Mathlib.Nat.{eq-or-lt_of_le, le_of_suc-le-suc}
 use native.Mathlib.Numerals.{add-one}
 use native.Mathlib.Omega.{arith}
 use lib.Bits.{bit_or}
-use lib.Ieee.{Float}
-use Rattle.lists.specs.Written.{written}
 use Rattle.masks.specs.Mask.{Subset}
 use Rattle.masks.specs.Operations.{bit-or, bit_beyond, below_pow}
 use Rattle.masks.specs.Presence.{stands}
-use Rattle.masks.specs.Subset.{subset_head, subset_trans, or_subset_left, or_subset_right}
-use Rattle.geometry.specs.declared.circle.Circle.{Circle}
-use Rattle.sums.specs.Walk.{Ready}
-use Rattle.sums.specs.Rows.{number_at}
-use Rattle.sums.specs.Fast.{OfWanted}
+use Rattle.masks.specs.Subset.{subset_trans, or_subset_left, or_subset_right}
+use Rattle.sums.specs.Fast.{WantedBelow}
 
 -- ---- the heads of the wanted rows
 
 -- the next row too
-pub wanted_next : (wanted : List ℕ) (P : ℕ → Type 0) (m : ℕ) → OfWanted wanted m P → (stands wanted m ≡ true → P m) → OfWanted wanted (m + 1) P
+pub wanted_next : (wanted : List ℕ) (P : ℕ → Type 0) (m : ℕ) → WantedBelow wanted m P → (stands wanted m ≡ true → P m) → WantedBelow wanted (m + 1) P
 wanted_next wanted P m held here S h is =
     ⊎_elim (λ (e : S ≡ m). new S e is) (λ k. held S k is) (eq-or-lt_of_le (le_of_suc-le-suc (rw (add-one m) at h)))
   where
@@ -30,27 +25,14 @@ wanted_next wanted P m held here S h is =
     new S e is = rw e (here (rw e at is))
 
 -- its heads are added
-pub wanted_with : (wanted : List ℕ) (heads m : ℕ) → OfWanted wanted m (λ S. Subset S heads) → OfWanted wanted (m + 1) (λ S. Subset S (bit_or heads m))
+pub wanted_with : (wanted : List ℕ) (heads m : ℕ) → WantedBelow wanted m (λ S. Subset S heads) → WantedBelow wanted (m + 1) (λ S. Subset S (bit_or heads m))
 wanted_with wanted heads m held =
     wanted_next wanted (λ S. Subset S (bit_or heads m)) m (λ S h is. subset_trans S heads (bit_or heads m) (held S h is) (or_subset_left heads m)) (λ is. or_subset_right heads m)
 
 -- it is not wanted
-pub wanted_without : (wanted : List ℕ) (heads m : ℕ) → stands wanted m ≡ false → OfWanted wanted m (λ S. Subset S heads) → OfWanted wanted (m + 1) (λ S. Subset S heads)
+pub wanted_without : (wanted : List ℕ) (heads m : ℕ) → stands wanted m ≡ false → WantedBelow wanted m (λ S. Subset S heads) → WantedBelow wanted (m + 1) (λ S. Subset S heads)
 wanted_without wanted heads m none held = wanted_next wanted (λ S. Subset S heads) m held (λ is. absurd (true≢false (sym is ∙ none)))
 
 -- heads below n stay so
 pub or_below : (n S T : ℕ) → S < 2 ^ n → T < 2 ^ n → bit_or S T < 2 ^ n
 or_below n S T h k = below_pow n (bit_or S T) (λ i l. omega (arith, bit-or S T i, bit_beyond n S i h l, bit_beyond n T i k l))
-
--- ---- what is held for more heads serves fewer
-
-pub ready_less : (circles : List Circle) (needed : ℕ) (counts owners : List ℕ) (phi : List Float) (lets : List ℕ) (S : ℕ) → Subset S needed
-    → Ready circles needed counts owners phi lets → Ready circles S counts owners phi lets
-ready_less circles needed counts owners phi lets S within held j h i = held j h (subset_head S needed within j i)
-
--- ---- what is left, by equal circles and an equal count
-
-pub written_alike : (area : List Circle → ℕ → Float) (wanted : ℕ → Bool) (l : List Float) {cs cs' : List Circle} {k k' : ℕ} {r : List Float}
-    → r ≡ written (number_at wanted (area cs) l) k l → cs ≡ cs' → k ≡ k' → r ≡ written (number_at wanted (area cs') l) k' l
-written_alike area wanted l {cs} {cs'} {k} {k'} e ec ek =
-    e ∙ ap (λ c. written (number_at wanted (area c) l) k l) ec ∙ ap (λ (m : ℕ). written (number_at wanted (area cs') l) m l) ek

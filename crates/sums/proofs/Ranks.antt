@@ -10,20 +10,23 @@ use borrow.Author.Tests.{lt-ltb, le-ltb, ltb-true, ltb-false, eqb-true, eqb-fals
 use lib.Dec.{eqb, ltb}
 use lib.Bits.{bit_and}
 use lib.ListN.{length, get_or, length-append, length-map, get_or-append}
+use lib.Ieee.{Float}
 use lib.Seq.{get_or-append_seam}
-use Rattle.masks.specs.Mask.{in_set, every}
+use Rattle.masks.specs.Mask.{bit, in_set, every}
+use Rattle.masks.specs.Operations.{one_of_in, bit_of_zero}
 use Rattle.masks.specs.Gather.{in_gather}
-use Rattle.masks.specs.Subset.{and_test}
+use Rattle.masks.specs.Subset.{and_test, subset_of_and}
 use Rattle.lists.specs.Lists.{up_to}
 use Rattle.intersections.proofs.Masks.{every_cong}
 use Rattle.geometry.specs.declared.point.Point.{Point}
 use Rattle.geometry.specs.declared.circle.Circle.{Circle}
-use Rattle.boundary.specs.Outline.{lets, owned_from}
+use Rattle.boundary.specs.Outline.{lets, owned_from, gap, collapsed}
 use Rattle.intersections.specs.Members.{heads_of, circle_at}
 use Rattle.chords.proofs.Heads.{heads_suc, heads_with, heads_without}
 use Rattle.gaps.proofs.Owning.{lt_or_eq}
-use Rattle.gaps.specs.Gaps.{owned_in}
-use Rattle.sums.specs.Walk.{rank, letters}
+use Rattle.gaps.specs.Gaps.{owned_in, midpoint, is_arc}
+use Rattle.sums.specs.Walk.{rank}
+use Rattle.gaps.specs.Marks.{letters, gap_letters}
 
 rank_with : (S n : ℕ) → in_set S n ≡ true → rank S (suc n) ≡ suc (rank S n)
 rank_with S n e = ap length (heads_with S n e) ∙ length-append (heads_of n S) (n ∷ []) ∙ omega arith
@@ -58,18 +61,21 @@ rank_eqb S i j e f = by (eqb i j) refl
     apart : (i ≡ j → ⊥) → (b : Bool) → ltb i j ≡ b → rank S i ≡ rank S j → ⊥
     apart n true h g = omega (arith, rank_less S i j e (ltb-true i j h), g)
     apart n false h g =
-        ⊎_elim (λ k. omega (arith, rank_less S j i f k, g)) (λ k. n (sym k)) (lt_or_eq j i (omega (arith, ltb-false i j h)))
+        ⊎_elim (λ k. omega (arith, rank_less S j i f k, g)) (λ k. n (sym k))
+        (lt_or_eq j i (omega (arith, ltb-false i j h)))
 
     by : (b : Bool) → eqb i j ≡ b → eqb (rank S i) (rank S j) ≡ b
     by true h = eq-eqb (rank S i) (rank S j) (ap (rank S) (eqb-true i j h))
     by false h = ne_eqb (rank S i) (rank S j) (apart (eqb-false i j h) (ltb i j) refl)
 
 -- positions in a set are in order as head numbers are
-lets_rank : (S k l : ℕ) (p : Point) (c : Circle) → in_set S k ≡ true → in_set S l ≡ true → lets (rank S k) p (rank S l) c ≡ lets k p l c
+lets_rank : (S k l : ℕ) (p : Point) (c : Circle) → in_set S k ≡ true → in_set S l ≡ true
+    → lets (rank S k) p (rank S l) c ≡ lets k p l c
 unfolding lets
 lets_rank S k l p c e f = rw (rank_eqb S l k f e, rank_ltb S l k f)
 
-owned_append : (k : ℕ) (p : Point) (l : ℕ) (a b : List Circle) → owned_from k p l (a ++ b) ≡ (owned_from k p l a && owned_from k p (l + length a) b)
+owned_append : (k : ℕ) (p : Point) (l : ℕ) (a b : List Circle)
+    → owned_from k p l (a ++ b) ≡ (owned_from k p l a && owned_from k p (l + length a) b)
 unfolding owned_from
 owned_append k p l [] b = ap (λ n. owned_from k p n b) (omega arith)
 owned_append k p l (c ∷ a) b = by (lets k p l c) (owned_append k p (suc l) a b)
@@ -77,8 +83,10 @@ owned_append k p l (c ∷ a) b = by (lets k p l c) (owned_append k p (suc l) a b
     same : suc l + length a ≡ l + suc (length a)
     same = omega arith
 
-    by : (t : Bool) → owned_from k p (suc l) (a ++ b) ≡ (owned_from k p (suc l) a && owned_from k p (suc l + length a) b)
-        → (t && owned_from k p (suc l) (a ++ b)) ≡ ((t && owned_from k p (suc l) a) && owned_from k p (l + suc (length a)) b)
+    by : (t : Bool) → owned_from k p (suc l) (a ++ b)
+        ≡ (owned_from k p (suc l) a && owned_from k p (suc l + length a) b)
+        → (t && owned_from k p (suc l) (a ++ b))
+        ≡ ((t && owned_from k p (suc l) a) && owned_from k p (l + suc (length a)) b)
     by true r = r ∙ rw same
     by false r = refl
 
@@ -96,7 +104,8 @@ owned_none circ k p S = refl
 
 -- one head of S more
 owned_next : (circ : ℕ → Circle) (S j : ℕ) (p : Point) (n : ℕ) → in_set S j ≡ true → in_set S n ≡ true
-    → owned_from (rank S j) p 0 (map circ (heads_of (suc n) S)) ≡ (owned_from (rank S j) p 0 (map circ (heads_of n S)) && lets j p n (circ n))
+    → owned_from (rank S j) p 0 (map circ (heads_of (suc n) S))
+    ≡ (owned_from (rank S j) p 0 (map circ (heads_of n S)) && lets j p n (circ n))
 owned_next circ S j p n e f =
     ap (λ t. owned_from (rank S j) p 0 (map circ t)) (heads_with S n f)
     ∙ ap (owned_from (rank S j) p 0) (map-append circ (heads_of n S) (n ∷ []))
@@ -113,8 +122,10 @@ unfolding every
 owned_heads circ S j p zero e = owned_none circ (rank S j) p S
 owned_heads circ S j p (suc n) e = by (in_set S n) refl (owned_heads circ S j p n e)
   where
-    by : (b : Bool) → in_set S n ≡ b → owned_from (rank S j) p 0 (map circ (heads_of n S)) ≡ every n (λ l. not (in_set S l) || lets j p l (circ l))
-        → owned_from (rank S j) p 0 (map circ (heads_of (suc n) S)) ≡ (every n (λ l. not (in_set S l) || lets j p l (circ l)) && (not b || lets j p n (circ n)))
+    by : (b : Bool) → in_set S n ≡ b
+        → owned_from (rank S j) p 0 (map circ (heads_of n S)) ≡ every n (λ l. not (in_set S l) || lets j p l (circ l))
+        → owned_from (rank S j) p 0 (map circ (heads_of (suc n) S))
+        ≡ (every n (λ l. not (in_set S l) || lets j p l (circ l)) && (not b || lets j p n (circ n)))
     by true f r = owned_next circ S j p n e f ∙ ap (λ b. b && lets j p n (circ n)) r
     by false f r = ap (λ t. owned_from (rank S j) p 0 (map circ t)) (heads_without S n f) ∙ r
         ∙ sym (and-true (every n (λ l. not (in_set S l) || lets j p l (circ l))))
@@ -130,7 +141,8 @@ pub owned_by_mask : (circles : List Circle) (S j : ℕ) (p : Point) → S < 2 ^ 
 unfolding owned_in letters
 owned_by_mask circles S j p h =
     and_test (length circles) S (letters circles j p) h
-    ∙ every_cong (length circles) _ _ (λ i k. ap (λ b. not (in_set S i) || b) (in_gather (length circles) (λ l. lets j p l (circle_at circles l)) i k))
+    ∙ every_cong (length circles) _ _
+    (λ i k. ap (λ b. not (in_set S i) || b) (in_gather (length circles) (λ l. lets j p l (circle_at circles l)) i k))
 
 -- the head at a position, and its circle
 pub head_at : (S j n : ℕ) → in_set S j ≡ true → j < n → get_or (heads_of n S) (rank S j) 0 ≡ j
@@ -138,7 +150,29 @@ head_at S j zero e h = absurd (omega arith)
 head_at S j (suc n) e h = ⊎_elim (λ k. before k (head_at S j n e k)) (λ k. last k) (lt_or_eq j n h)
   where
     before : j < n → get_or (heads_of n S) (rank S j) 0 ≡ j → get_or (heads_of (suc n) S) (rank S j) 0 ≡ j
-    before k r = rw (heads_suc S n, get_or-append (heads_of n S) (cond (in_set S n) (n ∷ []) []) 0 (rank S j) (rank_less S j n e k)) r
+    before k r = rw (
+      heads_suc S n,
+      get_or-append (heads_of n S) (cond (in_set S n) (n ∷ []) []) 0 (rank S j) (rank_less S j n e k),
+    ) r
 
     last : j ≡ n → get_or (heads_of (suc n) S) (rank S j) 0 ≡ j
     last k = rw (sym k, heads_with S j e, get_or-append_seam (heads_of j S) j [] 0)
+
+-- ---- a gap by its mask
+
+module _ (circles : List Circle) (S j : ℕ) (below : S < 2 ^ length circles) (in-S : in_set S j ≡ true) where
+  nobody : eqb (bit_and S 0) S ≡ false
+  nobody = ne_eqb (bit_and S 0) S (λ h. no-head (subset_of_and S 0 h j))
+    where
+      no-head : bit S j ≤ bit 0 j → ⊥
+      no-head h = omega (arith, one_of_in S j in-S, bit_of_zero j, h)
+
+  -- it is an arc of S exactly if S is within the mask
+  pub arc_by_mask : (a b : Float) → eqb (bit_and S (gap_letters circles j a b)) S ≡ is_arc circles S j a b
+  unfolding gap_letters is_arc
+  arc_by_mask a b = by (collapsed (gap a b))
+    where
+      by : (t : Bool) → eqb (bit_and S (cond t 0 (letters circles j (midpoint (circle_at circles j) a b)))) S
+          ≡ (not t && owned_in circles S j (midpoint (circle_at circles j) a b))
+      by true = nobody
+      by false = owned_by_mask circles S j (midpoint (circle_at circles j) a b) below

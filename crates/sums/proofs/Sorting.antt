@@ -14,14 +14,15 @@ use Rattle.lists.specs.Lists.{keep}
 use Rattle.geometry.specs.declared.circle.Circle.{Circle}
 use Rattle.intersections.specs.declared.points.IntersectionPoint.{IntersectionPoint}
 use Rattle.lists.specs.Every.{Every, every_both, every_keep}
-use Rattle.boundary.specs.Sort.{sort_onto, sorted}
+use Rattle.boundary.specs.Sort.{insert_by, sort_onto, sorted, sort_onto_by, sorted_by}
 use Rattle.boundary.specs.Outline.{angle_about}
 use Rattle.intersections.specs.Members.{counted_for, points_for}
 use Rattle.elementary.proofs.arctangent.Promise.{atan2_promise}
 use Rattle.lists.proofs.Lists.{keep_length}
 use Rattle.boundary.proofs.Sorting.{map_insert}
-use Rattle.boundary.specs.Marks.{Mark, insert_mark}
-use Rattle.sums.specs.Marks.{sort_marks_onto, sort_marks, has_parent, mark_of, marks_at, adopted_by, angles_in}
+use Rattle.boundary.specs.declared.sort.Mark.{Mark}
+use Rattle.boundary.specs.Marks.{insert_mark}
+use Rattle.gaps.specs.Marks.{has_parent, mark_of, marks_at, adopted_by, angles_in}
 
 -- an angle about a centre is finite, whatever the circle and the point
 pub angle_finite : (c : Circle) (q : IntersectionPoint) → Finite (angle_about c q.point)
@@ -37,7 +38,7 @@ InOrder [] = Unit
 InOrder (x ∷ l) = Every (λ y. lt y.phi x.phi ≡ false) l × InOrder l
 
 insert_every : (P : Mark → Type 0) (x : Mark) (l : List Mark) → P x → Every P l → Every P (insert_mark x l)
-unfolding insert_mark
+unfolding insert_by
 insert_every P x [] h g = (h, tt)
 insert_every P x (y ∷ l) h g = by (lt x.phi y.phi) (insert_every P x l h g.1)
   where
@@ -55,18 +56,19 @@ above_rest : {x y z : Float} → Finite x → Finite y → Finite z → lt x y �
 above_rest fx fy fz h g = lt_of_units fx fz (omega (arith, units_of_lt fx fy h, units_of_not_lt fz fy g))
 
 insert_order : (x : Mark) (l : List Mark) → FiniteMark x → Every FiniteMark l → InOrder l → InOrder (insert_mark x l)
-unfolding insert_mark
+unfolding insert_by
 insert_order x [] fx fl o = (tt, tt)
 insert_order x (y ∷ l) fx fl o = by (lt x.phi y.phi) refl (insert_order x l fx fl.1 o.1)
   where
-    by : (b : Bool) → lt x.phi y.phi ≡ b → InOrder (insert_mark x l) → InOrder (cond b (x ∷ y ∷ l) (y ∷ insert_mark x l))
+    by : (b : Bool) → lt x.phi y.phi ≡ b → InOrder (insert_mark x l)
+        → InOrder (cond b (x ∷ y ∷ l) (y ∷ insert_mark x l))
     by true e r =
         ((below_not fx fl.0 e, every_both l (λ z fz h. below_rest fx fl.0 fz e h) fl.1 o.0), o)
     by false e r = (insert_every (λ z. lt z.phi y.phi ≡ false) x l e o.0, r)
 
 -- before all that are greater
 insert_front : (x : Mark) (l : List Mark) → Every (λ z. lt x.phi z.phi ≡ true) l → insert_mark x l ≡ x ∷ l
-unfolding insert_mark
+unfolding insert_by
 insert_front x [] h = refl
 insert_front x (y ∷ l) h = rw h.0
 
@@ -74,7 +76,7 @@ module _ (p : Mark → Bool) where
   -- put in and then filtered, or filtered and then put in
   keep_insert : (x : Mark) (l : List Mark) → FiniteMark x → Every FiniteMark l → InOrder l
       → keep p (insert_mark x l) ≡ cond (p x) (insert_mark x (keep p l)) (keep p l)
-  unfolding insert_mark keep
+  unfolding insert_by keep
   keep_insert x [] fx fl o = refl
   keep_insert x (y ∷ l) fx fl o = by (lt x.phi y.phi) refl (keep_insert x l fx fl.1 o.1)
     where
@@ -86,7 +88,8 @@ module _ (p : Mark → Bool) where
       first true e = sym (insert_front x (keep p (y ∷ l)) (every_keep (λ z. lt x.phi z.phi ≡ true) p (y ∷ l) (above e)))
       first false e = refl
 
-      rest : (b d : Bool) → lt x.phi y.phi ≡ false → keep p (insert_mark x l) ≡ cond d (insert_mark x (keep p l)) (keep p l)
+      rest : (b d : Bool) → lt x.phi y.phi ≡ false
+          → keep p (insert_mark x l) ≡ cond d (insert_mark x (keep p l)) (keep p l)
           → cond b (y ∷ keep p (insert_mark x l)) (keep p (insert_mark x l))
           ≡ cond d (insert_mark x (cond b (y ∷ keep p l) (keep p l))) (cond b (y ∷ keep p l) (keep p l))
       rest true true e r = rw (e) (ap (λ t. y ∷ t) r)
@@ -95,36 +98,41 @@ module _ (p : Mark → Bool) where
       rest false false e r = r
 
       by : (b : Bool) → lt x.phi y.phi ≡ b → keep p (insert_mark x l) ≡ cond (p x) (insert_mark x (keep p l)) (keep p l)
-          → keep p (cond b (x ∷ y ∷ l) (y ∷ insert_mark x l)) ≡ cond (p x) (insert_mark x (keep p (y ∷ l))) (keep p (y ∷ l))
+          → keep p (cond b (x ∷ y ∷ l) (y ∷ insert_mark x l))
+          ≡ cond (p x) (insert_mark x (keep p (y ∷ l))) (keep p (y ∷ l))
       by true e r = first (p x) e
       by false e r = rest (p y) (p x) e r
 
   keep_sort_onto : (done l : List Mark) → Every FiniteMark done → Every FiniteMark l → InOrder done
-      → keep p (sort_marks_onto done l) ≡ sort_marks_onto (keep p done) (keep p l)
-  unfolding sort_marks_onto keep
+      → keep p (sort_onto_by (λ m. m.phi) done l) ≡ sort_onto_by (λ m. m.phi) (keep p done) (keep p l)
+  unfolding sort_onto_by keep
   keep_sort_onto done [] fd fl o = refl
   keep_sort_onto done (x ∷ l) fd fl o =
-      keep_sort_onto (insert_mark x done) l (insert_every FiniteMark x done fl.0 fd) fl.1 (insert_order x done fl.0 fd o)
+      keep_sort_onto (insert_mark x done) l (insert_every FiniteMark x done fl.0 fd) fl.1
+      (insert_order x done fl.0 fd o)
       ∙ rw (keep_insert x done fl.0 fd o) (by (p x))
     where
-      by : (b : Bool) → sort_marks_onto (cond b (insert_mark x (keep p done)) (keep p done)) (keep p l)
-          ≡ sort_marks_onto (keep p done) (cond b (x ∷ keep p l) (keep p l))
+      by : (b : Bool) → sort_onto_by (λ m. m.phi) (cond b (insert_mark x (keep p done)) (keep p done)) (keep p l)
+          ≡ sort_onto_by (λ m. m.phi) (keep p done) (cond b (x ∷ keep p l) (keep p l))
       by true = refl
       by false = refl
 
   -- Law 1: filtered after the sort, or sorted after the filter.
-  pub keep_sort : (l : List Mark) → Every FiniteMark l → keep p (sort_marks l) ≡ sort_marks (keep p l)
-  unfolding sort_marks keep
+  pub keep_sort : (l : List Mark) → Every FiniteMark l
+      → keep p (sorted_by (λ m. m.phi) l) ≡ sorted_by (λ m. m.phi) (keep p l)
+  unfolding sorted_by keep
   keep_sort l h = keep_sort_onto [] l tt h tt
 
 -- the angles of sorted marks are the angles sorted
-map_sort_onto : (done l : List Mark) → map (λ m. m.phi) (sort_marks_onto done l) ≡ sort_onto (map (λ m. m.phi) done) (map (λ m. m.phi) l)
-unfolding sort_marks_onto sort_onto
+map_sort_onto : (done l : List Mark)
+    → map (λ m. m.phi) (sort_onto_by (λ m. m.phi) done l) ≡ sort_onto (map (λ m. m.phi) done) (map (λ m. m.phi) l)
+unfolding sort_onto_by
 map_sort_onto done [] = refl
-map_sort_onto done (x ∷ l) = map_sort_onto (insert_mark x done) l ∙ ap (λ t. sort_onto t (map (λ m. m.phi) l)) (map_insert x done)
+map_sort_onto done (x ∷ l) =
+    map_sort_onto (insert_mark x done) l ∙ ap (λ t. sort_onto t (map (λ m. m.phi) l)) (map_insert x done)
 
-pub map_sort : (l : List Mark) → map (λ m. m.phi) (sort_marks l) ≡ sorted (map (λ m. m.phi) l)
-unfolding sort_marks sorted
+pub map_sort : (l : List Mark) → map (λ m. m.phi) (sorted_by (λ m. m.phi) l) ≡ sorted (map (λ m. m.phi) l)
+unfolding sorted_by
 map_sort l = map_sort_onto [] l
 
 -- a filter after a map, and one after another
@@ -134,7 +142,8 @@ keep_map f p [] = refl
 keep_map f p (x ∷ l) = by (p (f x)) (keep_map f p l)
   where
     by : (b : Bool) → keep p (map f l) ≡ map f (keep (λ x. p (f x)) l)
-        → cond b (f x ∷ keep p (map f l)) (keep p (map f l)) ≡ map f (cond b (x ∷ keep (λ x. p (f x)) l) (keep (λ x. p (f x)) l))
+        → cond b (f x ∷ keep p (map f l)) (keep p (map f l))
+        ≡ map f (cond b (x ∷ keep (λ x. p (f x)) l) (keep (λ x. p (f x)) l))
     by true r = ap (λ t. f x ∷ t) r
     by false r = r
 
@@ -144,7 +153,8 @@ keep_keep p q [] = refl
 keep_keep p q (x ∷ l) = by (q x) (keep_keep p q l)
   where
     by : (b : Bool) → keep p (keep q l) ≡ keep (λ x. q x && p x) l
-        → keep p (cond b (x ∷ keep q l) (keep q l)) ≡ cond (b && p x) (x ∷ keep (λ x. q x && p x) l) (keep (λ x. q x && p x) l)
+        → keep p (cond b (x ∷ keep q l) (keep q l))
+        ≡ cond (b && p x) (x ∷ keep (λ x. q x && p x) l) (keep (λ x. q x && p x) l)
     by true r = rw r
     by false r = r
 
@@ -158,12 +168,14 @@ module _ (c : Circle) (S j : ℕ) (points : List IntersectionPoint) where
   unfolding adopted_by mark_of has_parent counted_for keep
   counted_by = keep_keep (λ q. adopted_by S (mark_of c q)) (has_parent j) points
 
-  phis_of : (l : List IntersectionPoint) → map (λ m. m.phi) (map (mark_of c) l) ≡ map (angle_about c) (map (λ q. q.point) l)
+  phis_of : (l : List IntersectionPoint)
+      → map (λ m. m.phi) (map (mark_of c) l) ≡ map (angle_about c) (map (λ q. q.point) l)
   unfolding mark_of
   phis_of [] = refl
   phis_of (q ∷ l) = ap (λ t. angle_about c q.point ∷ t) (phis_of l)
 
-  whole : length (keep (has_parent j) points) ≤ 32 → points_for points S j ≡ map (λ q. q.point) (keep (counted_for S j) points)
+  whole : length (keep (has_parent j) points) ≤ 32
+      → points_for points S j ≡ map (λ q. q.point) (keep (counted_for S j) points)
   unfolding points_for
   whole h =
       take_all 32 (map (λ q. q.point) (keep (counted_for S j) points))
@@ -177,11 +189,14 @@ module _ (c : Circle) (S j : ℕ) (points : List IntersectionPoint) where
       ))
 
   -- the points of head j sorted once, and filtered for S: the sorted angles of the points counted for S at j
-  pub angles-in : length (keep (has_parent j) points) ≤ 32 → angles_in S (marks_at c j points) ≡ sorted (map (angle_about c) (points_for points S j))
+  pub angles-in : length (keep (has_parent j) points) ≤ 32
+      → angles_in S (marks_at c j points) ≡ sorted (map (angle_about c) (points_for points S j))
   unfolding angles_in marks_at
   angles-in h =
       rw (
-        keep_sort (adopted_by S) (map (mark_of c) (keep (has_parent j) points)) (marks_finite c (keep (has_parent j) points)),
+        take_all 32 (keep (has_parent j) points) h,
+        keep_sort (adopted_by S) (map (mark_of c) (keep (has_parent j) points))
+            (marks_finite c (keep (has_parent j) points)),
         map_sort (keep (adopted_by S) (map (mark_of c) (keep (has_parent j) points))),
         keep_map (mark_of c) (adopted_by S) (keep (has_parent j) points),
         counted_by,

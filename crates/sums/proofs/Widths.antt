@@ -10,6 +10,7 @@ use Rattle.lists.specs.Lists.{over_pairs}
 use Rattle.elementary.specs.Sine.{sine as sin, cosine as cos}
 use Rattle.binary64.specs.Constants.{zero64, half64}
 use Rattle.binary64.specs.Floats.{◌+ᶠ◌, ◌-ᶠ◌, ◌*ᶠ◌}
+use Rattle.std.specs.Prelude.{Option, None, Some}
 use Rattle.geometry.specs.declared.bounds.Bounds.{Bounds}
 use Rattle.geometry.specs.declared.circle.Circle.{Circle}
 use Rattle.intersections.specs.declared.points.IntersectionPoint.{IntersectionPoint}
@@ -133,10 +134,10 @@ clipped-width box all own arcs g =
     either width (length g) (empty_box box) (with_gradient zero64 g) (with_gradient (half64 *ᶠ s.sum) s.grad) refl
     (edges box own (length all * 3) t ∙ arcs_clipped box all arcs (with_gradient zero64 g))
 
-pub row-width : (clipped : Bool) (box : Bounds) (circles : List Circle) (points : List IntersectionPoint) (n S : ℕ)
-    → length (row_with clipped box circles points n S).grad ≡ n
-row-width true box circles points n S =
+pub row-width : (bounds : Option Bounds) (circles : List Circle) (points : List IntersectionPoint) (n S : ℕ)
+    → length (row_with bounds circles points n S).grad ≡ n
+row-width (Some box) circles points n S =
     let own = map (circle_at circles) (heads_of (length circles) S) in
     clipped-width box circles own (region_arcs circles points S) (replicate n zero64) ∙ length-replicate n zero64
-row-width false box circles points n S =
+row-width None circles points n S =
     arcs_open circles (region_arcs circles points S) (replicate n zero64) ∙ length-replicate n zero64

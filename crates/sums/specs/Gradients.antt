@@ -1,5 +1,5 @@
 -- The areas of the rows of a pass with their gradients, written in place: those that are wanted are worked out, every other number stays.
-use Rattle.std.specs.Prelude.{ℕ, min, ◌*◌, ◌/◌, ◌^◌, ◌<◌, ◌≤◌, ◌≡◌, Bool, cond, List, map, eqb, Float, length, replicate, take, drop}
+use Rattle.std.specs.Prelude.{ℕ, min, ◌*◌, ◌/◌, Bool, cond, Option, None, Some, List, map, eqb, Float, length, replicate, take, drop}
 use Rattle.std.specs.Float.{nan}
 use Rattle.lists.specs.Written.{written}
 use Rattle.binary64.specs.Constants.{zero64}
@@ -11,15 +11,7 @@ use Rattle.intersections.specs.Members.{heads_of, circle_at}
 use Rattle.boundary.specs.Set.{region_arcs}
 use Rattle.outline.specs.Area.{area_of, add_gradient}
 use Rattle.clip.specs.Gradient.{WithGradient, with_gradient, clipped_with_gradient}
-use Rattle.chords.specs.declared.fill.Chords.{Chords}
-use Rattle.chords.specs.Chords.{Chorded}
-use Rattle.sums.specs.declared.fill.Marks.{Marks}
-use Rattle.sums.specs.declared.terms.Three.{Three}
-use Rattle.sums.specs.declared.shares.Parts.{Parts}
 use Rattle.sums.specs.Rows.{rows_of, number_at}
-use Rattle.sums.specs.Fast.{OpenReady}
-use Rattle.sums.specs.Slopes.{SlopesValued, PartsValued}
-use Rattle.sums.specs.Walk.{Ready}
 
 -- the area of S as it comes with its gradient by head, which is added to one: without a box, in it, and either
 abbrev pub open_onto : List Circle → List IntersectionPoint → ℕ → List Float → WithGradient
@@ -28,15 +20,16 @@ open_onto circles points S g = with_gradient (area_of circles (region_arcs circl
 abbrev pub clipped_onto : Bounds → List Circle → List IntersectionPoint → ℕ → List Float → WithGradient
 clipped_onto box circles points S g = clipped_with_gradient box circles (map (circle_at circles) (heads_of (length circles) S)) (region_arcs circles points S) g
 
-abbrev pub set_onto : Bool → Bounds → List Circle → List IntersectionPoint → ℕ → List Float → WithGradient
-set_onto clipped box circles points S g = cond clipped (clipped_onto box circles points S g) (open_onto circles points S g)
+abbrev pub set_onto : Option Bounds → List Circle → List IntersectionPoint → ℕ → List Float → WithGradient
+set_onto None circles points S g = open_onto circles points S g
+set_onto (Some box) circles points S g = clipped_onto box circles points S g
 
 -- onto a row of +0
 abbrev pub row_anew : (ℕ → List Float → WithGradient) → ℕ → ℕ → WithGradient
 row_anew onto width S = onto S (replicate width zero64)
 
-abbrev pub row_with : Bool → Bounds → List Circle → List IntersectionPoint → ℕ → ℕ → WithGradient
-row_with clipped box circles points width S = set_onto clipped box circles points S (replicate width zero64)
+abbrev pub row_with : Option Bounds → List Circle → List IntersectionPoint → ℕ → ℕ → WithGradient
+row_with bounds circles points width S = set_onto bounds circles points S (replicate width zero64)
 
 -- ---- written in place
 
@@ -62,20 +55,3 @@ areas_to wanted row count areas = written (number_at wanted (λ S. (row S).sum) 
 
 abbrev pub rows_to : (ℕ → Bool) → (ℕ → WithGradient) → ℕ → ℕ → List Float → List Float
 rows_to wanted row width count gradients = written (by_row width nan (row_after wanted row width gradients)) (count * width) gradients
-
--- ---- what is worked out once for all rows
-
--- all that the row of S asks without a box: that of its area, and the slopes of the arcs
-pub record OpenReadyWith (circles : List Circle) (n : ℕ) (marks : Marks) (terms slopes : Three) (S : ℕ) : Type 0 where
-  pub open_ready : OpenReady circles n marks terms S
-  pub sloped : SlopesValued S (take n circles) marks.counts marks.phi slopes.xs slopes.ys slopes.rs
-
--- and in the box: the shares of the parts of the arcs, and the chords of the heads
-pub record BoxReadyWith (box : Bounds) (circles : List Circle) (n : ℕ) (marks : Marks) (parts : Parts) (chords : Chords) (S : ℕ) : Type 0 where
-  pub ten : length circles ≡ 10
-  pub most : n ≤ 10
-  pub below : S < 2 ^ n
-  pub ready : Ready (take n circles) S marks.counts marks.owners marks.phi marks.lets
-  pub valued : PartsValued box (take n circles) S marks.counts marks.phi parts.first parts.many parts.sums
-      parts.shares.xs parts.shares.ys parts.shares.rs parts.stop
-  pub chorded : Chorded box (take n circles) S chords

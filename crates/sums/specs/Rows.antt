@@ -1,5 +1,5 @@
 -- The areas of the rows of a pass, written in place: those that are wanted are worked out, every other number stays.
-use Rattle.std.specs.Prelude.{ℕ, min, ◌^◌, Bool, cond, List, Float, get_or, length}
+use Rattle.std.specs.Prelude.{ℕ, min, ◌^◌, Bool, cond, Option, None, Some, List, Float, get_or, length}
 use Rattle.std.specs.Float.{nan}
 use Rattle.lists.specs.Written.{written}
 use Rattle.geometry.specs.declared.bounds.Bounds.{Bounds}
@@ -8,8 +8,9 @@ use Rattle.outline.specs.Area.{open_area}
 use Rattle.clip.specs.Area.{clipped_area}
 
 -- the area of a set's members, in the box or without it
-abbrev pub area_of : Bool → Bounds → List Member → Float
-area_of clipped box ms = cond clipped (clipped_area box ms) (open_area ms)
+abbrev pub area_of : Option Bounds → List Member → Float
+area_of None ms = open_area ms
+area_of (Some box) ms = clipped_area box ms
 
 -- how many rows n circles have: of more than ten the first ten count
 abbrev pub rows_of : ℕ → ℕ

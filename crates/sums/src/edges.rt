@@ -32,6 +32,7 @@ pub(crate) fn add_edges(
 }
 
 // The same with the box's four entries of a gradient, after those of the heads.
+// Apart from the sum alone, which has no shares to work out.
 pub(crate) fn add_edges_with_gradient(
     total: f64,
     grad: &mut [f64],

@@ -1,12 +1,12 @@
-// The areas of all rows of a pass, worked out together, so that what rows share is worked out once: of each head its meeting points by angle,
-// who lets it have each gap between them, what each gap adds to a sum, and its chords with the edges of the box (`chords`). And which rows of
-// a table are there.
+// The areas of all rows of a pass, worked out together, so that what rows share is worked out once: of each head its
+// meeting points by angle and who lets it have each gap between them (`gaps`), what each gap adds to a sum, and its
+// chords with the edges of the box (`chords`). And which rows of a table are there.
 #![tactic(auto)]
 
 mod edges;
 mod fast;
-mod fill;
 pub mod gradients;
+mod pass;
 pub mod presence;
 mod row;
 pub mod rows;

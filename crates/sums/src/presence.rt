@@ -5,7 +5,8 @@ ghost use Rattle.sums.specs.Presence.{among, bytes_written, absent_cleared};
 
 use crate::rows::row_count;
 
-// The byte of row `mask`, whose byte among the sets is `is`: row 0 is there where there is a box.
+// The byte of row `mask`, whose byte among the sets is `is`: row 0 is there where there is a box. That there is one is all
+// that is asked: the box itself plays no part.
 pub fn row_byte(has_box: bool, is: u8, mask: usize) -> u8
     ensures { result ≡ byte (among has_box (λ T. eqb is 1) mask) }
 {

@@ -1,79 +1,74 @@
 // The areas of the rows that a pass works out, in a lent slice. Rests on specs/Rows.antt.
-ghost use Rattle.std.specs.Prelude.{◌≡◌, min, take};
+ghost use Rattle.std.specs.Prelude.{◌≡◌, ◌≤◌, min, length};
 ghost use Rattle.masks.specs.Presence.{stands};
-ghost use Rattle.intersections.specs.Counted.{point_list};
 ghost use Rattle.intersections.specs.Members.{members_of};
 ghost use Rattle.sums.specs.Rows.{area_of, rows_of, areas_written};
 
 use crate::fast::{write_fast, write_rows};
-use crate::fill::few;
+use crate::pass::Wanted;
 use crate::row::Areas;
 use crate::walk::Listed;
 use clip::area::clipped_region_area;
+use gaps::marks::few;
 use geometry::bounds::Bounds;
-use geometry::circle::Circle;
-use intersections::points::Intersections;
+use geometry::circle::Circles;
+use intersections::points::IntersectionPoint;
 use outline::area::region_area;
 
 // The rows of a pass, each worked out by itself.
 #[derive(Clone, Copy)]
 pub(crate) struct PlainRows<'a> {
-    pub(crate) clipped: bool,
-    pub(crate) circles: &'a [Circle; 10],
-    pub(crate) points: &'a Intersections,
-    pub(crate) n_sets: usize,
-    pub(crate) bounds: Bounds,
+    pub(crate) bounds: Option<Bounds>,
+    pub(crate) circles: &'a Circles,
+    pub(crate) points: &'a [IntersectionPoint],
 }
 
 impl<'a> Areas for PlainRows<'a> {
-    ghost Ready = { λ r S. Unit {0} };
+    ghost Has = { λ r S. Unit {0} };
 
-    ghost Told = { λ r points S. Unit {0} };
+    ghost given = { λ r S. area_of r.bounds (members_of r.circles.now.items r.points.now S) };
 
-    ghost given = { λ r points S. area_of r.clipped r.bounds (members_of (take r.n_sets r.circles.now)
-        (point_list r.points.now) S) };
-
+    // The box is asked for at each row: this form is rare, and two more structs would be longer.
     fn area(&self, mask: usize, _list: &mut Listed) -> f64 {
-        if self.clipped {
-            return clipped_region_area(mask, *self.circles, *self.points, self.n_sets, self.bounds);
+        match self.bounds {
+            Some(bounds) => clipped_region_area(mask, self.circles, self.points, bounds),
+            None => region_area(mask, self.circles, self.points),
         }
-        region_area(mask, *self.circles, *self.points, self.n_sets)
     }
 }
 
 // How many rows of the first n_sets of ten circles a slice of so many numbers has a place for.
 pub(crate) fn row_count(n_sets: usize, places: usize) -> usize
-    ensures { result ≡ min (rows_of n_sets) places }
+    ensures value { result ≡ min (rows_of n_sets) places }
+    ensures most { result ≤ 1024 }
 {
     (1usize << n_sets.min(10)).min(places)
 }
 
-// The areas of the sets whose byte in `wanted` is 1, in the box or without it, each at the place of its mask. Every other number stays.
+// The areas of the sets whose byte in `wanted` is 1, in the box if there is one, each at the place of its mask. Every other number stays.
 pub fn write_areas(
-    clipped: bool,
-    circles: [Circle; 10],
-    points: Intersections,
-    n_sets: usize,
-    bounds: Bounds,
+    bounds: Option<Bounds>,
+    circles: &Circles,
+    points: &[IntersectionPoint],
     wanted: &[u8; 1024],
     areas: &mut [f64],
 )
     ensures { areas.new
-        ≡ areas_written n_sets (stands wanted.now)
-        (λ S. area_of clipped bounds (members_of (take n_sets circles) (point_list points) S)) areas.old }
+        ≡ areas_written (length circles.now.items) (stands wanted.now)
+        (λ S. area_of bounds (members_of circles.now.items points.now S)) areas.old }
 {
-    let n = n_sets.min(10);
-    let counted = &points.all[..points.n.min(90)];
-    if few(counted, n) {
-        write_fast(clipped, &circles, counted, n, bounds, wanted, areas);
+    let wanted = Wanted {
+        bytes: wanted,
+        count: row_count(circles.len(), areas.len()),
+    };
+    if few(points, circles.len()) {
+        write_fast(bounds, circles, points, &wanted, areas);
         return;
     }
     let rows = PlainRows {
-        clipped,
-        circles: &circles,
-        points: &points,
-        n_sets,
         bounds,
+        circles,
+        points,
     };
-    write_rows(&rows, wanted, row_count(n_sets, areas.len()), areas);
+    write_rows(&rows, &wanted, areas);
 }

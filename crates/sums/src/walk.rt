@@ -1,183 +1,107 @@
-// The arcs of a set's outline as a list of their numbers, from what is worked out once a head. Rests on specs/Walk.antt.
-ghost use Rattle.std.specs.Prelude.{◌≡◌, true, ◌++◌, ◌+◌, ◌*◌, ◌%◌, ◌^◌, ◌<◌, ◌≤◌, get_or, set, take};
-ghost use Rattle.std.specs.Float.{nan};
-ghost use Rattle.masks.specs.Mask.{in_set};
+// The arcs of a set's outline as a list of their numbers, from what is held of its heads. Rests on specs/Walk.antt.
+ghost use Rattle.std.specs.Prelude.{◌≡◌, true, ◌++◌, ◌+◌, ◌*◌, ◌<◌, ◌≤◌, length, take};
+ghost use Rattle.masks.specs.Mask.{in_set, Subset};
 ghost use Rattle.boundary.specs.Set.{arcs_held};
-ghost use Rattle.sums.specs.Marks.{angles_in};
-ghost use Rattle.sums.specs.Walk.{gap_letters, gap_in, head_in, arcs_by};
-ghost use Rattle.sums.specs.Walk.{NextIn};
-ghost use Rattle.sums.specs.Held.{marks_held, HeadIsReady, AreReady, arcs_listed, Lists};
+ghost use Rattle.gaps.specs.Marks.{phi_at, angles_in};
+ghost use Rattle.lists.specs.Every.{Every};
+ghost use Rattle.sums.specs.Walk.{marks_of, gap_in, head_in, outline_arcs, FirstIn, Placed, arcs_listed, Listing};
 
-use crate::fill::Marks;
+use crate::pass::Pass;
+use arrayvec::ArrayVec;
+use boundary::sort::Mark;
 use gaps::numbers::gap_number;
-use geometry::circle::Circle;
 
-// The numbers of the arcs of a set: the first n of all.
-#[derive(Clone, Copy)]
-pub(crate) struct Listed {
-    n: usize,
-    all: [usize; 320],
-}
+// The numbers of the arcs of a set.
+pub(crate) type Listed = ArrayVec<usize, 320>;
 
-impl Listed {
-    // built where it is kept, and not copied there
-    #[inline(always)]
-    pub(crate) fn new() -> Listed {
-        Listed {
-            n: 0,
-            all: [0; 320],
-        }
-    }
-
-    fn clear(&mut self)
-        ensures n { self.new.n ≡ 0 }
-        ensures all { self.new.all ≡ self.old.all }
-    {
-        self.n = 0;
-    }
-
-    fn push(&mut self, place: usize)
-        requires { self.old.n < 320 }
-        ensures n { self.new.n ≡ self.old.n + 1 }
-        ensures all { self.new.all ≡ set self.old.all self.old.n place }
-    {
-        self.all[self.n] = place;
-        self.n += 1;
-    }
-
-    // The numbers listed.
-    pub(crate) fn arcs(&self) -> &[usize]
-        requires { self.now.n ≤ 320 }
-        ensures { result.now ≡ take self.now.n self.now.all }
-    {
-        &self.all[..self.n]
-    }
-
-    // The first of them: no set of collected points has more than 180 arcs.
-    pub(crate) fn first_arcs(&self) -> &[usize]
-        requires { self.now.n ≤ 320 }
-        ensures { result.now ≡ take arcs_held (take self.now.n self.now.all) }
-    {
-        &self.all[..self.n.min(180)]
-    }
-}
-
-// The first place from `from` on whose point the set adopts, or n.
-fn next_in(mask: usize, adopters: &[usize; 320], at: usize, from: usize, n: usize) -> usize
-    requires { (at + n ≤ 320) × (from ≤ n) }
-    ensures { NextIn mask adopters.now at from n result }
+// The first of them: no set of collected points has more than 180 arcs.
+pub(crate) fn first_arcs(list: &Listed) -> &[usize]
+    ensures { result.now ≡ take arcs_held list.now.items }
 {
-    for i in from..n {
-        if mask & adopters[at + i] == mask {
+    &list[..list.len().min(180)]
+}
+
+// The first mark whose point the set adopts, or how many there are.
+#[tactic(auto, using(crate::proofs::Walking::searching), unfolding(gaps::specs::Marks::adopted_by))]
+fn first_in(mask: usize, marks: &[Mark]) -> usize
+    ensures { FirstIn mask marks.now result }
+{
+    for (i, mark) in marks.iter().enumerate() {
+        if mask & mark.adopters == mask {
             return i;
         }
     }
-    n
+    marks.len()
 }
 
-// The gap from the a-th angle of head j to the b-th, listed if it is an arc of the set. It is compiled into both places of its calls, as it would
-// be if there were one.
+// The gap from the a-th mark of head j to the b-th, listed if it is an arc of the set. It is compiled into both
+// places of its calls, as it would be if there were one.
 #[inline(always)]
-fn list_gap(
-    mask: usize,
-    circles: &[Circle; 10],
-    n_sets: usize,
-    j: usize,
-    marks: &Marks,
-    a: usize,
-    b: usize,
-    list: &mut Listed,
-)
-    requires n_sets_bound { (n_sets ≤ 10) × ((j < n_sets) × ((mask < 2 ^ n_sets) × (in_set mask j ≡ true))) }
-    requires j_bound { (get_or marks.now.counts j 0 ≤ 32)
-        × ((a < get_or marks.now.counts j 0) × (b < get_or marks.now.counts j 0)) }
-    requires a_value { get_or marks.now.lets (j * 32 + a) 0
-        ≡ gap_letters (take n_sets circles.now) j (get_or marks.now.phi (j * 32 + a) nan)
-        (get_or marks.now.phi (j * 32 + (a + 1) % get_or marks.now.counts j 0) nan) }
-    requires n_bound { (list.old.n < 320) × Lists (take n_sets circles.now) marks.now n_sets mask
-        (arcs_listed (take n_sets circles.now) marks.now list.old) list.old }
-    ensures upper_bound { list.new.n ≤ list.old.n + 1 }
-    ensures listing { Lists (take n_sets circles.now) marks.now n_sets mask
-        (arcs_listed (take n_sets circles.now) marks.now list.old
-        ++ gap_in (take n_sets circles.now) mask j (get_or marks.now.phi (j * 32 + a) nan)
-        (get_or marks.now.phi (j * 32 + b) nan)) list.new }
+fn list_gap(pass: &Pass, mask: usize, j: usize, a: usize, b: usize, list: &mut Listed)
+    requires within { Subset mask pass.now.needed }
+    requires head { (j < length pass.now.circles.now.items) × (in_set mask j ≡ true) }
+    requires marks { let n = length (marks_of pass.now.heads.now.items j) in (a < n) × (b < n) }
+    requires room { length list.old.items < 320 }
+    requires placed { Every (Placed pass.now.needed pass.now.heads.now.items) list.old.items }
+    ensures count { length list.new.items ≤ length list.old.items + 1 }
+    ensures placed { Every (Placed pass.now.needed pass.now.heads.now.items) list.new.items }
+    ensures said { let cs = pass.now.circles.now.items in let hs = pass.now.heads.now.items in
+        let marks = marks_of hs j in
+        arcs_listed cs hs list.new.items
+        ≡ arcs_listed cs hs list.old.items ++ gap_in cs mask j (phi_at marks a) (phi_at marks b) }
 {
-    let number = gap_number(
-        mask,
-        circles,
-        n_sets,
-        j,
-        marks.counts[j],
-        a,
-        b,
-        &marks.phi,
-        &marks.lets,
-    );
-    if let Some(place) = number {
+    if let Some(place) = gap_number(mask, pass.circles, j, pass.head(j), a, b) {
         list.push(place);
     }
 }
 
-// The arcs of head j in the set, listed: gap by gap round the circle, or the whole of it where no point is counted for the set there.
-fn list_head(
-    mask: usize,
-    circles: &[Circle; 10],
-    n_sets: usize,
-    j: usize,
-    marks: &Marks,
-    list: &mut Listed,
-)
-    requires n_sets_bound { (n_sets ≤ 10) × ((j < n_sets) × ((mask < 2 ^ n_sets) × (in_set mask j ≡ true))) }
-    requires head_ready { HeadIsReady (take n_sets circles.now) marks.now j }
-    requires n_bound { (list.old.n ≤ j * 32) × Lists (take n_sets circles.now) marks.now n_sets mask
-        (arcs_listed (take n_sets circles.now) marks.now list.old) list.old }
-    ensures upper_bound { list.new.n ≤ j * 32 + 32 }
-    ensures listing { Lists (take n_sets circles.now) marks.now n_sets mask
-        (arcs_listed (take n_sets circles.now) marks.now list.old
-        ++ head_in (take n_sets circles.now) mask j
-        (angles_in mask (marks_held marks.now j))) list.new }
+// The arcs of head j in the set, listed: gap by gap round the circle, or the whole of it where no point is counted
+// for the set there.
+fn list_head(pass: &Pass, mask: usize, j: usize, list: &mut Listed)
+    requires within { Subset mask pass.now.needed }
+    requires head { (j < length pass.now.circles.now.items) × (in_set mask j ≡ true) }
+    requires room { length list.old.items ≤ j * 32 }
+    requires placed { Every (Placed pass.now.needed pass.now.heads.now.items) list.old.items }
+    ensures count { length list.new.items ≤ j * 32 + 32 }
+    ensures placed { Every (Placed pass.now.needed pass.now.heads.now.items) list.new.items }
+    ensures said { let cs = pass.now.circles.now.items in let hs = pass.now.heads.now.items in
+        arcs_listed cs hs list.new.items
+        ≡ arcs_listed cs hs list.old.items ++ head_in cs mask j (angles_in mask (marks_of hs j)) }
 {
-    let at = j * 32;
-    let n = marks.counts[j];
-    let first = next_in(mask, &marks.adopters, at, 0, n);
-    if n <= first {
-        if mask & marks.owners[j] == mask {
+    let head = pass.head(j);
+    let marks = head.marks.as_slice();
+    let first = first_in(mask, marks);
+    if marks.len() <= first {
+        if mask & head.owners == mask {
             list.push(320 + j);
         }
         return;
     }
     let mut last = first;
-    for b in first + 1..n {
-        if mask & marks.adopters[at + b] == mask {
-            list_gap(mask, circles, n_sets, j, marks, last, b, list);
+    for b in first + 1..marks.len() {
+        if mask & marks[b].adopters == mask {
+            list_gap(pass, mask, j, last, b, list);
             last = b;
         }
     }
-    list_gap(mask, circles, n_sets, j, marks, last, first, list);
+    list_gap(pass, mask, j, last, first, list);
 }
 
 // The arcs of a set's outline, listed. Of a single: its full circle, whatever meets it.
-pub(crate) fn walk(
-    mask: usize,
-    circles: &[Circle; 10],
-    n_sets: usize,
-    marks: &Marks,
-    list: &mut Listed,
-)
-    requires n_sets_bound { (n_sets ≤ 10) × (mask < 2 ^ n_sets) }
-    requires ready { AreReady (take n_sets circles.now) mask marks.now }
-    ensures upper_bound { list.new.n ≤ 320 }
-    ensures listing { Lists (take n_sets circles.now) marks.now n_sets mask
-        (arcs_by (take n_sets circles.now) (marks_held marks.now) mask) list.new }
+#[tactic(auto, using(crate::proofs::Walking::heads_none))]
+pub(crate) fn walk(pass: &Pass, mask: usize, list: &mut Listed)
+    requires { Subset mask pass.now.needed }
+    ensures { let cs = pass.now.circles.now.items in
+        Listing cs pass.now.needed pass.now.heads.now.items (outline_arcs cs pass.now.points.now mask) list.new.items }
 {
     list.clear();
-    if usize::count_ones(mask) == 1 {
-        list.push(320 + usize::trailing_zeros(mask) as usize);
+    if mask.count_ones() == 1 {
+        list.push(320 + mask.trailing_zeros() as usize);
         return;
     }
-    for j in 0..n_sets {
+    for j in 0..pass.circles.len() {
         if mask >> j & 1 == 1 {
-            list_head(mask, circles, n_sets, j, marks, list);
+            list_head(pass, mask, j, list);
         }
     }
 }

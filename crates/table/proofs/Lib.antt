@@ -1,4 +1,2 @@
-pub mod Tests
 pub mod Writing
-pub mod Second
 pub mod Calls

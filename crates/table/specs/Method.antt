@@ -1,5 +1,6 @@
--- How the calls of this crate work a plan's table out: in the plan's box or without it, over any list of sets, the exclusives by
--- to_exclusive_areas. The public calls have the plan's own sets, those of discover_regions.
+-- How the calls of this crate work a plan's table out: in the plan's box or without it, over any list of
+-- sets, the exclusives by to_exclusive_areas. The public calls have the plan's own sets, those of
+-- discover_regions.
 use Rattle.std.specs.Prelude.{ℕ, Bool, true, false}
 use Rattle.plan.specs.declared.Plan.{Plan}
 use Rattle.areas.specs.Clipped.{clipped_method}

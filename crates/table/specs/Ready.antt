@@ -1,8 +1,8 @@
 -- What the area of every row of a plan is worked out from, as the code holds it.
-use Rattle.std.specs.Prelude.{ℕ, Bool, List, ◌≡◌, Float, take}
+use Rattle.std.specs.Prelude.{ℕ, List, Option, None, Some, ◌≡◌, ◌≤◌, Float, length}
 use Rattle.plan.specs.declared.Plan.{Plan}
-use Rattle.geometry.specs.Rectangle.{bounds}
-use Rattle.intersections.specs.Counted.{point_list}
+use Rattle.geometry.specs.Rectangle.{bounds as bounds_of}
+use Rattle.geometry.specs.declared.bounds.Bounds.{Bounds}
 use Rattle.intersections.specs.Members.{Member, members_of}
 use Rattle.intersections.specs.Points.{collected}
 use Rattle.sums.specs.Rows as Sums
@@ -10,26 +10,34 @@ use Rattle.drawn.specs.Drawn.{plan_circles, box_of}
 use Rattle.sets.specs.Regions.{set_bytes}
 use Rattle.table.specs.declared.ready.Ready.{Ready}
 
+-- how many heads
+abbrev pub heads_in : Ready → ℕ
+heads_in r = length r.circles.items
+
 -- the members of a set
 abbrev pub members_in : Ready → ℕ → List Member
-members_in r S = members_of (take r.n r.circles) (point_list r.points) S
+members_in r S = members_of r.circles.items r.points.items S
 
 -- the area of row S
 unfoldable pub area_of : Ready → ℕ → Float
-area_of r S = Sums.area_of r.clipped r.bounds (members_in r S)
+area_of r S = Sums.area_of r.bounds (members_in r S)
 
--- r is made of the plan p, with its box or without it
-pub record Of (p : Plan) (has_box : Bool) (r : Ready) : Type 0 where
-  pub clipped : r.clipped ≡ has_box
-  pub n : r.n ≡ p.n
-  pub circles : take r.n r.circles ≡ plan_circles p
-  pub points : point_list r.points ≡ collected (plan_circles p)
-  pub bounds : r.bounds ≡ bounds (box_of p.ground)
+-- r is made of the plan p, in this box or without one; a plan to be refused may say that it has more heads
+-- than it holds
+pub record Of (p : Plan) (box : Option Bounds) (r : Ready) : Type 0 where
+  pub n : p.n ≤ 10 → heads_in r ≡ p.n
+  pub circles : r.circles.items ≡ plan_circles p
+  pub points : r.points.items ≡ collected (plan_circles p)
+  pub bounds : r.bounds ≡ box
 
--- the bytes of a plan's sets, as discover_regions writes them
-unfoldable pub sets_written : Plan → List ℕ
-sets_written p = set_bytes (plan_circles p) (collected (plan_circles p))
+-- the box of a plan, and that a box is it, where there is one
+abbrev pub plan_bounds : Plan → Bounds
+plan_bounds p = bounds_of (box_of p.ground)
 
--- the same of what a plan was made into
+abbrev pub BoxOf : Plan → Option Bounds → Type 0
+BoxOf p None = Unit {0}
+BoxOf p (Some b) = b ≡ plan_bounds p
+
+-- the bytes of the sets found, as discover_regions writes them
 abbrev pub sets_in : Ready → List ℕ
-sets_in r = set_bytes (take r.n r.circles) (point_list r.points)
+sets_in r = set_bytes r.circles.items r.points.items

@@ -1,5 +1,6 @@
--- What the lent tables of a call hold, and what one pass leaves in them, by the bytes of the sets: the rows of an edit, and the rows worked out
--- afresh. The private functions promise these passes; the public calls promise the steps of `regions`, specs/Slices.antt, over what the tables hold.
+-- What the lent tables of a call hold, and what one pass leaves in them, by the bytes of the sets: the rows
+-- of an edit, and the rows worked out afresh. The private functions promise these passes; the public calls
+-- promise the steps of `regions`, specs/Slices.antt, over what the tables hold.
 use Rattle.std.specs.Prelude.{ℕ, ◌≡◌, ◌^◌, List, ℤ}
 use Rattle.plan.specs.declared.Edit.{Edit}
 use Rattle.plan.specs.declared.Plan.{Plan}

@@ -14,10 +14,11 @@ pub(crate) fn write_exclusives(
     exclusive_presence: &mut [u8],
     exclusives: &mut [f64],
 )
-    requires { (n ≤ 10) × (2 ^ n ≤ length presence.now) × (2 ^ n ≤ length rows.now) × (2 ^ n ≤ length exclusive_presence.old)
-        × (2 ^ n ≤ length exclusives.old) }
+    requires { (n ≤ 10) × (2 ^ n ≤ length presence.now) × (2 ^ n ≤ length rows.now)
+        × (2 ^ n ≤ length exclusive_presence.old) × (2 ^ n ≤ length exclusives.old) }
     ensures exclusive_presence_after { exclusive_presence.new
-        ≡ written_bytes (to_exclusives.of n (row_at (slices_of presence.now rows.now))) (2 ^ n) exclusive_presence.old }
+        ≡ written_bytes (to_exclusives.of n (row_at (slices_of presence.now rows.now))) (2 ^ n)
+        exclusive_presence.old }
     ensures exclusives_after { exclusives.new
         ≡ written_numbers (to_exclusives.of n (row_at (slices_of presence.now rows.now))) (2 ^ n) exclusives.old }
 {

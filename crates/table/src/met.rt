@@ -1,27 +1,29 @@
 // The heads that an edited head meets, before or after, by whole numbers (`regions`, specs/Edit.antt).
-ghost use Rattle.std.specs.Prelude.{◌≡◌, not, ◌&&◌, [], ◌∷◌, ◌<◌, ◌≤◌, eqb, get_or};
+ghost use Rattle.std.specs.Prelude.{◌≡◌, [], ◌∷◌, ◌<◌, ◌≤◌, get_or, length};
 ghost use Rattle.plan.specs.Limits.{no_head};
 ghost use Rattle.regions.specs.Edit.{meets_any, met};
 
 use heads::{Head, meets};
 
-// Whether head j, not the edited one, is met by head k or by the head that takes its place.
+// Whether a head is met by at least one of two others.
 #[tactic(auto, unfolding(regions::specs::Edit::meets_any))]
-fn is_met(heads: [Head; 10], k: usize, head: Head, j: usize) -> bool
-    requires { (j < 10) × (k < 10) }
-    ensures { result ≡ (not (eqb j k) && meets_any (get_or heads k no_head ∷ head ∷ []) (get_or heads j no_head)) }
+fn meets_either(one: Head, other: Head, head: Head) -> bool
+    ensures { result ≡ meets_any (one ∷ other ∷ []) head }
 {
-    j != k && (meets(heads[k], heads[j]) || meets(head, heads[j]))
+    meets(one, head) || meets(other, head)
 }
 
 // The heads that head k, or the one that takes its place, meets, as a mask.
-pub(crate) fn met_by(heads: [Head; 10], n: usize, k: usize, head: Head) -> usize
-    requires { (n ≤ 10) × (k < n) }
-    ensures { result ≡ met (get_or heads k no_head ∷ head ∷ []) (λ j. get_or heads j no_head) n k }
+#[tactic(auto, using(intersections::proofs::Adopting::gathered), unfolding(regions::specs::Edit::met))]
+pub(crate) fn met_by(heads: &[Head], k: usize, head: Head) -> usize
+    requires { (length heads.now ≤ 10) × (k < length heads.now) }
+    ensures { result
+        ≡ met (get_or heads.now k no_head ∷ head ∷ []) (λ j. get_or heads.now j no_head) (length heads.now) k }
 {
+    let edited = heads[k];
     let mut mask: usize = 0;
-    for j in 0..n {
-        if is_met(heads, k, head, j) {
+    for (j, &other) in heads.iter().enumerate() {
+        if j != k && meets_either(edited, head, other) {
             mask |= 1 << j;
         }
     }

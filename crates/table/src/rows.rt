@@ -1,8 +1,10 @@
-// Which rows an edit works out, and all rows of lent slices written in place. Afresh is the same pass with no sets before.
+// Which rows an edit works out, and all rows of lent slices written in place. Afresh is the same pass with no
+// sets before.
 ghost use Rattle.std.specs.Prelude.{◌≡◌, ◌≤◌, ◌^◌, eqb, length, replicate};
 ghost use Rattle.lists.specs.Written.{written};
 ghost use Rattle.masks.specs.Presence.{byte, stands};
 ghost use Rattle.regions.specs.Edit.{reworked};
+ghost use Rattle.table.specs.Ready.{heads_in};
 ghost use Rattle.table.specs.Rows as spec;
 
 use crate::ready::Ready;
@@ -39,7 +41,9 @@ fn rows_worked_out(
     count: usize,
 ) -> [u8; 1024]
     requires { count ≤ 1024 }
-    ensures { result ≡ written (λ S. byte (spec.worked_out change (stands earlier.now) (stands later.now) S)) count (replicate 1024 0) }
+    ensures { result
+        ≡ written (λ S. byte (spec.worked_out change (stands earlier.now) (stands later.now) S)) count
+        (replicate 1024 0) }
 {
     let mut wanted = [0u8; 1024];
     for mask in 0..count {
@@ -48,10 +52,11 @@ fn rows_worked_out(
     wanted
 }
 
-// Rows 0 to count - 1 written: the areas of the rows that are worked out, absent rows made +0, and the presence bytes. Every other row keeps
-// its number.
+// Rows 0 to count - 1 written: the areas of the rows that are worked out, absent rows made +0, and the
+// presence bytes. Every other row keeps its number.
+#[tactic(auto, using(crate::proofs::Writing::rows_most))]
 pub(crate) fn write_rows(
-    ready: Ready,
+    ready: &Ready,
     change: Change,
     earlier: &[u8; 1024],
     later: &[u8; 1024],
@@ -59,23 +64,18 @@ pub(crate) fn write_rows(
     presence: &mut [u8],
     rows: &mut [f64],
 )
-    requires { (ready.n ≤ 10) × (count ≡ 2 ^ ready.n) × (count ≤ length presence.old) × (count ≤ length rows.old) }
+    requires { (count ≡ 2 ^ heads_in ready.now) × (count ≤ length presence.old) × (count ≤ length rows.old) }
     ensures presence_after { presence.new
-        ≡ written (λ S. (spec.rows_written ready change earlier.now later.now presence.old rows.old S).byte)
+        ≡ written (λ S. (spec.rows_written ready.now change earlier.now later.now presence.old rows.old S).byte)
         count presence.old }
     ensures rows_after { rows.new
-        ≡ written (λ S. (spec.rows_written ready change earlier.now later.now presence.old rows.old S).number)
+        ≡ written (λ S. (spec.rows_written ready.now change earlier.now later.now presence.old rows.old S).number)
         count rows.old }
 {
-    let Ready {
-        clipped,
-        n,
-        circles,
-        points,
-        bounds,
-    } = ready;
+    let n = ready.circles.len();
     let wanted = rows_worked_out(change, earlier, later, count);
-    write_areas(clipped, circles, points, n, bounds, &wanted, rows);
-    clear_absent(clipped, n, later, rows);
-    write_presence(clipped, n, later, presence);
+    let has_box = ready.bounds.is_some();
+    write_areas(ready.bounds, &ready.circles, &ready.points, &wanted, rows);
+    clear_absent(has_box, n, later, rows);
+    write_presence(has_box, n, later, presence);
 }

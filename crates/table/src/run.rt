@@ -9,7 +9,8 @@ use crate::edit::edit;
 use crate::tables::Tables;
 use plan::{Edit, Plan, answer_number};
 
-// The edits of a run: number i of each list makes edit i. Four lists, since the C interface lends them so, and there is no heap to put them together.
+// The edits of a run: number i of each list makes edit i. Four lists, since the C interface lends them so,
+// and there is no heap to put them together.
 #[derive(Clone, Copy)]
 pub struct Edits<'a> {
     pub head: &'a [usize],
@@ -21,7 +22,9 @@ pub struct Edits<'a> {
 impl Edits<'_> {
     // As many as the shortest list allows.
     fn count(self) -> usize
-        ensures { result ≡ least (length self.entry.head.now ∷ length self.entry.x.now ∷ length self.entry.y.now ∷ length self.entry.radius.now ∷ []) }
+        ensures { result
+            ≡ least (length self.entry.head.now ∷ length self.entry.x.now ∷ length self.entry.y.now
+            ∷ length self.entry.radius.now ∷ []) }
     {
         self.head
             .len()
@@ -31,8 +34,10 @@ impl Edits<'_> {
     }
 
     fn at(self, i: usize) -> Edit
-        requires { (i < length self.head.now) × (i < length self.x.now) × (i < length self.y.now) × (i < length self.radius.now) }
-        ensures { result ≡ list.edit_at self.entry.head.now self.entry.x.now self.entry.y.now self.entry.radius.now i }
+        requires { (i < length self.head.now) × (i < length self.x.now) × (i < length self.y.now)
+            × (i < length self.radius.now) }
+        ensures { result
+            ≡ list.edit_at self.entry.head.now self.entry.x.now self.entry.y.now self.entry.radius.now i }
     {
         Edit {
             head: self.head[i],
@@ -50,8 +55,8 @@ pub struct Ran {
     pub count: usize,
 }
 
-// As many edits as the shortest list allows, the list of answers included, each tried on what the one before left. Answer i is the number
-// of edit i's answer, 0 where it was taken.
+// As many edits as the shortest list allows, the list of answers included, each tried on what the one before
+// left. Answer i is the number of edit i's answer, 0 where it was taken.
 pub fn run(plan: Plan, edits: Edits<'_>, answers: &mut [u8], tables: &mut Tables<'_>) -> Ran
     ensures ran { list.Ran clipped_table (plan_tables plan tables.old)
         edits.entry.head.now edits.entry.x.now edits.entry.y.now edits.entry.radius.now answers.old

@@ -1,8 +1,10 @@
-// Both lent tables written in one pass: the rows, and from them the exclusives. Every call that writes a table goes through here, with the
-// sets before and after handed in as bytes, so that another list of sets needs no other pass.
+// Both lent tables written in one pass: the rows, and from them the exclusives. Every call that writes a
+// table goes through here, with the sets before and after handed in as bytes, so that another list of sets
+// needs no other pass.
 ghost use Rattle.std.specs.Prelude.{◌≡◌};
 ghost use Rattle.regions.proofs.Slices.{Room};
 ghost use Rattle.regions.specs.Slices.{lent_of};
+ghost use Rattle.table.specs.Ready.{heads_in};
 ghost use Rattle.table.specs.Rows.{rows_written};
 ghost use Rattle.table.specs.Tables.{tables_in, SameSlices, tables_written};
 
@@ -11,7 +13,9 @@ use crate::ready::Ready;
 use crate::rows::{Change, write_rows};
 use plan::{Lent, rows_needed};
 
-// The slices that a call lends for a plan's rows and for their exclusives: of both tables the presence bytes and the numbers.
+// The slices that a call lends for a plan's rows and for their exclusives: of both tables the presence bytes
+// and the numbers.
+// Four slices, as the C interface lends them.
 #[derive(Drop)]
 pub struct Tables<'a> {
     pub presence: &'a mut [u8],
@@ -35,26 +39,28 @@ impl Tables<'_> {
 }
 
 // Rows 0 to 2^n - 1 of both tables.
+#[tactic(auto, using(crate::proofs::Writing::rows_count))]
 pub(crate) fn write_tables(
-    ready: Ready,
+    ready: &Ready,
     change: Change,
     earlier: &[u8; 1024],
     later: &[u8; 1024],
     tables: &mut Tables<'_>,
 )
-    requires { Room ready.n (tables_in tables.old) }
+    requires { Room (heads_in ready.now) (tables_in tables.old) }
     ensures written { tables_in tables.new
-        ≡ tables_written ready.n
-        (rows_written ready change earlier.now later.now tables.old.presence.now tables.old.rows.now)
+        ≡ tables_written (heads_in ready.now)
+        (rows_written ready.now change earlier.now later.now tables.old.presence.now tables.old.rows.now)
         (tables_in tables.old) }
     ensures same_slices { SameSlices tables.old tables.new }
 {
-    let count = rows_needed(ready.n);
+    let n = ready.circles.len();
+    let count = rows_needed(n);
     // One field after the other, since the borrow checker covers no two of a struct's references in one call.
     let presence = &mut *tables.presence;
     let rows = &mut *tables.rows;
     let exclusive_presence = &mut *tables.exclusive_presence;
     let exclusives = &mut *tables.exclusives;
     write_rows(ready, change, earlier, later, count, presence, rows);
-    write_exclusives(ready.n, presence, rows, exclusive_presence, exclusives);
+    write_exclusives(n, presence, rows, exclusive_presence, exclusives);
 }

@@ -1,4 +1,5 @@
-// The calls of the C interface for exclusives with their gradients, and for what all heads of a plan water together. Each call is thin over the crates below.
+// The calls of the C interface for exclusives with their gradients, and for what all heads of a plan water together.
+// Each call is thin over the crates below.
 ghost use Rattle.std.specs.Prelude.{◌≡◌};
 ghost use Rattle.areas.specs.Sets.{plan_sets};
 ghost use Rattle.gradients.specs.Step.{gradient_slices, clipped_step, open_step};
@@ -15,8 +16,8 @@ use overlaps::overlaps::compute_overlaps_circles;
 use plan::Plan;
 use plan::check::check;
 
-// The exclusives of a plan in its box with their gradients: presence bytes and numbers of rows 0 to 2^n - 1, and 3n + 4 gradient numbers a row.
-// The answer is 0, or the refusal's number (2, 4, 5, 7), which writes nothing.
+// The exclusives of a plan in its box with their gradients: presence bytes and numbers of rows 0 to 2^n - 1, and 3n + 4
+// gradient numbers a row. The answer is 0, or the refusal's number (2, 4, 5, 7), which writes nothing.
 pub fn watered_gradients(
     n: usize,
     sides: &[i32; 4],
@@ -25,8 +26,12 @@ pub fn watered_gradients(
     exclusives: &mut [f64],
     gradients: &mut [f64],
 ) -> u32
-    ensures value { result ≡ answer_number (clipped_step plan_sets (spec.plan_of n sides.now heads.now) (gradient_slices presence.old exclusives.old gradients.old)).answer }
-    ensures gradients_after { gradient_slices presence.new exclusives.new gradients.new ≡ (clipped_step plan_sets (spec.plan_of n sides.now heads.now) (gradient_slices presence.old exclusives.old gradients.old)).left }
+    ensures value { result
+        ≡ answer_number (clipped_step plan_sets (spec.plan_of n sides.now heads.now)
+        (gradient_slices presence.old exclusives.old gradients.old)).answer }
+    ensures gradients_after { gradient_slices presence.new exclusives.new gradients.new
+        ≡ (clipped_step plan_sets (spec.plan_of n sides.now heads.now)
+        (gradient_slices presence.old exclusives.old gradients.old)).left }
 {
     let plan = plan_of(n, sides, heads);
     number_of(gradients::gradients(plan, presence, exclusives, gradients))
@@ -41,23 +46,26 @@ pub fn watered_open_gradients(
     exclusives: &mut [f64],
     gradients: &mut [f64],
 ) -> u32
-    ensures value { result ≡ answer_number (open_step plan_sets (spec.plan_of n sides.now heads.now) (gradient_slices presence.old exclusives.old gradients.old)).answer }
-    ensures gradients_after { gradient_slices presence.new exclusives.new gradients.new ≡ (open_step plan_sets (spec.plan_of n sides.now heads.now) (gradient_slices presence.old exclusives.old gradients.old)).left }
+    ensures value { result
+        ≡ answer_number (open_step plan_sets (spec.plan_of n sides.now heads.now)
+        (gradient_slices presence.old exclusives.old gradients.old)).answer }
+    ensures gradients_after { gradient_slices presence.new exclusives.new gradients.new
+        ≡ (open_step plan_sets (spec.plan_of n sides.now heads.now)
+        (gradient_slices presence.old exclusives.old gradients.old)).left }
 {
     let plan = plan_of(n, sides, heads);
     number_of(gradients::open_gradients(plan, presence, exclusives, gradients))
 }
 
 // The area that all heads of a plan water together, without the box.
-#[tactic(auto, unfolding(drawn::specs::Drawn::plan_circles))]
 fn overlap_of(plan: Plan) -> f64
     ensures { result ≡ overlap_area (plan_circles plan) }
 {
-    compute_overlaps_circles(circles_of(plan), plan.n)
+    compute_overlaps_circles(&circles_of(plan))
 }
 
-// What all heads of the plan water together, without the box, which is checked all the same. The answer is 0, or the refusal's number (2, 4,
-// 5), which leaves `overlap`.
+// What all heads of the plan water together, without the box, which is checked all the same. The answer is 0, or the
+// refusal's number (2, 4, 5), which leaves `overlap`.
 pub fn watered_overlap(n: usize, sides: &[i32; 4], heads: &[i32; 30], overlap: &mut f64) -> u32
     ensures value { result ≡ answer_number (plan_answer (spec.plan_of n sides.now heads.now)) }
     ensures overlap_after { overlap.new ≡ overlap_left (spec.plan_of n sides.now heads.now) overlap.old }

@@ -11,9 +11,11 @@ returns-then-is_nan c = let e = nan_is c.args.x (sym c.if-is_nan.ensures.value) 
 pub returns-then-is_sign_negative : goal.returns-then-is_sign_negative
 unfolding of_bits neg
 returns-then-is_sign_negative c =
-    sym (signum_of_number c.args.x true (sym c.if-is_nan.ensures.value) (sym (sign_is c.args.x) ∙ sym c.if-is_sign_negative.ensures))
+    sym (signum_of_number c.args.x true (sym c.if-is_nan.ensures.value)
+    (sym (sign_is c.args.x) ∙ sym c.if-is_sign_negative.ensures))
 
 pub returns-else-is_sign_negative : goal.returns-else-is_sign_negative
 unfolding of_bits
 returns-else-is_sign_negative c =
-    sym (signum_of_number c.args.x false (sym c.if-is_nan.ensures.value) (sym (sign_is c.args.x) ∙ sym c.if-is_sign_negative.ensures))
+    sym (signum_of_number c.args.x false (sym c.if-is_nan.ensures.value)
+    (sym (sign_is c.args.x) ∙ sym c.if-is_sign_negative.ensures))

@@ -1,5 +1,7 @@
--- The angle as a float: within 2048 units of 2^-62 of the whole number of units, and at most PI. Rests on proofs/fixed/Exit.antt.
-use Rattle.std.proofs.Common.{◌≡◌, ℕ, ◌*◌, ◌^◌, ◌≤◌, pos, sym, refl, ap, ◌∙◌, le_trans, le_of_eq, mul-le-mul_right, arith, lit<, lit≤, leb→le}
+-- The angle as a float: within 2048 units of 2^-62 of the whole number of units, and at most PI. Rests on
+-- proofs/fixed/Exit.antt.
+use Rattle.std.proofs.Common.{◌≡◌, ℕ, ◌*◌, ◌^◌, ◌≤◌, pos, sym, refl}
+use Rattle.std.proofs.Common.{ap, ◌∙◌, le_trans, le_of_eq, mul-le-mul_right, arith, lit<, lit≤, leb→le}
 use lib.Ieee.{Float, binary64, of_bits, fits, mul, of_int, size}
 use Rattle.binary64.specs.Units.{pow2, one, mag}
 use Rattle.binary64.specs.Rounding.{rnd}
@@ -42,8 +44,9 @@ module _ (a : ℕ) (small : a ≤ half_turn) where
   angle_most =
       le_trans (le_of_eq angle_made.size)
       (rnd_le (rnd (a * one) 1 * grain) one one_pos (mag_digits pi_units.finite)
-      (le_trans (mul-le-mul_right grain (le_trans (rnd_mono (a * one) 1 (half_turn * one) 1 (lit< tt) (lit< tt) (mul-le-mul_right 1 (mul-le-mul_right one small))) (le_of_eq half_turn_rounded)))
-      (le_of_eq (regroup 14488038916154245120 one grain ∙ ap (λ (m : ℕ). m * one) (sym pi_units.size)))))
-    where
-      regroup : (p u g : ℕ) → p * u * g ≡ p * g * u
-      regroup p u g = omega arith
+      (le_trans
+      (mul-le-mul_right grain
+      (le_trans
+      (rnd_mono (a * one) 1 (half_turn * one) 1 (lit< tt) (lit< tt) (mul-le-mul_right 1 (mul-le-mul_right one small)))
+      (le_of_eq half_turn_rounded)))
+      (le_of_eq ((omega arith) ∙ ap (λ (m : ℕ). m * one) (sym pi_units.size)))))

@@ -1,5 +1,10 @@
--- atan2's promise: the recipe's angle as a float, against the 40-term sums at that float. Rests on Aimed, Exit and Fractions.
-use Rattle.std.proofs.Common.{◌≡◌, ℕ, ◌+◌, ◌-◌, ◌*◌, ◌^◌, ◌<◌, ◌≤◌, Bool, true, false, cond, not, T, length, ℤ, pos, ◌*ℤ◌, nat_abs, sym, refl, ap, ◌∙◌, subst, ap₂, subst₂, zero-le, le_trans, le_of_eq, mul-le-mul_right, mul_assoc, mul_comm, mul-le-mul_left, le_of_mul-le-mul_right, arith, leb→le}
+-- atan2's promise: the recipe's angle as a float, against the 40-term sums at that float. Rests on Aimed, Exit and
+-- Fractions.
+use Rattle.std.proofs.Common.{◌≡◌, ℕ, ◌+◌, ◌-◌, ◌*◌, ◌^◌, ◌<◌, ◌≤◌, Bool}
+use Rattle.std.proofs.Common.{true, false, cond, not, T, length, ℤ, pos, ◌*ℤ◌}
+use Rattle.std.proofs.Common.{nat_abs, sym, refl, ap, ◌∙◌, subst, ap₂, subst₂, zero-le}
+use Rattle.std.proofs.Common.{le_trans, le_of_eq, mul-le-mul_right, mul_assoc}
+use Rattle.std.proofs.Common.{mul_comm, mul-le-mul_left, le_of_mul-le-mul_right, arith, leb→le}
 use lib.IntN.{*ℤ_comm}
 use lib.Ieee.{Float, binary64, fits, of_bits, neg, mul, lt, of_int, round}
 use Rattle.series.specs.Fraction.{exact, signed}
@@ -26,7 +31,8 @@ use Rattle.elementary.proofs.arctangent.Slope.{below_diagonal, above_diagonal, t
 use Rattle.elementary.proofs.arctangent.Exit.{grain, angle_of, angle_made, angle_most, pi_units}
 use Rattle.elementary.proofs.arctangent.Good.{Good, scaled, moved, loosened}
 use Rattle.elementary.proofs.arctangent.Aimed.{Aimed, place_small, below_axis, upper_aimed}
-use Rattle.elementary.proofs.arctangent.Fractions.{exact_units, exact_proper, units, signed_times, signed_size, residual_fractions, ahead_fractions}
+use Rattle.elementary.proofs.arctangent.Fractions.{exact_units, exact_proper, units}
+use Rattle.elementary.proofs.arctangent.Fractions.{signed_times, signed_size, residual_fractions, ahead_fractions}
 
 -- ---- constants
 
@@ -44,10 +50,9 @@ unfolding tick
 ticks = mul_assoc (2 ^ 538) (2 ^ 62) grain ∙ ap (λ (k : ℕ). 2 ^ 538 * k) (sym (pow2_split 62 1012))
 
 pi_small : mag pi ≤ 4 * one
-pi_small = le_trans (le_of_eq pi_units.size) (le_trans (below grain) (le_of_eq (ap (λ (k : ℕ). 4 * k) (sym (pow2_split 62 1012)))))
-  where
-    below : (g : ℕ) → 14488038916154245120 * g ≤ 4 * (2 ^ 62 * g)
-    below g = omega arith
+pi_small =
+    le_trans (le_of_eq pi_units.size)
+    (le_trans (omega arith) (le_of_eq (ap (λ (k : ℕ). 4 * k) (sym (pow2_split 62 1012)))))
 
 length_sin79 : length sin79 ≡ 80
 unfolding sin79 sin_from
@@ -72,12 +77,21 @@ module _ {x y a : ℤ} {t : Float} (m : Aimed x y a (1128 * unit80) (2 ^ 57 * un
   apart : dist (pos (2 ^ 600) *ℤ n) (m.place *ℤ pos d) ≤ 2582 * tick * d
   apart =
       le_of_mul-le-mul_right
-      (le_trans (le_of_eq (mul_comm (dist (pos (2 ^ 600) *ℤ n) (m.place *ℤ pos d)) one ∙ sym (dist_scale one (pos (2 ^ 600) *ℤ n) (m.place *ℤ pos d)) ∙ ap₂ dist left right ∙ dist_scale d (pos (2 ^ 600) *ℤ units t) (pos one *ℤ m.place)))
-      (le_trans (mul-le-mul_left d (le_trans (dist_trans (pos (2 ^ 600) *ℤ units t) (pos one *ℤ (a *ℤ pos tick)) (pos one *ℤ m.place)) (sum first second))) (le_of_eq (regroup d tick one))))
+      (le_trans
+      (le_of_eq
+      (mul_comm (dist (pos (2 ^ 600) *ℤ n) (m.place *ℤ pos d)) one
+      ∙ sym (dist_scale one (pos (2 ^ 600) *ℤ n) (m.place *ℤ pos d)) ∙ ap₂ dist left right
+      ∙ dist_scale d (pos (2 ^ 600) *ℤ units t) (pos one *ℤ m.place)))
+      (le_trans
+      (mul-le-mul_left d
+      (le_trans (dist_trans (pos (2 ^ 600) *ℤ units t) (pos one *ℤ (a *ℤ pos tick)) (pos one *ℤ m.place))
+      (sum first second))) (le_of_eq (omega arith))))
       one_pos
     where
       left : pos one *ℤ (pos (2 ^ 600) *ℤ n) ≡ pos d *ℤ (pos (2 ^ 600) *ℤ units t)
-      left = swap (pos one) (pos (2 ^ 600)) n ∙ ap (λ (z : ℤ). pos (2 ^ 600) *ℤ z) (sym (exact_units finite)) ∙ back (pos (2 ^ 600)) (units t) (pos d)
+      left =
+          swap (pos one) (pos (2 ^ 600)) n ∙ ap (λ (z : ℤ). pos (2 ^ 600) *ℤ z) (sym (exact_units finite))
+          ∙ back (pos (2 ^ 600)) (units t) (pos d)
         where
           swap : (o f n : ℤ) → o *ℤ (f *ℤ n) ≡ f *ℤ (n *ℤ o)
           swap o f n = simp (*ℤ_comm, *ℤ-left-comm)
@@ -103,10 +117,8 @@ module _ {x y a : ℤ} {t : Float} (m : Aimed x y a (1128 * unit80) (2 ^ 57 * un
       first : dist (pos (2 ^ 600) *ℤ units t) (pos one *ℤ (a *ℤ pos tick)) ≤ 2048 * (tick * one)
       first =
           subst (λ (z : ℤ). dist (pos (2 ^ 600) *ℤ units t) z ≤ 2048 * (tick * one)) same
-          (le_trans (le_of_eq (dist_scale (2 ^ 600) (units t) (a *ℤ pos grain))) (le_trans (mul-le-mul_left (2 ^ 600) close) (le_of_eq (turn (2 ^ 600) grain ∙ ap (λ (k : ℕ). 2048 * k) ticks))))
-        where
-          turn : (f g : ℕ) → f * (2048 * g) ≡ 2048 * (f * g)
-          turn f g = omega arith
+          (le_trans (le_of_eq (dist_scale (2 ^ 600) (units t) (a *ℤ pos grain)))
+          (le_trans (mul-le-mul_left (2 ^ 600) close) (le_of_eq ((omega arith) ∙ ap (λ (k : ℕ). 2048 * k) ticks))))
 
       second : dist (pos one *ℤ (a *ℤ pos tick)) (pos one *ℤ m.place) ≤ one * (534 * tick)
       second = le_trans (le_of_eq (dist_scale one (a *ℤ pos tick) m.place)) (mul-le-mul_left one m.near)
@@ -114,17 +126,22 @@ module _ {x y a : ℤ} {t : Float} (m : Aimed x y a (1128 * unit80) (2 ^ 57 * un
       sum : {p q : ℕ} → p ≤ 2048 * (tick * one) → q ≤ one * (534 * tick) → p + q ≤ 2582 * tick * one
       sum h k = omega arith
 
-      regroup : (d t o : ℕ) → d * (2582 * t * o) ≡ 2582 * t * d * o
-      regroup d t o = omega arith
-
   num_small : nat_abs n ≤ 4 * d
-  num_small = le_of_mul-le-mul_right (le_trans (le_of_eq (sym (abs_mul n (pos one)) ∙ ap nat_abs (sym (exact_units finite)) ∙ abs_mul (units t) (pos d) ∙ ap (λ (k : ℕ). k * d) (signed_size (negative t) (mag t)))) (le_trans (mul-le-mul_right d (le_trans most pi_small)) (le_of_eq (swap d one)))) one_pos
+  num_small =
+      le_of_mul-le-mul_right
+      (le_trans
+      (le_of_eq
+      (sym (abs_mul n (pos one)) ∙ ap nat_abs (sym (exact_units finite)) ∙ abs_mul (units t) (pos d)
+      ∙ ap (λ (k : ℕ). k * d) (signed_size (negative t) (mag t))))
+      (le_trans (mul-le-mul_right d (le_trans most pi_small)) (le_of_eq (swap d one)))) one_pos
     where
       swap : (d o : ℕ) → 4 * o * d ≡ 4 * d * o
       swap d o = omega arith
 
   t_small : nat_abs (pos (2 ^ 600) *ℤ n) ≤ 4 * 2 ^ 600 * d
-  t_small = le_trans (le_of_eq (abs_mul (pos (2 ^ 600)) n)) (le_trans (mul-le-mul_left (2 ^ 600) num_small) (le_of_eq (swap (2 ^ 600) d)))
+  t_small =
+      le_trans (le_of_eq (abs_mul (pos (2 ^ 600)) n))
+      (le_trans (mul-le-mul_left (2 ^ 600) num_small) (le_of_eq (swap (2 ^ 600) d)))
     where
       swap : (f d : ℕ) → f * (4 * d) ≡ 4 * f * d
       swap f d = omega arith
@@ -132,7 +149,8 @@ module _ {x y a : ℤ} {t : Float} (m : Aimed x y a (1128 * unit80) (2 ^ 57 * un
   there : nat_abs (m.place *ℤ pos d) ≤ 4 * 2 ^ 600 * d
   there = le_trans (le_of_eq (abs_mul m.place (pos d))) (mul-le-mul_right d (place_small a_small m))
 
-  sine_moved : dist (pos ((2 ^ 600) ^ 80) *ℤ hval sin79 n d) (pos (d ^ 80) *ℤ val sine80 m.place) ≤ d ^ 80 * (16 * 2582 * unit80)
+  sine_moved : dist (pos ((2 ^ 600) ^ 80) *ℤ hval sin79 n d) (pos (d ^ 80) *ℤ val sine80 m.place) ≤ d ^ 80 *
+      (16 * 2582 * unit80)
   unfolding sine80
   sine_moved =
       subst₂ (λ (p q : ℤ). dist p q ≤ d ^ 80 * (16 * 2582 * unit80))
@@ -140,7 +158,8 @@ module _ {x y a : ℤ} {t : Float} (m : Aimed x y a (1128 * unit80) (2 ^ 57 * un
       (value_units sine80 m.place d ∙ ap (λ (k : ℕ). pos (d ^ k) *ℤ val sine80 m.place) length_sine)
       (sine_follows (pos (2 ^ 600) *ℤ n) (m.place *ℤ pos d) d 2582 t_small there apart)
 
-  cosine_moved : dist (pos ((2 ^ 600) ^ 80) *ℤ hval cos79 n d) (pos (d ^ 80) *ℤ val cosine80 m.place) ≤ d ^ 80 * (16 * 2582 * unit80)
+  cosine_moved : dist (pos ((2 ^ 600) ^ 80) *ℤ hval cos79 n d) (pos (d ^ 80) *ℤ val cosine80 m.place) ≤ d ^ 80 *
+      (16 * 2582 * unit80)
   unfolding cosine80
   cosine_moved =
       subst₂ (λ (p q : ℤ). dist p q ≤ d ^ 80 * (16 * 2582 * unit80))
@@ -148,19 +167,12 @@ module _ {x y a : ℤ} {t : Float} (m : Aimed x y a (1128 * unit80) (2 ^ 57 * un
       (value_units cosine80 m.place d ∙ ap (λ (k : ℕ). pos (d ^ k) *ℤ val cosine80 m.place) length_cosine)
       (cosine_follows (pos (2 ^ 600) *ℤ n) (m.place *ℤ pos d) d 2582 t_small there apart)
 
-  pub sums_good : Good x y (pos ((2 ^ 600) ^ 80) *ℤ hval sin79 n d) (pos ((2 ^ 600) ^ 80) *ℤ hval cos79 n d) (d ^ 80 * (2 ^ 21 * unit80)) (d ^ 80 * (2 ^ 56 * unit80))
+  pub sums_good : Good x y (pos ((2 ^ 600) ^ 80) *ℤ hval sin79 n d) (pos ((2 ^ 600) ^ 80) *ℤ hval cos79 n d)
+      (d ^ 80 * (2 ^ 21 * unit80)) (d ^ 80 * (2 ^ 56 * unit80))
   sums_good =
-      loosened (d ^ 80 * (2 ^ 21 * unit80)) (d ^ 80 * (2 ^ 56 * unit80)) (up (d ^ 80) unit80) (down (d ^ 80) unit80)
-      (moved (pos ((2 ^ 600) ^ 80) *ℤ hval sin79 n d) (pos ((2 ^ 600) ^ 80) *ℤ hval cos79 n d) (d ^ 80 * (16 * 2582 * unit80)) (room (d ^ 80) unit80) sine_moved cosine_moved (scaled (d ^ 80) m.points))
-    where
-      up : (k u : ℕ) → k * (1128 * u) + k * (16 * 2582 * u) ≤ k * (2 ^ 21 * u)
-      up k u = omega arith
-
-      down : (k u : ℕ) → k * (2 ^ 56 * u) ≤ k * (2 ^ 57 * u) - k * (16 * 2582 * u)
-      down k u = omega arith
-
-      room : (k u : ℕ) → k * (16 * 2582 * u) ≤ k * (2 ^ 57 * u)
-      room k u = omega arith
+      loosened (d ^ 80 * (2 ^ 21 * unit80)) (d ^ 80 * (2 ^ 56 * unit80)) (omega arith) (omega arith)
+      (moved (pos ((2 ^ 600) ^ 80) *ℤ hval sin79 n d) (pos ((2 ^ 600) ^ 80) *ℤ hval cos79 n d)
+      (d ^ 80 * (16 * 2582 * unit80)) (omega arith) sine_moved cosine_moved (scaled (d ^ 80) m.points))
 
 -- ---- the answer
 
@@ -174,19 +186,26 @@ record Answer (s : Bool) (a : ℕ) (t : Float) : Type 0 where
   size : mag t ≡ mag (angle_of a)
 
 answer : (s : Bool) (a : ℕ) → a ≤ half_turn → Answer s a (signed_angle s a)
-answer true a l = let m = angle_made a l in record { finite = neg_finite m.most.finite; sign = neg_sign m.most.finite ∙ ap not m.sign; size = neg_mag (angle_of a) }
+answer true a l = let m = angle_made a l in record {
+  finite = neg_finite m.most.finite;
+  sign = neg_sign m.most.finite ∙ ap not m.sign;
+  size = neg_mag (angle_of a);
+}
 answer false a l = let m = angle_made a l in record { finite = m.most.finite; sign = m.sign; size = refl }
 
 -- inside the domain
-pub atan2_inside : {y x : Float} → Domain y x → atan2 y x ≡ signed_angle (negative y) (upper_half x (absolute x) (absolute y))
+pub atan2_inside : {y x : Float} → Domain y x
+    → atan2 y x ≡ signed_angle (negative y) (upper_half x (absolute x) (absolute y))
 unfolding atan2
-atan2_inside {y} {x} g = ap (λ (b : Bool). cond b (signed_angle (negative y) (upper_half x (absolute x) (absolute y))) zero64) (inside g)
+atan2_inside {y} {x} g =
+    ap (λ (b : Bool). cond b (signed_angle (negative y) (upper_half x (absolute x) (absolute y))) zero64) (inside g)
 
 module _ {y x : Float} (g : Domain y x) where
   abbrev A : ℕ
   A = upper_half x (absolute x) (absolute y)
 
-  upper : Aimed (signed (negative x) (mag (absolute x))) (pos (mag (absolute y))) (pos A) (1128 * unit80) (2 ^ 57 * unit80) × (A ≤ half_turn)
+  upper : Aimed (signed (negative x) (mag (absolute x))) (pos (mag (absolute y))) (pos A) (1128 * unit80)
+      (2 ^ 57 * unit80) × (A ≤ half_turn)
   upper = upper_aimed x (point g)
 
   -- the point (x, |y|)
@@ -207,8 +226,12 @@ module _ {y x : Float} (g : Domain y x) where
 
   pub angle_promise : Angle y x (signed_angle (negative y) A)
   angle_promise = record {
-    residual = residual_fractions g.x_size.finite g.y_size.finite g.some (exact t) (exact_proper t) unit80 ((2 ^ 600) ^ 80) unit_pos scales sums;
-    ahead = ahead_fractions g.x_size.finite g.y_size.finite g.some (exact t) (exact_proper t) unit80 ((2 ^ 600) ^ 80) unit_pos scales sums;
+    residual =
+        residual_fractions g.x_size.finite g.y_size.finite g.some (exact t) (exact_proper t) unit80 ((2 ^ 600) ^ 80)
+        unit_pos scales sums;
+    ahead =
+        ahead_fractions g.x_size.finite g.y_size.finite g.some (exact t) (exact_proper t) unit80 ((2 ^ 600) ^ 80)
+        unit_pos scales sums;
     within = record { finite = there_is.finite; most = most };
   }
     where
@@ -220,10 +243,15 @@ module _ {y x : Float} (g : Domain y x) where
 
       close : dist (units t) (signed (negative y) A *ℤ pos grain) ≤ 2048 * grain
       close =
-          subst₂ (λ (p q : ℤ). dist p q ≤ 2048 * grain) (sym (ap₂ (λ (s : Bool) (k : ℕ). signed s k) there_is.sign there_is.size)) (sym (signed_times (negative y) A grain))
-          (dist_signed (negative y) (mag (angle_of A)) (A * grain) (2048 * grain) (angle_made A upper.1).above (angle_made A upper.1).below)
+          subst₂ (λ (p q : ℤ). dist p q ≤ 2048 * grain)
+          (sym (ap₂ (λ (s : Bool) (k : ℕ). signed s k) there_is.sign there_is.size))
+          (sym (signed_times (negative y) A grain))
+          (dist_signed (negative y) (mag (angle_of A)) (A * grain) (2048 * grain) (angle_made A upper.1).above
+          (angle_made A upper.1).below)
 
-      sums : Good (units x) (units y) (pos ((2 ^ 600) ^ 80) *ℤ hval sin79 (exact t).num (exact t).den) (pos ((2 ^ 600) ^ 80) *ℤ hval cos79 (exact t).num (exact t).den) ((exact t).den ^ 80 * (2 ^ 21 * unit80)) ((exact t).den ^ 80 * (2 ^ 56 * unit80))
+      sums : Good (units x) (units y) (pos ((2 ^ 600) ^ 80) *ℤ hval sin79 (exact t).num (exact t).den)
+          (pos ((2 ^ 600) ^ 80) *ℤ hval cos79 (exact t).num (exact t).den) ((exact t).den ^ 80 * (2 ^ 21 * unit80))
+          ((exact t).den ^ 80 * (2 ^ 56 * unit80))
       sums = sums_good aimed (le_trans (le_of_eq (signed_size (negative y) A)) upper.1) there_is.finite most close
 
 -- ---- outside
@@ -232,7 +260,8 @@ pub atan2_outside : {y x : Float} → T (fits binary64 y) → T (fits binary64 x
 unfolding atan2
 atan2_outside {y} {x} g f none = go (in_domain (absolute x) (absolute y)) refl
   where
-    go : (b : Bool) → in_domain (absolute x) (absolute y) ≡ b → cond b (signed_angle (negative y) (upper_half x (absolute x) (absolute y))) zero64 ≡ zero64
+    go : (b : Bool) → in_domain (absolute x) (absolute y) ≡ b
+        → cond b (signed_angle (negative y) (upper_half x (absolute x) (absolute y))) zero64 ≡ zero64
     go true t = absurd (none (domain g f t))
     go false t = refl
 
@@ -243,7 +272,8 @@ pub atan2_within : (y x : Float) → T (fits binary64 y) → T (fits binary64 x)
 unfolding atan2
 atan2_within y x g f = go (in_domain (absolute x) (absolute y)) refl
   where
-    go : (b : Bool) → in_domain (absolute x) (absolute y) ≡ b → UpToPi (cond b (signed_angle (negative y) (upper_half x (absolute x) (absolute y))) zero64)
+    go : (b : Bool) → in_domain (absolute x) (absolute y) ≡ b
+        → UpToPi (cond b (signed_angle (negative y) (upper_half x (absolute x) (absolute y))) zero64)
     go true t = (angle_promise (domain {y = y} {x = x} g f t)).within
     go false t = zero_within
 
@@ -280,10 +310,7 @@ unfolding first_quarter
 flat {w} {h} p z = go (lt w h) refl
   where
     go : (b : Bool) → lt w h ≡ b → cond b (quarter_turn - arc (tangent w h)) (arc (tangent h w)) ≡ 0
-    go true t = absurd (not_below (mag w) (mag h) p.some (below_diagonal p t).order z)
-      where
-        not_below : (m n : ℕ) → 0 < m + n → m ≤ n → n ≡ 0 → ⊥
-        not_below m n h k e = omega arith
+    go true t = absurd (omega (arith, p.some, (below_diagonal p t).order))
     go false t = ap arc (tangent_zero (above_diagonal p t) z) ∙ arc_zero
 
 -- on the y axis
@@ -293,10 +320,7 @@ steep {w} {h} p z = go (lt w h) refl
   where
     go : (b : Bool) → lt w h ≡ b → cond b (quarter_turn - arc (tangent w h)) (arc (tangent h w)) ≡ quarter_turn
     go true t = ap (λ (n : ℕ). quarter_turn - n) (ap arc (tangent_zero (below_diagonal p t) z) ∙ arc_zero)
-    go false t = absurd (not_above (mag w) (mag h) p.some (above_diagonal p t).order z)
-      where
-        not_above : (m n : ℕ) → 0 < m + n → n ≤ m → m ≡ 0 → ⊥
-        not_above m n h k e = omega arith
+    go false t = absurd (omega (arith, p.some, (above_diagonal p t).order))
 
 module _ {y x : Float} (g : Domain y x) where
   first : ℕ
@@ -304,7 +328,9 @@ module _ {y x : Float} (g : Domain y x) where
 
   turned_by : {s : Bool} → negative x ≡ s → upper_half x (absolute x) (absolute y) ≡ cond s (half_turn - first) first
   unfolding upper_half first
-  turned_by e = ap (λ (s : Bool). cond s (half_turn - first_quarter (absolute x) (absolute y)) (first_quarter (absolute x) (absolute y))) e
+  turned_by e =
+      ap (λ (s : Bool). cond s (half_turn - first_quarter (absolute x) (absolute y))
+      (first_quarter (absolute x) (absolute y))) e
 
   on_x_axis : mag y ≡ 0 → first ≡ 0
   unfolding first
@@ -315,14 +341,18 @@ module _ {y x : Float} (g : Domain y x) where
   on_y_axis z = steep (point g) (absolute_mag x ∙ z)
 
   pub atan2_right : mag y ≡ 0 → negative x ≡ false → atan2 y x ≡ signed_zero (negative y)
-  atan2_right z s = atan2_inside g ∙ ap (signed_angle (negative y)) (turned_by s ∙ on_x_axis z) ∙ ap (λ (t : Float). cond (negative y) (neg t) t) angle_zero ∙ both (negative y)
+  atan2_right z s =
+      atan2_inside g ∙ ap (signed_angle (negative y)) (turned_by s ∙ on_x_axis z)
+      ∙ ap (λ (t : Float). cond (negative y) (neg t) t) angle_zero ∙ both (negative y)
     where
       both : (s : Bool) → cond s (neg (signed_zero false)) (signed_zero false) ≡ signed_zero s
       both true = neg_zero
       both false = refl
 
   pub atan2_left : mag y ≡ 0 → negative x ≡ true → atan2 y x ≡ with_sign y pi
-  atan2_left z s = atan2_inside g ∙ ap (signed_angle (negative y)) (turned_by s ∙ ap (λ (n : ℕ). half_turn - n) (on_x_axis z)) ∙ ap (λ (t : Float). cond (negative y) (neg t) t) angle_half_turn
+  atan2_left z s =
+      atan2_inside g ∙ ap (signed_angle (negative y)) (turned_by s ∙ ap (λ (n : ℕ). half_turn - n) (on_x_axis z))
+      ∙ ap (λ (t : Float). cond (negative y) (neg t) t) angle_half_turn
 
   pub atan2_upright : mag x ≡ 0 → atan2 y x ≡ with_sign y half_pi
   atan2_upright z = atan2_inside g ∙ ap (λ (t : Float). cond (negative y) (neg t) t) (go (negative x) refl)

@@ -1,4 +1,5 @@
--- The constants of the recipes: numbers without the sign bit, in units of 2^-1074; and the test |x| ≤ y against such a number.
+-- The constants of the recipes: numbers without the sign bit, in units of 2^-1074; and the test |x| ≤ y against such a
+-- number.
 use Rattle.std.proofs.Common.{◌≡◌, ℕ, ◌*◌, true, false, T, leb, sym, ap, ◌∙◌, subst, le→leb, leb→le}
 use lib.Ieee.{Float, binary64, fits, le}
 use lib.Ieee.Bits.{is_true}

@@ -1,5 +1,6 @@
 -- Coefficients of which none is above the one after it.
-use Rattle.std.proofs.Common.{ℕ, zero, suc, ◌+◌, ◌<◌, ◌≤◌, List, [], ◌∷◌, length, get_or, T, leb, leb→le, sym, subst, add-one, arith, IsTrue}
+use Rattle.std.proofs.Common.{ℕ, zero, suc, ◌+◌, ◌<◌, ◌≤◌, List, [], ◌∷◌}
+use Rattle.std.proofs.Common.{length, get_or, T, leb, leb→le, sym, subst, add-one, arith, IsTrue}
 use Rattle.std.proofs.Math.Facts.{and_yes}
 use Rattle.elementary.specs.FixedSteps.{rising}
 

@@ -1,5 +1,8 @@
--- The root of a float by the cases that the program tells apart: above zero and finite, above zero and infinite, a zero, anything else.
-use Rattle.std.proofs.Common.{◌≡◌, ℕ, zero, suc, ◌*◌, ◌/◌, ◌%◌, ◌^◌, ◌<◌, ◌≤◌, Bool, true, false, not, T, eqb, ltb, ℤ, sym, refl, ap, ◌∙◌, subst, ap₂, subst₂, true≢false, lt_irrefl, zero-lt-suc, mul-pos, zero-mul, mul-one, arith, eqb→eq, lt→ltb, T_not}
+-- The root of a float by the cases that the program tells apart: above zero and finite, above zero and infinite, a
+-- zero, anything else.
+use Rattle.std.proofs.Common.{◌≡◌, ℕ, zero, suc, ◌*◌, ◌/◌, ◌%◌, ◌^◌, ◌<◌, ◌≤◌, Bool, true, false, not, T, eqb, ltb}
+use Rattle.std.proofs.Common.{ℤ, sym, refl, ap, ◌∙◌, subst, ap₂, subst₂, true≢false}
+use Rattle.std.proofs.Common.{lt_irrefl, zero-lt-suc, mul-pos, zero-mul, mul-one, arith, eqb→eq, lt→ltb, T_not}
 use mathlib.Core.Bool.{false≢true}
 use native.Mathlib.Nat.{zero-div}
 use lib.Arith.{le→nltb}
@@ -24,10 +27,12 @@ fails e = subst (λ (t : Bool). T (not t)) (sym e) tt
 -- a zero is 0 units
 pub zero_units : (s : Bool) (e : ℤ) → mag (fin s 0 e) ≡ 0
 unfolding mag
-zero_units s e = ap (λ (n : ℕ). n * one / down e) (zero-mul (up e)) ∙ ap (λ (n : ℕ). n / down e) (zero-mul one) ∙ zero-div (down e)
+zero_units s e =
+    ap (λ (n : ℕ). n * one / down e) (zero-mul (up e)) ∙ ap (λ (n : ℕ). n / down e) (zero-mul one) ∙ zero-div (down e)
 
 -- the root of a finite number above zero
-pub root_positive : {x : Float} → Finite x → negative x ≡ false → 0 < mag x → root x ≡ of_units false (root_units (mag x))
+pub root_positive : {x : Float} → Finite x → negative x ≡ false → 0 < mag x
+    → root x ≡ of_units false (root_units (mag x))
 unfolding root mag
 root_positive {x = nan} f s p = absurd f.number
 root_positive {x = inf t} f s p = absurd f.number
@@ -39,7 +44,9 @@ root_positive {x = fin false (suc m) e} f s p = refl
 
 -- patterns below the infinity's are numbers
 pub number_bits : (b : ℕ) → b < 2047 * 2 ^ 52 → T (not (nan_bits binary64 b))
-number_bits b h = subst (λ (t : Bool). T (not t)) (sym (nan_bits_above binary64 b)) (le→nltb (2047 * 2 ^ 52) (b % 2 ^ 63) (omega arith))
+number_bits b h =
+    subst (λ (t : Bool). T (not t)) (sym (nan_bits_above binary64 b))
+    (le→nltb (2047 * 2 ^ 52) (b % 2 ^ 63) (omega arith))
 
 pub above_number : (x : Float) → lt zero64 x ≡ true → T (not (is_nan x))
 above_number x h = fails (above_sign x h).1
@@ -72,12 +79,16 @@ module _ (x : Float) (f : T (fits binary64 x)) (h : lt zero64 x ≡ true) where
   below_sign : to_bits binary64 x < 2 ^ 63
   below_sign =
       nleb→lt (2 ^ 63) (to_bits binary64 x)
-      (fails (sym (pattern_sign (to_bits binary64 x) (subst (λ (y : Float). T (not (is_nan y))) (sym again) (above_number x h))) ∙ ap negative again ∙ (above_sign x h).0))
+      (fails (sym
+      (pattern_sign (to_bits binary64 x) (subst (λ (y : Float). T (not (is_nan y))) (sym again) (above_number x h)))
+      ∙ ap negative again ∙ (above_sign x h).0))
 
   -- bits from the infinity's on are no finite number's
   pub root_infinite : 2047 * 2 ^ 52 ≤ to_bits binary64 x → zero64 ≡ root x
   root_infinite l =
-      not_finite x (ap finite (sym again) ∙ pattern_finite (to_bits binary64 x) ∙ ap not (eqb_is (ones (to_bits binary64 x) l below_sign)))
+      not_finite x
+      (ap finite (sym again) ∙ pattern_finite (to_bits binary64 x)
+      ∙ ap not (eqb_is (ones (to_bits binary64 x) l below_sign)))
     where
       ones : (b : ℕ) → 2047 * 2 ^ 52 ≤ b → b < 2 ^ 63 → b % 2 ^ 63 / 2 ^ 52 ≡ 2047
       ones b l h = omega arith
@@ -90,10 +101,15 @@ unfolding eq root of_bits
 root_zero nan h = absurd (false≢true h)
 root_zero (inf s) h = absurd (false≢true h)
 root_zero (fin s zero e) h = refl
-root_zero (fin s (suc m) e) h = absurd (none m e (eqb→eq (suc m * up e * 1) (0 * down e) (and_l (eqb (suc m * up e * 1) (0 * down e)) _ (passes h))))
+root_zero (fin s (suc m) e) h =
+    absurd (none m e
+    (eqb→eq (suc m * up e * 1) (0 * down e) (and_l (eqb (suc m * up e * 1) (0 * down e)) _ (passes h))))
   where
     none : (m : ℕ) (e : ℤ) → suc m * up e * 1 ≡ 0 * down e → ⊥
-    none m e g = lt_irrefl 0 (subst (λ (n : ℕ). 0 < n) (sym (mul-one (suc m * up e)) ∙ g ∙ zero-mul (down e)) (mul-pos (zero-lt-suc m) (up_pos e)))
+    none m e g =
+        lt_irrefl 0
+        (subst (λ (n : ℕ). 0 < n) (sym (mul-one (suc m * up e)) ∙ g ∙ zero-mul (down e))
+        (mul-pos (zero-lt-suc m) (up_pos e)))
 
 -- what is neither above zero nor a zero has the root +0
 pub root_other : (x : Float) → lt zero64 x ≡ false → eq x zero64 ≡ false → zero64 ≡ root x
@@ -107,9 +123,13 @@ root_other (fin s zero e) h k = absurd (true≢false (sym (same s e) ∙ k))
     signs false = refl
 
     same : (s : Bool) (e : ℤ) → level s (0 * up e * 1) false (0 * down e) ≡ true
-    same s e = ap₂ (λ (a b : ℕ). level s a false b) (ap (λ (a : ℕ). a * 1) (zero-mul (up e))) (zero-mul (down e)) ∙ signs s
+    same s e =
+        ap₂ (λ (a b : ℕ). level s a false b) (ap (λ (a : ℕ). a * 1) (zero-mul (up e))) (zero-mul (down e)) ∙ signs s
 root_other (fin true (suc m) e) h k = refl
-root_other (fin false (suc m) e) h k = absurd (T_not (ltb (0 * down e) (suc m * up e * 1)) (fails h) (lt→ltb (0 * down e) (suc m * up e * 1) (some m e)))
+root_other (fin false (suc m) e) h k =
+    absurd (T_not (ltb (0 * down e) (suc m * up e * 1)) (fails h) (lt→ltb (0 * down e) (suc m * up e * 1) (some m e)))
   where
     some : (m : ℕ) (e : ℤ) → 0 * down e < suc m * up e * 1
-    some m e = subst₂ (λ (a b : ℕ). a < b) (sym (zero-mul (down e))) (sym (mul-one (suc m * up e))) (mul-pos (zero-lt-suc m) (up_pos e))
+    some m e =
+        subst₂ (λ (a b : ℕ). a < b) (sym (zero-mul (down e))) (sym (mul-one (suc m * up e)))
+        (mul-pos (zero-lt-suc m) (up_pos e))

@@ -1,5 +1,7 @@
--- The root digit by digit: what holds after each pair of the radicand's digits, and that the end is the nearest whole number.
-use Rattle.std.proofs.Common.{zero, ◌≡◌, ℕ, suc, ◌+◌, ◌-◌, ◌*◌, ◌/◌, ◌%◌, ◌^◌, ◌<◌, ◌≤◌, sym, ap, ◌∙◌, subst, mul-le-mul_right, mul_assoc, pow-suc, sub-one, arith}
+-- The root digit by digit: what holds after each pair of the radicand's digits, and that the end is the nearest whole
+-- number.
+use Rattle.std.proofs.Common.{zero, ◌≡◌, ℕ, suc, ◌+◌, ◌-◌, ◌*◌, ◌/◌, ◌%◌, ◌^◌}
+use Rattle.std.proofs.Common.{◌<◌, ◌≤◌, sym, ap, ◌∙◌, subst, mul-le-mul_right, mul_assoc, pow-suc, sub-one, arith}
 use native.Mathlib.Nat.{pow-succ'}
 use lib.Arith.{le-zero}
 use Rattle.elementary.specs.Root.{nearest_root}
@@ -65,9 +67,11 @@ all m digits root rest t =
 
 -- what is nearest is the definition's number
 pub nearest_is : (m q : ℕ) → 2 ^ 52 ≤ m → m < 2 ^ 54 → Near (m * 2 ^ 52) q → q ≡ nearest_root 53 (m * 2 ^ 52)
-nearest_is m q l h n = near_unique (m * 2 ^ 52) q (nearest_root 53 (m * 2 ^ 52)) n (near 53 (m * 2 ^ 52) (omega arith) (omega arith))
+nearest_is m q l h n =
+    near_unique (m * 2 ^ 52) q (nearest_root 53 (m * 2 ^ 52)) n (near 53 (m * 2 ^ 52) (omega arith) (omega arith))
 
-module _ (m digits root rest left : ℕ) (l : 2 ^ 52 ≤ m) (h : m < 2 ^ 54) (t : Taken m digits root rest left) (z : left ≤ 0) where
+module _ (m digits root rest left : ℕ) (l : 2 ^ 52 ≤ m) (h : m < 2 ^ 54) (t : Taken m digits root rest left)
+    (z : left ≤ 0) where
   sum : m * 2 ^ 52 ≡ root * root + rest
   sum = all m digits root rest (subst (λ (k : ℕ). Taken m digits root rest k) (le-zero z) t)
 

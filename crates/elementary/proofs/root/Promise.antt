@@ -1,9 +1,11 @@
 -- The promise of specs/RootPromise.antt.
-use Rattle.std.proofs.Common.{◌≡◌, ℕ, zero, suc, ◌+◌, ◌*◌, ◌<◌, ◌≤◌, Bool, true, false, T, ltb, sym, refl, ◌∙◌, subst, zero-add, zero-mul, arith, ltb→lt}
+use Rattle.std.proofs.Common.{◌≡◌, ℕ, zero, suc, ◌+◌, ◌*◌, ◌<◌, Bool, true}
+use Rattle.std.proofs.Common.{false, T, ltb, sym, refl, ◌∙◌, subst, zero-add, zero-mul, arith, ltb→lt}
 use lib.Ieee.{Float, nan, inf, fin, binary64, up, down, fits, of_bits, lt}
-use Rattle.binary64.specs.Units.{one, mag, negative, plus, minus, Finite}
+use Rattle.binary64.specs.Units.{one, mag, negative, Finite}
 use Rattle.binary64.specs.Constants.{zero64}
-use Rattle.binary64.proofs.Units.{mag_digits, plus_is, plus_sign, not_lt_of_units, same_float, zero64_finite, zero64_plus, above_zero}
+use Rattle.binary64.proofs.Units.{mag_digits, plus_is, plus_sign, not_lt_of_units}
+use Rattle.binary64.proofs.Units.{same_float, zero64_finite, zero64_plus, above_zero}
 use Rattle.elementary.specs.Root.{root}
 use Rattle.elementary.specs.RootPromise.{Nearest, RootPromise}
 use Rattle.elementary.proofs.root.Neighbours.{neighbour_above, neighbour_below}
@@ -15,24 +17,20 @@ module _ {x : Float} (f : Finite x) (s : negative x ≡ false) (p : 0 < mag x) w
     finite = positive_finite f s p;
     sign = positive_sign f s p;
     above = λ u g h. subst (λ (r : ℕ). 4 * (mag x * one) < (mag u + r) * (mag u + r)) (sym (positive_mag f s p))
-        (neighbour_above (mag x) p (mag_digits f) (mag u) (mag_digits g) (subst (λ (r : ℕ). r < mag u) (positive_mag f s p) h));
+        (neighbour_above (mag x) p (mag_digits f) (mag u) (mag_digits g)
+        (subst (λ (r : ℕ). r < mag u) (positive_mag f s p) h));
     below = λ u g h. subst (λ (r : ℕ). (mag u + r) * (mag u + r) < 4 * (mag x * one)) (sym (positive_mag f s p))
-        (neighbour_below (mag x) p (mag_digits f) (mag u) (mag_digits g) (subst (λ (r : ℕ). mag u < r) (positive_mag f s p) h));
+        (neighbour_below (mag x) p (mag_digits f) (mag u) (mag_digits g)
+        (subst (λ (r : ℕ). mag u < r) (positive_mag f s p) h));
   }
 
 -- of two floats that are nearest none is the larger
 not_larger : {x r t : Float} → Nearest x r → Nearest x t → mag r < mag t → ⊥
-not_larger {x} {r} {t} a b l = apart (mag r) (mag t) (mag x * one) (a.above t b.finite l) (b.below r a.finite l)
-  where
-    apart : (r t n : ℕ) → 4 * n < (t + r) * (t + r) → (r + t) * (r + t) < 4 * n → ⊥
-    apart r t n h k = omega arith
+not_larger {x} {r} {t} a b l = omega (arith, a.above t b.finite l, b.below r a.finite l)
 
 nearest_only : {x r t : Float} → Nearest x r → Nearest x t → r ≡ t
 nearest_only {x} {r} {t} a b =
-    same_float a.finite b.finite (a.sign ∙ sym b.sign) (both (mag r) (mag t) (not_larger a b) (not_larger b a))
-  where
-    both : (m n : ℕ) → (m < n → ⊥) → (n < m → ⊥) → m ≡ n
-    both m n h k = omega arith
+    same_float a.finite b.finite (a.sign ∙ sym b.sign) (omega (arith, not_larger a b, not_larger b a))
 
 -- ---- the cases
 
@@ -50,7 +48,9 @@ not_below a c h = none a (0 * c) (zero-mul c) (ltb→lt a (0 * c) (subst (λ (t 
     none a b e l = omega arith
 
 no_sum : (a b : ℕ) → ltb 0 (0 * a * 1 + 0 * b) ≡ true → ⊥
-no_sum a b h = none (0 * a * 1 + 0 * b) (simp (zero-mul, zero-add)) (ltb→lt 0 (0 * a * 1 + 0 * b) (subst (λ (t : Bool). T t) (sym h) tt))
+no_sum a b h =
+    none (0 * a * 1 + 0 * b) (simp (zero-mul, zero-add))
+    (ltb→lt 0 (0 * a * 1 + 0 * b) (subst (λ (t : Bool). T t) (sym h) tt))
   where
     none : (a : ℕ) → a ≡ 0 → 0 < a → ⊥
     none a e l = omega arith
@@ -64,10 +64,7 @@ below_zero (fin true (suc m) e) h = refl
 below_zero (fin false m e) h = absurd (not_below (m * up e * 1) (down e) h)
 
 not_below_zero : (x : Float) → T (fits binary64 x) → lt (root x) zero64 ≡ false
-not_below_zero x f = not_lt_of_units (root_finite x f) zero64_finite (least (plus zero64) (minus zero64) (minus (root x)) (plus (root x)) zero64_plus (root_minus x f))
-  where
-    least : (a b c d : ℕ) → a ≡ 0 → c ≡ 0 → a + c ≤ d + b
-    least a b c d z e = omega arith
+not_below_zero x f = not_lt_of_units (root_finite x f) zero64_finite (omega (arith, zero64_plus, root_minus x f))
 
 -- Document 01's sentences on the root hold.
 pub root_promise : RootPromise

@@ -1,6 +1,10 @@
--- `root_units` by scale: n units are X * 4 ^ h of 2 ^ -104 units, so the root of n units is that of X times U = 2 ^ (485 + h) units,
--- where X has 105 or 106 digits and its nearest whole root q has 53.
-use Rattle.std.proofs.Common.{◌≡◌, ℕ, zero, suc, ◌+◌, ◌-◌, ◌*◌, ◌/◌, ◌^◌, ◌<◌, ◌≤◌, sym, refl, ap, ◌∙◌, subst, le_trans, le_of_eq, lt_of_lt_of_le, le_of_suc-le-suc, mul-le-mul_right, mul_assoc, mul_comm, lt_of_mul-lt-mul_right, mul-lt-mul_of_pos_right, le_of_mul-le-mul_right, mul-div_cancel, arith, pow_pos, pow_mono, pow-add, shl_lt}
+-- `root_units` by scale: n units are X * 4 ^ h of 2 ^ -104 units, so the root of n units is that of X times U = 2 ^
+-- (485 + h) units, where X has 105 or 106 digits and its nearest whole root q has 53.
+use Rattle.std.proofs.Common.{◌≡◌, ℕ, zero, suc, ◌+◌, ◌-◌, ◌*◌, ◌/◌, ◌^◌, ◌<◌, ◌≤◌, sym, refl, ap, ◌∙◌, subst}
+use Rattle.std.proofs.Common.{le_trans, le_of_eq, lt_of_lt_of_le, le_of_suc-le-suc}
+use Rattle.std.proofs.Common.{mul-le-mul_right, mul_assoc, mul_comm, lt_of_mul-lt-mul_right}
+use Rattle.std.proofs.Common.{mul-lt-mul_of_pos_right, le_of_mul-le-mul_right, mul-div_cancel, arith}
+use Rattle.std.proofs.Common.{pow_pos, pow_mono, pow-add, shl_lt}
 use native.Mathlib.Nat.{pow-succ'}
 use lib.Ieee.{size}
 use lib.Ieee.Digits.{size-lt, size_reaches, size-le}
@@ -20,7 +24,8 @@ radicand n = n * 2 ^ 104 / 4 ^ half n
 
 pub four_pow : (h : ℕ) → 4 ^ h ≡ 2 ^ (h + h)
 four_pow zero = refl
-four_pow (suc h) = pow-succ' 4 h ∙ ap (λ (z : ℕ). 4 * z) (four_pow h) ∙ sym (pow-add 2 2 (h + h)) ∙ ap (λ (z : ℕ). 2 ^ z) (omega arith)
+four_pow (suc h) =
+    pow-succ' 4 h ∙ ap (λ (z : ℕ). 4 * z) (four_pow h) ∙ sym (pow-add 2 2 (h + h)) ∙ ap (λ (z : ℕ). 2 ^ z) (omega arith)
 
 pub four_pos : (h : ℕ) → 0 < 4 ^ h
 four_pos h = subst (λ (z : ℕ). 0 < z) (sym (four_pow h)) (pow_pos (h + h))
@@ -29,11 +34,15 @@ four_pos h = subst (λ (z : ℕ). 0 < z) (sym (four_pow h)) (pow_pos (h + h))
 pub radicand_exact : (n : ℕ) → Digits53 n → radicand n * 4 ^ half n ≡ n * 2 ^ 104
 radicand_exact n d =
     let h = half n in
-    let few : size n ≤ 53 + d.zeros = size-le n (53 + d.zeros) (subst (λ (z : ℕ). z < 2 ^ (53 + d.zeros)) (sym d.is) (shl_lt 53 d.zeros d.few)) in
+    let few : size n ≤ 53 + d.zeros =
+    size-le n (53 + d.zeros) (subst (λ (z : ℕ). z < 2 ^ (53 + d.zeros)) (sym d.is) (shl_lt 53 d.zeros d.few)) in
     let k = d.zeros + 104 - (h + h) in
     let e : d.zeros + 104 ≡ k + (h + h) = omega arith in
     let is : n * 2 ^ 104 ≡ d.digits * 2 ^ k * 4 ^ h =
-    ap (λ (z : ℕ). z * 2 ^ 104) d.is ∙ mul_assoc d.digits (2 ^ d.zeros) (2 ^ 104) ∙ ap (λ (z : ℕ). d.digits * z) (sym (pow-add 2 d.zeros 104) ∙ ap (λ (z : ℕ). 2 ^ z) e ∙ pow-add 2 k (h + h) ∙ ap (λ (z : ℕ). 2 ^ k * z) (sym (four_pow h)))
+    ap (λ (z : ℕ). z * 2 ^ 104) d.is ∙ mul_assoc d.digits (2 ^ d.zeros) (2 ^ 104)
+    ∙ ap (λ (z : ℕ). d.digits * z)
+    (sym (pow-add 2 d.zeros 104) ∙ ap (λ (z : ℕ). 2 ^ z) e ∙ pow-add 2 k (h + h)
+    ∙ ap (λ (z : ℕ). 2 ^ k * z) (sym (four_pow h)))
     ∙ sym (mul_assoc d.digits (2 ^ k) (4 ^ h)) in
     ap (λ (z : ℕ). z / 4 ^ h * 4 ^ h) is
     ∙ ap (λ (z : ℕ). z * 4 ^ h) (mul-div_cancel (d.digits * 2 ^ k) (four_pos h))
@@ -44,10 +53,7 @@ size_pos : (n : ℕ) → 0 < n → 0 < size n
 size_pos n p = go (size n) (size-lt n)
   where
     go : (k : ℕ) → n < 2 ^ k → 0 < k
-    go zero h = absurd (none n p h)
-      where
-        none : (n : ℕ) → 0 < n → n < 1 → ⊥
-        none n p h = omega arith
+    go zero h = absurd (omega arith)
     go (suc k) h = omega arith
 
 -- X has 105 or 106 digits
@@ -59,7 +65,8 @@ module _ (n : ℕ) (p : 0 < n) (d : Digits53 n) where
       le_of_mul-le-mul_right {k = 4 ^ h}
       (subst (λ (y : ℕ). 2 ^ 104 * 4 ^ h ≤ y) (sym (radicand_exact n d))
       (subst (λ (y : ℕ). y ≤ n * 2 ^ 104) (mul_comm (4 ^ h) (2 ^ 104))
-      (mul-le-mul_right (2 ^ 104) (subst (λ (y : ℕ). y ≤ n) (sym (four_pow h)) (size_reaches n (h + h) (omega arith))))))
+      (mul-le-mul_right (2 ^ 104)
+      (subst (λ (y : ℕ). y ≤ n) (sym (four_pow h)) (size_reaches n (h + h) (omega arith))))))
       (four_pos h)
 
   pub radicand_most : radicand n < 4 ^ 53
@@ -67,18 +74,19 @@ module _ (n : ℕ) (p : 0 < n) (d : Digits53 n) where
       let h = half n in
       lt_of_mul-lt-mul_right (4 ^ h)
       (subst (λ (y : ℕ). y < 4 ^ 53 * 4 ^ h) (sym (radicand_exact n d))
-      (subst (λ (y : ℕ). n * 2 ^ 104 < y) (mul_comm (2 ^ 2 * 4 ^ h) (2 ^ 104) ∙ sym (mul_assoc (2 ^ 104) (2 ^ 2) (4 ^ h)))
+      (subst (λ (y : ℕ). n * 2 ^ 104 < y)
+      (mul_comm (2 ^ 2 * 4 ^ h) (2 ^ 104) ∙ sym (mul_assoc (2 ^ 104) (2 ^ 2) (4 ^ h)))
       (mul-lt-mul_of_pos_right {k = 2 ^ 104}
-      (lt_of_lt_of_le (size-lt n) (le_trans (pow_mono {j = 2 + (h + h)} (omega arith)) (le_of_eq (pow-add 2 2 (h + h) ∙ ap (λ (y : ℕ). 2 ^ 2 * y) (sym (four_pow h))))))
+      (lt_of_lt_of_le (size-lt n)
+      (le_trans (pow_mono {j = 2 + (h + h)} (omega arith))
+      (le_of_eq (pow-add 2 2 (h + h) ∙ ap (λ (y : ℕ). 2 ^ 2 * y) (sym (four_pow h))))))
       (pow_pos 104))))
 
 -- n * one is X times the square of U
 unit-square : (h : ℕ) → 2 ^ (485 + h) * 2 ^ (485 + h) ≡ 4 ^ h * 2 ^ 970
 unit-square h =
-    sym (pow-add 2 (485 + h) (485 + h)) ∙ ap (λ (z : ℕ). 2 ^ z) (twice h) ∙ pow-add 2 (h + h) 970 ∙ ap (λ (z : ℕ). z * 2 ^ 970) (sym (four_pow h))
-  where
-    twice : (h : ℕ) → 485 + h + (485 + h) ≡ h + h + 970
-    twice h = omega arith
+    sym (pow-add 2 (485 + h) (485 + h)) ∙ ap (λ (z : ℕ). 2 ^ z) (omega arith) ∙ pow-add 2 (h + h) 970
+    ∙ ap (λ (z : ℕ). z * 2 ^ 970) (sym (four_pow h))
 
 radicand_scale : (n : ℕ) → Digits53 n → n * one ≡ radicand n * (2 ^ (485 + half n) * 2 ^ (485 + half n))
 radicand_scale n d =

@@ -1,4 +1,5 @@
--- The root of a float against any number of at most 53 digits, by squares, and that it is monotone: what the geometry cites.
+-- The root of a float against any number of at most 53 digits, by squares, and that it is monotone: what the geometry
+-- cites.
 use Rattle.std.proofs.Common.{◌≡◌, ℕ, ◌+◌, ◌*◌, ◌^◌, ◌≤◌, true, leb, sym, ◌∙◌, subst, subst₂, arith, le→leb}
 use lib.Ieee.{Float, le}
 use lib.Ieee.Bits.{is_true}
@@ -32,7 +33,9 @@ module _ {x : Float} (f : Finite x) (m : minus x ≡ 0) where
 -- floats not below zero are ordered as their magnitudes
 ordered : {x y : Float} → Finite x → Finite y → minus x ≡ 0 → minus y ≡ 0 → mag x ≤ mag y → le x y ≡ true
 ordered {x} {y} f g m n h =
-    le_units f g ∙ is_true (leb (plus x + minus y) (plus y + minus x)) (le→leb (plus x + minus y) (plus y + minus x) (omega (arith, plus_minus x, plus_minus y)))
+    le_units f g
+    ∙ is_true (leb (plus x + minus y) (plus y + minus x))
+    (le→leb (plus x + minus y) (plus y + minus x) (omega (arith, plus_minus x, plus_minus y)))
 
 -- The same as comparisons of floats not below zero.
 module _ {x y : Float} (f : Finite x) (g : Finite y) (m : minus x ≡ 0) (n : minus y ≡ 0) where
@@ -43,5 +46,8 @@ module _ {x y : Float} (f : Finite x) (g : Finite y) (m : minus x ≡ 0) (n : mi
   root_ge_float h = ordered g (root_finite x f.fit) n (root_minus x f.fit) (at_least f m (mag y) (mag_digits g) h)
 
 -- A larger number has no smaller root.
-pub monotone : {x y : Float} → Finite x → Finite y → minus x ≡ 0 → minus y ≡ 0 → mag x ≤ mag y → mag (root x) ≤ mag (root y)
-monotone {x} {y} f g m n h = subst₂ (λ (a b : ℕ). a ≤ b) (sym (root_mag f m)) (sym (root_mag g n)) (root_mono (mag x) (mag y) (mag_digits f) (mag_digits g) h)
+pub monotone : {x y : Float} → Finite x → Finite y → minus x ≡ 0 → minus y ≡ 0 → mag x ≤ mag y
+    → mag (root x) ≤ mag (root y)
+monotone {x} {y} f g m n h =
+    subst₂ (λ (a b : ℕ). a ≤ b) (sym (root_mag f m)) (sym (root_mag g n))
+    (root_mono (mag x) (mag y) (mag_digits f) (mag_digits g) h)

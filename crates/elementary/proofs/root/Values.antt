@@ -1,11 +1,14 @@
 -- The root of a float as a number of units: `root_units` of its own units, finite and not below zero.
-use Rattle.std.proofs.Common.{◌≡◌, ℕ, zero, suc, ◌<◌, ◌≤◌, Bool, true, false, T, ◌⊎◌, ℤ, sym, refl, ap, ◌∙◌, subst, inl, inr, zero-lt-suc, mul-pos, arith}
+use Rattle.std.proofs.Common.{◌≡◌, ℕ, zero, suc, ◌<◌, ◌≤◌, Bool, true, false, T, ◌⊎◌}
+use Rattle.std.proofs.Common.{ℤ, sym, refl, ap, ◌∙◌, subst, inl, inr, zero-lt-suc, mul-pos, arith}
 use lib.Ieee.{Float, nan, inf, fin, binary64, down, size, fits}
 use lib.Ieee.Digits.{size-le}
 use lib.Ieee.Fits.{up_pos}
 use lib.Ieee.Positive.{first_pos}
 use Rattle.binary64.specs.Units.{limit, mag, negative, minus, Finite, Digits53}
-use Rattle.binary64.proofs.Units.{limit_pow, one_pos, mag_exact, mag_digits, mag_limit, of_units_mag, of_units_sign, of_units_finite, below_limit, plus_is, minus_is, zero64_finite, zero64_minus, zero64_sign}
+use Rattle.binary64.proofs.Units.{limit_pow, one_pos, mag_exact, mag_digits, mag_limit, of_units_mag, of_units_sign}
+use Rattle.binary64.proofs.Units.{of_units_finite, below_limit, plus_is}
+use Rattle.binary64.proofs.Units.{minus_is, zero64_finite, zero64_minus, zero64_sign}
 use Rattle.elementary.specs.Root.{root, root_units}
 use Rattle.elementary.proofs.root.Cases.{root_positive, zero_units}
 use Rattle.elementary.proofs.root.Neighbours.{root_digits, root_units_zero, by_zero}
@@ -35,13 +38,16 @@ module _ {x : Float} (f : Finite x) (s : negative x ≡ false) (p : 0 < mag x) w
   positive_sign = ap negative (root_positive f s p) ∙ of_units_sign false (root_units (mag x)) digits above
 
   pub positive_finite : Finite (root x)
-  positive_finite = subst (λ (r : Float). Finite r) (sym (root_positive f s p)) (of_units_finite false (root_units (mag x)) digits above)
+  positive_finite =
+      subst (λ (r : Float). Finite r) (sym (root_positive f s p))
+      (of_units_finite false (root_units (mag x)) digits above)
 
 -- ---- finite, and not below zero
 
 some_units : (s : Bool) (m : ℕ) (e : ℤ) → T (fits binary64 (fin s (suc m) e)) → 0 < mag (fin s (suc m) e)
 some_units s m e f =
-    first_pos (mag (fin s (suc m) e)) (down e) (subst (λ (n : ℕ). 0 < n) (sym (mag_exact s (suc m) e f)) (mul-pos (mul-pos (zero-lt-suc m) (up_pos e)) one_pos))
+    first_pos (mag (fin s (suc m) e)) (down e)
+    (subst (λ (n : ℕ). 0 < n) (sym (mag_exact s (suc m) e f)) (mul-pos (mul-pos (zero-lt-suc m) (up_pos e)) one_pos))
 
 -- The root of whatever a program holds is finite,
 pub root_finite : (x : Float) → T (fits binary64 x) → Finite (root x)
@@ -60,7 +66,9 @@ root_minus (inf s) f = zero64_minus
 root_minus (fin true zero e) f = zero_units true e
 root_minus (fin false zero e) f = refl
 root_minus (fin true (suc m) e) f = zero64_minus
-root_minus (fin false (suc m) e) f = (plus_is (root (fin false (suc m) e)) (positive_sign (record { fit = f; number = tt }) refl (some_units false m e f))).1
+root_minus (fin false (suc m) e) f =
+    (plus_is (root (fin false (suc m) e))
+    (positive_sign (record { fit = f; number = tt }) refl (some_units false m e f))).1
 
 -- The root of a number without a sign has none.
 pub root_sign : (x : Float) → T (fits binary64 x) → negative x ≡ false → negative (root x) ≡ false

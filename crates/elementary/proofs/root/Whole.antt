@@ -1,5 +1,8 @@
--- Whole roots: `whole_root` is the whole part of the root, `nearest_root` the nearest whole number, and only one number is nearest.
-use Rattle.std.proofs.Common.{◌≡◌, ℕ, zero, suc, ◌+◌, ◌-◌, ◌*◌, ◌/◌, ◌^◌, ◌<◌, ◌≤◌, Bool, true, false, cond, not, T, leb, subst, le_of_suc-le-suc, div-lt_iff_lt-mul, le_antisymm, pow-suc, lt_of_not-le, arith, leb→le}
+-- Whole roots: `whole_root` is the whole part of the root, `nearest_root` the nearest whole number, and only one number
+-- is nearest.
+use Rattle.std.proofs.Common.{◌≡◌, ℕ, zero, suc, ◌+◌, ◌-◌, ◌*◌, ◌/◌, ◌^◌, ◌<◌, ◌≤◌, Bool, true}
+use Rattle.std.proofs.Common.{false, cond, not, T, leb, subst}
+use Rattle.std.proofs.Common.{le_of_suc-le-suc, div-lt_iff_lt-mul, le_antisymm, pow-suc, lt_of_not-le, arith, leb→le}
 use lib.Dec.{nleb→lt}
 use Rattle.elementary.specs.Root.{whole_root, nearest_root}
 use Rattle.elementary.specs.RootSteps.{Near}
@@ -10,7 +13,8 @@ pub record Floor (n r : ℕ) : Type 0 where
   pub most : n < (r + 1) * (r + 1)
 
 -- one more pair of binary digits
-floor_next : (n s : ℕ) → Floor (n / 4) s → (b : Bool) → (T b → (2 * s + 1) * (2 * s + 1) ≤ n) → (T (not b) → n < (2 * s + 1) * (2 * s + 1))
+floor_next : (n s : ℕ) → Floor (n / 4) s → (b : Bool) → (T b → (2 * s + 1) * (2 * s + 1) ≤ n)
+    → (T (not b) → n < (2 * s + 1) * (2 * s + 1))
     → Floor n (cond b (2 * s + 1) (2 * s))
 floor_next n s f true h k =
     let g = h tt in
@@ -27,7 +31,8 @@ floor zero n h = record { least = omega arith; most = omega arith }
 floor (suc k) n h =
     let s = whole_root k (n / 4) in
     let m = (2 * s + 1) * (2 * s + 1) in
-    floor_next n s (floor k (n / 4) ((div-lt_iff_lt-mul (omega arith)).1 (subst (λ (p : ℕ). n < p) (pow-suc 4 k) h))) (leb m n) (leb→le m n) (nleb→lt m n)
+    floor_next n s (floor k (n / 4) ((div-lt_iff_lt-mul (omega arith)).1 (subst (λ (p : ℕ). n < p) (pow-suc 4 k) h)))
+    (leb m n) (leb→le m n) (nleb→lt m n)
 
 -- below the middle the whole part is nearest
 pub floor_down : (n r : ℕ) → 0 < n → Floor n r → n ≤ r * r + r → Near n r
@@ -44,9 +49,11 @@ floor_up n r f h = let u = f.most in record { above = omega arith; below = omega
 -- `nearest_root` gives what is nearest.
 pub near : (k n : ℕ) → 0 < n → n < 4 ^ k → Near n (nearest_root k n)
 unfolding nearest_root
-near k n p h = let r = whole_root k n in go r (floor k n h) (leb n (r * r + r)) (leb→le n (r * r + r)) (nleb→lt n (r * r + r))
+near k n p h =
+    let r = whole_root k n in go r (floor k n h) (leb n (r * r + r)) (leb→le n (r * r + r)) (nleb→lt n (r * r + r))
   where
-    go : (r : ℕ) → Floor n r → (b : Bool) → (T b → n ≤ r * r + r) → (T (not b) → r * r + r < n) → Near n (cond b r (r + 1))
+    go : (r : ℕ) → Floor n r → (b : Bool) → (T b → n ≤ r * r + r) → (T (not b) → r * r + r < n)
+        → Near n (cond b r (r + 1))
     go r f true h k = floor_down n r p f (h tt)
     go r f false h k = floor_up n r f (k tt)
 

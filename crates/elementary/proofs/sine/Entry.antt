@@ -1,6 +1,8 @@
 -- The float at the entry: inside the domain it is finite, and the angle is |v| × 2^59 cut, at most 2^63.
 -- Rests on the crate binary64 and on proofs/fixed/Entry.antt.
-use Rattle.std.proofs.Common.{◌≡◌, ℕ, ◌*◌, ◌/◌, ◌^◌, ◌<◌, ◌≤◌, true, false, T, pos, refl, ap, ◌∙◌, le_trans, le_of_eq, div-mul-le_self, le_of_mul-le-mul_right, arith, lit≤}
+use Rattle.std.proofs.Common.{◌≡◌, ℕ, ◌*◌, ◌/◌, ◌^◌, ◌<◌, ◌≤◌, true, false, T}
+use Rattle.std.proofs.Common.{pos, refl, ap, ◌∙◌, le_trans}
+use Rattle.std.proofs.Common.{le_of_eq, div-mul-le_self, le_of_mul-le-mul_right, arith, lit≤}
 use lib.Ieee.{Float, fin, binary64, fits, of_bits, mul, lt, le, to_unsigned}
 use Rattle.binary64.specs.Units.{pow2, one, mag}
 use Rattle.binary64.specs.Functions.{absolute}
@@ -33,10 +35,7 @@ domain_inside = test_of_most 16 sixteen_units
 
 module _ {v : Float} (m : Most 16 1074 v) where
   size : mag (absolute v) * 2 ^ 59 ≤ 2 ^ 63 * one
-  size = grow (mag (absolute v)) one (absolute_most m).bound
-    where
-      grow : (m o : ℕ) → m ≤ 16 * o → m * 2 ^ 59 ≤ 2 ^ 63 * o
-      grow m o h = omega arith
+  size = omega (arith, (absolute_most m).bound)
 
   small : mag (absolute v) * 2 ^ 59 < 2 ^ 64 * one
   small = less (mag (absolute v) * 2 ^ 59) one one_pos size
@@ -44,7 +43,8 @@ module _ {v : Float} (m : Most 16 1074 v) where
       less : (n o : ℕ) → 0 < o → n ≤ 2 ^ 63 * o → n < 2 ^ 64 * o
       less n o h k = omega arith
 
-  asks : T (lt (fin true 1 (pos 0)) (mul binary64 (absolute v) angle_scale)) × T (lt (mul binary64 (absolute v) angle_scale) (fin false 1 (pos 64)))
+  asks : T (lt (fin true 1 (pos 0)) (mul binary64 (absolute v) angle_scale))
+      × T (lt (mul binary64 (absolute v) angle_scale) (fin false 1 (pos 64)))
   asks = (
     fixed.above_minus_one 59 (absolute_most m) (absolute_sign v) scale (lit≤ tt) (lit≤ tt),
     fixed.below-2^64 59 (absolute_most m) (absolute_sign v) scale (lit≤ tt) (lit≤ tt) small,
@@ -58,13 +58,17 @@ module _ {v : Float} (m : Most 16 1074 v) where
   angle_is = cut ∙ ap (λ (k : ℕ). k * 2 ^ 59 / one) (absolute_mag v)
 
   pub angle_small : angle v ≤ 2 ^ 63
-  angle_small = le_trans (le_of_eq cut) (le_of_mul-le-mul_right (le_trans (div-mul-le_self (mag (absolute v) * 2 ^ 59) one) size) one_pos)
+  angle_small =
+      le_trans (le_of_eq cut)
+      (le_of_mul-le-mul_right (le_trans (div-mul-le_self (mag (absolute v) * 2 ^ 59) one) size) one_pos)
 
 -- what `angle` asks and gives, of the |v| that it was handed
 module _ (v x : Float) (t : T (fits binary64 v)) (inside : le (absolute v) sixteen ≡ true) (is : x ≡ absolute v) where
-  pub cut_asks : T (lt (fin true 1 (pos 0)) (mul binary64 x angle_scale)) × T (lt (mul binary64 x angle_scale) (fin false 1 (pos 64)))
+  pub cut_asks : T (lt (fin true 1 (pos 0)) (mul binary64 x angle_scale))
+      × T (lt (mul binary64 x angle_scale) (fin false 1 (pos 64)))
   cut_asks = rw is (asks (inside_domain t inside))
 
   pub cut_bound : (r : ℕ) → r ≡ to_unsigned 64 (mul binary64 x angle_scale) → r ≤ 2 ^ 63
   cut_bound r e =
-      le_trans (le_of_eq (e ∙ ap (λ (y : Float). to_unsigned 64 (mul binary64 y angle_scale)) is)) (angle_small (inside_domain t inside))
+      le_trans (le_of_eq (e ∙ ap (λ (y : Float). to_unsigned 64 (mul binary64 y angle_scale)) is))
+      (angle_small (inside_domain t inside))

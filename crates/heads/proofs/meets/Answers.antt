@@ -1,7 +1,8 @@
 -- `heads::meets` meets its contract: by the relation.
 use Rattle.std.proofs.Common.{refl, true, false, ◌≡◌, ◌⊎◌, inl, inr, ap, sym, ◌∙◌}
 use Rattle.heads.specs.declared.Relation.{Relation}
-use Rattle.heads.specs.declared.Relation.TheVariants.{Apart, TouchingOutside, Crossing, TouchingInside, Holding, Identical}
+use Rattle.heads.specs.declared.Relation.TheVariants.{Apart, TouchingOutside, Crossing}
+use Rattle.heads.specs.declared.Relation.TheVariants.{TouchingInside, Holding, Identical}
 use Rattle.heads.specs.Relation.{meeting}
 use Rattle.heads.specs.Pair.{radius_of, squared_distance}
 use Rattle.heads.specs.Cases.{meets_relation}
@@ -29,6 +30,7 @@ returns-in-TouchingOutside c =
 pub returns-in_default : goal.returns-in_default
 returns-in_default c =
     let s = c.args in
-    unnamed c.relation_of.result c.in_default.not-TouchingOutside c.in_default.not-Crossing c.in_default.not-TouchingInside
+    unnamed c.relation_of.result c.in_default.not-TouchingOutside c.in_default.not-Crossing
+    c.in_default.not-TouchingInside
     ∙ ap meeting c.relation_of.ensures
     ∙ sym (meets_relation (squared_distance s.a s.b) (radius_of s.a) (radius_of s.b))

@@ -21,14 +21,17 @@ returns-in-Equal-default-2 c =
 pub returns-in-Greater-Less : goal.returns-in-Greater-Less
 returns-in-Greater-Less c =
     let v = c.args in
-    crossing v.d v.r1 v.r2 _ (c.from-t.ensures ∙ c.abs_diff.ensures) (c.from.result + c.from-2.result) (omega arith) c.in-Greater-Less.ensures c.in-Greater-Less.ensures'
+    crossing v.d v.r1 v.r2 _ (c.from-t.ensures ∙ c.abs_diff.ensures) (c.from.result + c.from-2.result) (omega arith)
+    c.in-Greater-Less.ensures c.in-Greater-Less.ensures'
 
 pub returns-in-Greater-Equal : goal.returns-in-Greater-Equal
 returns-in-Greater-Equal c =
     let v = c.args in
-    outside v.d v.r1 v.r2 _ (c.from-t.ensures ∙ c.abs_diff.ensures) (c.from.result + c.from-2.result) (omega arith) c.in-Greater-Equal.ensures c.in-Greater-Equal.ensures'
+    outside v.d v.r1 v.r2 _ (c.from-t.ensures ∙ c.abs_diff.ensures) (c.from.result + c.from-2.result) (omega arith)
+    c.in-Greater-Equal.ensures c.in-Greater-Equal.ensures'
 
 pub returns-in-Greater-Greater : goal.returns-in-Greater-Greater
 returns-in-Greater-Greater c =
     let v = c.args in
-    apart v.d v.r1 v.r2 _ (c.from-t.ensures ∙ c.abs_diff.ensures) (c.from.result + c.from-2.result) (omega arith) c.in-Greater-Greater.ensures c.in-Greater-Greater.ensures'
+    apart v.d v.r1 v.r2 _ (c.from-t.ensures ∙ c.abs_diff.ensures) (c.from.result + c.from-2.result) (omega arith)
+    c.in-Greater-Greater.ensures c.in-Greater-Greater.ensures'

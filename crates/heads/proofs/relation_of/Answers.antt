@@ -16,5 +16,12 @@ returns c = let s = c.args in
     let fa : SFits w32 s.a.radius = search rules in
     let fb : SFits w32 s.b.radius = search rules in
     c.relation_at.ensures
-    ∙ simp (c.squared_distance.ensures, c.above_zero.ensures, c.above_zero-2.ensures, to_z-of_z w32 s.a.radius fa, to_z-of_z w32 s.b.radius fb)
-    (relation_capped (squared_distance s.a s.b) (radius_of s.a) (radius_of s.b) (above_zero_lt s.a.radius fa) (above_zero_lt s.b.radius fb))
+    ∙ simp (
+      c.squared_distance.ensures,
+      c.above_zero.ensures,
+      c.above_zero-2.ensures,
+      to_z-of_z w32 s.a.radius fa,
+      to_z-of_z w32 s.b.radius fb,
+    )
+    (relation_capped (squared_distance s.a s.b) (radius_of s.a) (radius_of s.b) (above_zero_lt s.a.radius fa)
+    (above_zero_lt s.b.radius fb))

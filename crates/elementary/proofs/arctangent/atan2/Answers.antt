@@ -8,8 +8,11 @@ use Rattle.elementary.proofs.arctangent.Domain.{domain, point}
 use Rattle.elementary.proofs.arctangent.atan2.Goals as goal
 
 -- what a program's floats fit, as the law of the domain wants it
-quarter : (y x : Float) {w h : Float} {d : Bool} → fits binary64 y ≡ true → fits binary64 x ≡ true → w ≡ absolute x → h ≡ absolute y → d ≡ in_domain w h → d ≡ true → InQuarter w h
-quarter y x p q e f g t = subst₂ InQuarter (sym e) (sym f) (point (domain {y = y} {x = x} (subst T (sym p) tt) (subst T (sym q) tt) (ap₂ in_domain (sym e) (sym f) ∙ sym g ∙ t)))
+quarter : (y x : Float) {w h : Float} {d : Bool} → fits binary64 y ≡ true → fits binary64 x ≡ true → w ≡ absolute x
+    → h ≡ absolute y → d ≡ in_domain w h → d ≡ true → InQuarter w h
+quarter y x p q e f g t =
+    subst₂ InQuarter (sym e) (sym f) (point (domain {y =
+    y} {x = x} (subst T (sym p) tt) (subst T (sym q) tt) (ap₂ in_domain (sym e) (sym f) ∙ sym g ∙ t)))
 
 pub upper_half-requires : goal.upper_half-requires
 upper_half-requires c =

@@ -1,4 +1,5 @@
--- `horner` meets its contract: each step is one of the definition's, and what is taken away is no more than the coefficient.
+-- `horner` meets its contract: each step is one of the definition's, and what is taken away is no more than the
+-- coefficient.
 use Rattle.std.proofs.Common.{ℕ, ◌-◌, get_or, sym, ap, ◌∙◌, le_trans, sub-le, arith}
 use Rattle.std.proofs.lemmas.List.Sums.{fold_more}
 use Rattle.series.specs.Kernel.{mulhi}

@@ -11,18 +11,24 @@ loop-preserved c =
     let more : 0 < left = omega arith in
     let next : 53 - (l.counter + 1) ≡ left - 1 = omega arith in
     elim c.if-square-rest.branch [
-      | then-square-rest w ↦ rw (w.root-is, w.rest-is, next) (taken_one _ l.digits l.root l.rest left l.invariant more w.if-square-rest.true)
-      | else-square-rest w ↦ rw (w.root-is, w.rest-is, next) (taken_zero _ l.digits l.root l.rest left l.invariant more w.if-square-rest.false)
+      | then-square-rest w ↦
+          rw (w.root-is, w.rest-is, next)
+          (taken_one _ l.digits l.root l.rest left l.invariant more w.if-square-rest.true)
+      | else-square-rest w ↦
+          rw (w.root-is, w.rest-is, next)
+          (taken_zero _ l.digits l.root l.rest left l.invariant more w.if-square-rest.false)
     ]
 
 pub returns-then-rest-root : goal.returns-then-rest-root
 returns-then-rest-root c =
     let l = c.loop in
     let end : 53 - l.counter ≤ 0 = omega arith in
-    taken_down c.args.m l.digits l.root l.rest (53 - l.counter) c.requires.0 c.requires.1 l.invariant end c.if-rest-root.true
+    taken_down c.args.m l.digits l.root l.rest (53 - l.counter) c.requires.0 c.requires.1 l.invariant end
+    c.if-rest-root.true
 
 pub returns-else-rest-root : goal.returns-else-rest-root
 returns-else-rest-root c =
     let l = c.loop in
     let end : 53 - l.counter ≤ 0 = omega arith in
-    taken_up c.args.m l.digits l.root l.rest (53 - l.counter) c.requires.0 c.requires.1 l.invariant end c.if-rest-root.false
+    taken_up c.args.m l.digits l.root l.rest (53 - l.counter) c.requires.0 c.requires.1 l.invariant end
+    c.if-rest-root.false

@@ -13,16 +13,22 @@ pub overflow_add-result-2 : goal.overflow_add-result-2
 overflow_add-result-2 c =
     let p = c.split-digits in
     let s = c in
-    omega (arith, root_bits_fit s.args.bits p.result.digits p.result.lead s.requires.1 p.ensures c.nearest-digits.result c.nearest-digits.ensures)
+    omega (
+      arith,
+      root_bits_fit s.args.bits p.result.digits p.result.lead s.requires.1 p.ensures c.nearest-digits.result
+          c.nearest-digits.ensures,
+    )
 
 pub float_from_bits-result : goal.float_from_bits-result
 float_from_bits-result c =
     let p = c.split-digits in
     let s = c in
-    root_bits_number s.args.bits p.result.digits p.result.lead s.requires.1 p.ensures c.nearest-digits.result c.nearest-digits.ensures
+    root_bits_number s.args.bits p.result.digits p.result.lead s.requires.1 p.ensures c.nearest-digits.result
+    c.nearest-digits.ensures
 
 pub returns : goal.returns
 returns c =
     let p = c.split-digits in
     let s = c in
-    root_bits s.args.bits p.result.digits p.result.lead s.requires.1 p.ensures c.nearest-digits.result c.nearest-digits.ensures
+    root_bits s.args.bits p.result.digits p.result.lead s.requires.1 p.ensures c.nearest-digits.result
+    c.nearest-digits.ensures

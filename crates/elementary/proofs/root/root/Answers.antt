@@ -14,10 +14,12 @@ pub positive-requires : goal.positive-requires
 positive-requires c = (above_bits c.args.x (held c.args.x c.well_formed.0.1) c.if-x.true, c.if-bits-lt-INFINITY.true)
 
 pub returns-then-bits-lt-INFINITY : goal.returns-then-bits-lt-INFINITY
-returns-then-bits-lt-INFINITY c = c.positive.ensures ∙ ap root (of_bits-to_bits binary64 c.args.x (held c.args.x c.well_formed.0.1))
+returns-then-bits-lt-INFINITY c =
+    c.positive.ensures ∙ ap root (of_bits-to_bits binary64 c.args.x (held c.args.x c.well_formed.0.1))
 
 pub returns-else-bits-lt-INFINITY : goal.returns-else-bits-lt-INFINITY
-returns-else-bits-lt-INFINITY c = root_infinite c.args.x (held c.args.x c.well_formed.0.1) c.if-x.true c.if-bits-lt-INFINITY.false
+returns-else-bits-lt-INFINITY c =
+    root_infinite c.args.x (held c.args.x c.well_formed.0.1) c.if-x.true c.if-bits-lt-INFINITY.false
 
 pub returns-then-x-2 : goal.returns-then-x-2
 returns-then-x-2 c = root_zero c.args.x c.if-x-2.true

@@ -9,4 +9,6 @@ truncating_f64_to_u64-requires c =
     record { lower_bound = asked.0; upper_bound = asked.1 }
 
 pub returns-clause-bound : goal.returns-clause-bound
-returns-clause-bound c = cut_bound c.args.v c.abs.result (subst T (sym c.well_formed.0.1) tt) c.requires c.abs.ensures c.truncating_f64_to_u64.result c.truncating_f64_to_u64.ensures
+returns-clause-bound c =
+    cut_bound c.args.v c.abs.result (subst T (sym c.well_formed.0.1) tt) c.requires c.abs.ensures
+    c.truncating_f64_to_u64.result c.truncating_f64_to_u64.ensures

@@ -7,4 +7,11 @@ use Rattle.elementary.proofs.sine.quarter_sine.Goals as goal
 
 pub returns : goal.returns
 unfolding kernel.quarter_sine kernel.raw_sine
-returns c = rw (c.min.ensures, c.mulhi-2.ensures.value, c.horner.ensures ∙ from_last_is first_coefficient coefficients c.mulhi.result, c.mulhi.ensures.value) refl
+returns c =
+    rw (
+      c.min.ensures,
+      c.mulhi-2.ensures.value,
+      c.horner.ensures
+          ∙ from_last_is first_coefficient coefficients c.mulhi.result,
+      c.mulhi.ensures.value,
+    ) refl

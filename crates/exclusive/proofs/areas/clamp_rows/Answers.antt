@@ -18,8 +18,9 @@ loop-s-init c = written_none (row c.args.present.now.bytes.now c.args.numbers.no
 
 pub loop-s-preserved : goal.loop-s-preserved
 loop-s-preserved c =
-    let l = c.loop-s in let bytes = c.args.present.now.bytes.now in let first = c.args.numbers.now in let f = row bytes first in
+    let l = c.loop-s in let bytes = c.args.present.now.bytes.now in let first = c.args.numbers.now in
+    let f = row bytes first in
     let old = ap (λ (t : List Float). get_or t l.s nan) l.invariant ∙ written_past f l.s l.s first nan (le_refl l.s) in
     ap (λ (t : List Float). set t l.s c.clamped.result) l.invariant
-    ∙ write_next f l.s first c.clamped.result nan (omega (arith, c.row_count-s-end.ensures))
+    ∙ write_next f l.s first c.clamped.result nan (omega arith)
     (c.clamped.ensures ∙ ap (λ (x : Float). cond (stands bytes l.s) (clamp_to_zero x) zero64) old)

@@ -12,8 +12,10 @@ use Rattle.exclusive.proofs.areas.write_exclusives.Goals as goal
 
 pub returns : goal.returns
 returns c =
-    let P = c.args.present.now in let areas = c.args.areas.now in let first = c.args.exclusives.now in let rows = c.row_count-rows in
+    let P = c.args.present.now in let areas = c.args.areas.now in let first = c.args.exclusives.now in
+    let rows = c.row_count-rows in
     c.exclude.ensures
     ∙ copied_is P.n P.bytes.now areas first _
-    (ap (λ (l : List Float). l ++ drop rows.result first) (c.copy_from_slice.ensures.after ∙ take_by_place areas nan rows.result (omega (arith, rows.ensures)))
-    ∙ ap (λ (m : ℕ). written (λ S. get_or areas S nan) m first) rows.ensures)
+    (ap (λ (l : List Float). l ++ drop rows.result first)
+    (c.copy_from_slice.ensures.after ∙ take_by_place areas nan rows.result (omega (arith, rows.ensures.value)))
+    ∙ ap (λ (m : ℕ). written (λ S. get_or areas S nan) m first) rows.ensures.value)

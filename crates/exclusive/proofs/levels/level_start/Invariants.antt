@@ -1,4 +1,5 @@
--- `levels::level_start` meets its contract. The invariant: the rows from the place before lo to place hi have as many heads as the last of them.
+-- `levels::level_start` meets its contract. The invariant: the rows from the place before lo to place hi have as many
+-- heads as the last of them.
 use mathlib.Core.Path.{◌≡◌}
 use Prim.Native.Nat.{ℕ, ◌-◌, ◌≤◌, ◌<◌}
 use lib.Count.{ones}

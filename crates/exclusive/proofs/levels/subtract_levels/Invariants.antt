@@ -1,5 +1,6 @@
--- `levels::subtract_levels` meets its contract. The invariants: the rows from place hi on, and in the inner loop from place i on, have their
--- unclamped exclusives, those before it are as they were; and the sums of the rows before the level have not begun.
+-- `levels::subtract_levels` meets its contract. The invariants: the rows from place hi on, and in the inner loop from
+-- place i on, have their unclamped exclusives, those before it are as they were; and the sums of the rows before the
+-- level have not begun.
 use mathlib.Core.Path.{◌≡◌}
 use Prim.Native.Nat.{ℕ, ◌≤◌, ◌<◌}
 use lib.Ieee.{nan}
@@ -10,7 +11,10 @@ use Rattle.exclusive.proofs.Passing.{Pass}
 use Rattle.exclusive.proofs.levels.subtract_levels.Given as goal
 
 abbrev pub invariant-loop-i : goal.invariant-loop-i
-invariant-loop-i l = record { low : l.lo ≤ l.i; pass : Pass l.present.n (stands l.present.bytes.now) 1 l.i l.fn.areas l.areas }
+invariant-loop-i l = record {
+  low : l.lo ≤ l.i;
+  pass : Pass l.present.n (stands l.present.bytes.now) 1 l.i l.fn.areas l.areas;
+}
 
 abbrev pub invariant-loop-hi : goal.invariant-loop-hi
 invariant-loop-hi l = record {

@@ -16,4 +16,5 @@ loop-i-preserved c =
     let l = c.loop-i in let R = c.args.rows.now in
     let v = ones (get_or R l.i 0) in
     ap (λ (t : List ℕ). set t l.i v) l.invariant
-    ∙ write_next (λ i. ones (get_or R i 0)) l.i (replicate 1024 0) v 0 (omega (arith, length-replicate {A = ℕ} 1024 0)) refl
+    ∙ write_next (λ i. ones (get_or R i 0)) l.i (replicate 1024 0) v 0 (omega (arith, length-replicate {A = ℕ} 1024 0))
+    refl

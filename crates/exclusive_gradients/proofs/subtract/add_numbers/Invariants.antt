@@ -8,4 +8,5 @@ use Rattle.binary64.specs.Floats.{◌+ᶠ◌}
 use Rattle.exclusive_gradients.proofs.subtract.add_numbers.Given as goal
 
 abbrev pub invariant-loop-q : goal.invariant-loop-q
-invariant-loop-q g l = l.sums ≡ written (λ q. get_or l.initial.sums q nan +ᶠ get_or l.numbers (l.at + q) nan) l.q l.initial.sums
+invariant-loop-q g l =
+    l.sums ≡ written (λ q. get_or l.initial.sums q nan +ᶠ get_or l.numbers (l.at + q) nan) l.q l.initial.sums

@@ -1,4 +1,5 @@
--- `subtract::collect_supersets` meets its contract. The invariant: those found so far, with those among the rows left, are all of them.
+-- `subtract::collect_supersets` meets its contract. The invariant: those found so far, with those among the rows left,
+-- are all of them.
 use mathlib.Core.Path.{◌≡◌}
 use mathlib.Core.List.{◌++◌}
 use Prim.Native.Nat.{◌≤◌}

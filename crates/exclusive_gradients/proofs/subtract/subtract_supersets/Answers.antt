@@ -1,6 +1,6 @@
--- `subtract::subtract_supersets` meets its contract. The invariant: the rows from place i on have their unclamped exclusives, those before it
--- are as they were.
-use mathlib.Core.Path.{◌≡◌, refl, sym, ap, ◌∙◌, subst}
+-- `subtract::subtract_supersets` meets its contract. The invariant: the rows from place i on have their unclamped
+-- exclusives, those before it are as they were.
+use mathlib.Core.Path.{◌≡◌, sym, ap, ◌∙◌, subst}
 use mathlib.Core.Bool.{Bool, cond}
 use mathlib.Core.List.{List, []}
 use Prim.Native.Nat.{ℕ, suc, ◌+◌, ◌*◌, ◌-◌, ◌^◌, ◌≤◌, ◌<◌}
@@ -10,57 +10,64 @@ use borrow.Author.Tests.{eq-eqb}
 use lib.Count.{ones}
 use lib.Dec.{eqb}
 use lib.Ieee.{Float}
-use lib.ListN.{length, get_or, take, drop, length-take}
+use lib.ListN.{length, get_or, take, drop}
 use Rattle.std.proofs.lemmas.Slice.{between_to_end}
 use Rattle.lists.specs.Lists.{keep}
 use Rattle.lists.specs.Every.{Every}
 use Rattle.masks.specs.Mask.{subset, strict_subset}
 use Rattle.masks.specs.Presence.{stands}
 use Rattle.exclusive.specs.declared.presence.Presence.{Presence}
-use Rattle.exclusive.specs.declared.rows.Rows.{Rows}
-use Rattle.exclusive.specs.RowOrder.{row_order, row_list}
+use Rattle.exclusive.specs.RowOrder.{row_order}
 use Rattle.exclusive.specs.Exclusive.{above, rows_answer}
 use Rattle.exclusive.specs.Entries.{row_sums, RowSubtracted}
 use Rattle.exclusive.proofs.RowOrder.{rows_ordered}
 use Rattle.exclusive.proofs.Places.{row_lt}
 use Rattle.exclusive.proofs.Unclamped.{above_every}
 use Rattle.exclusive.proofs.Sums.{supersets_after}
-use Rattle.exclusive.proofs.Passing.{Pass, pass_start, pass_next, pass_end, all_above, sums_due}
+use Rattle.exclusive.proofs.Passing.{Pass, pass_next, pass_end, all_above, sums_due}
 use Rattle.exclusive.proofs.LevelSums.{row_at}
 use Rattle.exclusive.proofs.Answers.{room}
 use Rattle.exclusive_gradients.proofs.subtract.subtract_supersets.Goals as goal
 
 -- the rows as they are listed, where there is room for them
-listed : (P : Presence) (r : Rows) → row_list r ≡ cond (eqb (rows_answer P.n (length P.bytes.now)) 0) (row_order (stands P.bytes.now) P.n) []
-    → row_list r ≡ row_order (stands P.bytes.now) P.n
-listed P r e =
-    e ∙ ap (λ (b : Bool). cond b (row_order (stands P.bytes.now) P.n) []) (eq-eqb _ 0 (sym (room P.n (length P.bytes.now) P.few P.room)))
+listed : (P : Presence) (rows : List ℕ)
+    → rows ≡ cond (eqb (rows_answer P.n (length P.bytes.now)) 0) (row_order (stands P.bytes.now) P.n) []
+    → rows ≡ row_order (stands P.bytes.now) P.n
+listed P rows e =
+    e ∙ ap (λ (b : Bool). cond b (row_order (stands P.bytes.now) P.n) [])
+    (eq-eqb _ 0 (sym (room P.n (length P.bytes.now) P.few P.room)))
 
 -- row i of the rows, and what is collected from those after it
-module _ (P : Presence) (rows : List ℕ) (e : rows ≡ row_order (stands P.bytes.now) P.n) (i : ℕ) (h : i < length rows) (supersets : List ℕ)
+module _ (P : Presence) (rows : List ℕ) (e : rows ≡ row_order (stands P.bytes.now) P.n) (i : ℕ) (h : i < length rows)
+    (supersets : List ℕ)
     (found : supersets ≡ keep (subset 64 (get_or rows i 0)) (take (length rows - (i + 1)) (drop (i + 1) rows))) where
   abbrev S : ℕ
   S = get_or rows i 0
 
-  at : (i < length (row_order (stands P.bytes.now) P.n)) × (get_or (row_order (stands P.bytes.now) P.n) i 0 ≡ S) × (S < 2 ^ P.n)
+  at : (i < length (row_order (stands P.bytes.now) P.n)) × (get_or (row_order (stands P.bytes.now) P.n) i 0 ≡ S)
+      × (S < 2 ^ P.n)
   at = row_at P.n (stands P.bytes.now) rows i e h
 
   strict : supersets ≡ keep (strict_subset P.n S) (drop (i + 1) (row_order (stands P.bytes.now) P.n))
   strict =
       found
-      ∙ ap (keep (subset 64 S)) (between_to_end rows (i + 1) (length rows) (le_refl (length rows)) ∙ ap (drop (i + 1)) e)
-      ∙ supersets_after (row_order (stands P.bytes.now) P.n) i S at.0 at.1 (i + 1) P.n at.2 (omega (arith, row_lt P.n S P.few at.2)) (omega arith)
+      ∙ ap (keep (subset 64 S))
+      (between_to_end rows (i + 1) (length rows) (le_refl (length rows)) ∙ ap (drop (i + 1)) e)
+      ∙ supersets_after (row_order (stands P.bytes.now) P.n) i S at.0 at.1 (i + 1) P.n at.2
+      (omega (arith, row_lt P.n S P.few at.2)) (omega arith)
       (rows_ordered (stands P.bytes.now) P.n)
 
   all : supersets ≡ above P.n (stands P.bytes.now) S
   all = strict ∙ all_above P.n (stands P.bytes.now) 0 i S at.2 at.0 at.1
 
   -- every one of them has its place in the table, and is another row
-  fits : (width many : ℕ) → 2 ^ P.n * width ≤ many → (suc S * width ≤ many) × Every (λ T. suc T * width ≤ many) supersets
+  fits : (width many : ℕ) → 2 ^ P.n * width ≤ many
+      → (suc S * width ≤ many) × Every (λ T. suc T * width ≤ many) supersets
   fits width many k = (
     omega (arith, mul-le-mul_right width at.2),
     subst (Every (λ T. suc T * width ≤ many)) (sym all)
-        (above_every P.n (stands P.bytes.now) S at.2 (λ T. suc T * width ≤ many) (λ T t o. omega (arith, mul-le-mul_right width t))),
+        (above_every P.n (stands P.bytes.now) S at.2 (λ T. suc T * width ≤ many)
+        (λ T t o. omega (arith, mul-le-mul_right width t))),
   )
 
   apart : Every (λ T. T ≡ S → ⊥) supersets
@@ -69,36 +76,35 @@ module _ (P : Presence) (rows : List ℕ) (e : rows ≡ row_order (stands P.byte
       (above_every P.n (stands P.bytes.now) S at.2 (λ T. T ≡ S → ⊥) (λ T t o same. omega (arith, ap ones same)))
 
   next : (width : ℕ) (before mid after : List Float) → Pass P.n (stands P.bytes.now) width (i + 1) before mid
-      → RowSubtracted width S (row_sums width mid supersets) width mid after → Pass P.n (stands P.bytes.now) width i before after
+      → RowSubtracted width S (row_sums width mid supersets) width mid after
+      → Pass P.n (stands P.bytes.now) width i before after
   next width before mid after p r =
       pass_next P.n (stands P.bytes.now) width i S at.2 at.0 at.1 before mid after (row_sums width mid supersets)
       (sums_due P.n (stands P.bytes.now) width i S at.2 at.0 at.1 before mid supersets strict p) p r
 
-pub loop-i-init : goal.loop-i-init
-loop-i-init c =
-    let P = c.args.present.now in let r = c.rows_in_order-count.result in let e = c.rows_in_order-count.ensures in
-    record {
-      room = refl;
-      pass = pass_start P.n (stands P.bytes.now) c.args.width r.n c.args.numbers.now (omega (arith, length-take r.n r.all, ap length (listed P r e.result_value)));
-    }
-
 pub subtract_row-requires : goal.subtract_row-requires
 subtract_row-requires c =
-    let P = c.args.present.now in let r = c.rows_in_order-count.result in let e = listed P r c.rows_in_order-count.ensures.result_value in
+    let P = c.args.present.now in let rows = c.as_slice-rows.result.now in let i = c.loop-i.i - 1 in
+    let e = listed P rows (c.as_slice-rows.ensures.value ∙ c.rows_in_order-order.ensures) in
     let found = c.collect_supersets-found.ensures.supersets_after in
-    let h : c.loop-i.i - 1 < length (row_list r) = omega (arith, length-take r.n r.all, c.rows_in_order-count.ensures.n_bound) in
-    let f = fits P (row_list r) e (c.loop-i.i - 1) h _ found c.args.width (length c.loop-i.numbers) (omega (arith, c.loop-i.invariant.pass.many)) in
-    (f.0, f.1, apart P (row_list r) e (c.loop-i.i - 1) h _ found)
+    let h : i < length rows = omega arith in
+    let f = fits P rows e i h _ found c.args.width (length c.loop-i.numbers)
+    (omega (arith, c.loop-i.invariant.pass.many)) in
+    (f.0, f.1, apart P rows e i h _ found)
 
 pub loop-i-preserved : goal.loop-i-preserved
 loop-i-preserved c =
-    let P = c.args.present.now in let r = c.rows_in_order-count.result in let e = listed P r c.rows_in_order-count.ensures.result_value in
-    let l = c.loop-i in let i = l.i - 1 in let found = c.collect_supersets-found.ensures.supersets_after in
-    let h : i < length (row_list r) = omega (arith, length-take r.n r.all, c.rows_in_order-count.ensures.n_bound) in
+    let P = c.args.present.now in let rows = c.as_slice-rows.result.now in let l = c.loop-i in let i = l.i - 1 in
+    let e = listed P rows (c.as_slice-rows.ensures.value ∙ c.rows_in_order-order.ensures) in
+    let h : i < length rows = omega arith in
     let z : l.i ≡ i + 1 = omega arith in record {
       room = c.collect_supersets-found.array_long;
-      pass = next P (row_list r) e i h _ found c.args.width c.args.numbers.now l.numbers _
-          (subst (λ (j : ℕ). Pass P.n (stands P.bytes.now) c.args.width j c.args.numbers.now l.numbers) z l.invariant.pass) c.subtract_row.ensures;
+      pass =
+          next P rows e i h _ c.collect_supersets-found.ensures.supersets_after c.args.width c.args.numbers.now
+          l.numbers _
+          (subst (λ (j : ℕ). Pass P.n (stands P.bytes.now) c.args.width j c.args.numbers.now l.numbers) z
+          l.invariant.pass)
+          c.subtract_row.ensures;
     }
 
 pub returns : goal.returns

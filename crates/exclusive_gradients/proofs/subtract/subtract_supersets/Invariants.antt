@@ -1,5 +1,5 @@
--- `subtract::subtract_supersets` meets its contract. The invariant: the rows from place i on have their unclamped exclusives, those before it
--- are as they were.
+-- `subtract::subtract_supersets` meets its contract. The invariant: the rows from place i on have their unclamped
+-- exclusives, those before it are as they were.
 use mathlib.Core.Path.{◌≡◌}
 use lib.ListN.{length}
 use Rattle.masks.specs.Presence.{stands}

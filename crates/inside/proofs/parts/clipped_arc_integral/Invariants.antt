@@ -1,14 +1,13 @@
--- `parts::clipped_arc_integral`: the parts from break i - 1 on, added to the sum, give the whole.
+-- `parts::clipped_arc_integral`: the pairs of breaks still to come, added to the sum, give the whole.
 use mathlib.Core.Path.{◌≡◌}
-use Prim.Native.Nat.{◌-◌}
-use lib.ListN.{drop}
+use Rattle.std.specs.Slice.Iter.{windows_rest, windows_size}
 use Rattle.binary64.specs.Constants.{zero64}
 use Rattle.lists.specs.Lists.{over_pairs}
-use Rattle.boundary.specs.Counted.{angle_list}
 use Rattle.inside.specs.Parts.{add_part}
 use Rattle.inside.proofs.parts.clipped_arc_integral.Given as goal
 
-abbrev pub invariant-loop-i : goal.invariant-loop-i
-invariant-loop-i l =
-    over_pairs (add_part l.bounds l.c) l.sum (drop (l.i - 1) (angle_list l.breaks))
-    ≡ over_pairs (add_part l.bounds l.c) zero64 (angle_list l.breaks)
+abbrev pub invariant-loop-part : goal.invariant-loop-part
+invariant-loop-part l =
+    (windows_size l.part-iterator ≡ 2)
+    × (over_pairs (add_part l.bounds l.c) l.sum (windows_rest l.part-iterator)
+    ≡ over_pairs (add_part l.bounds l.c) zero64 (windows_rest l.initial.part-iterator))

@@ -1,31 +1,28 @@
 -- `collect::collect_intersections`: held are the points of the heads below i, and those of head i with the heads below j.
-use borrow.Author.Rules.{rules}
+use mathlib.Core.Path.{◌∙◌, ap}
 use native.Mathlib.Omega.{arith}
-use lib.ListN.{take}
+use Rattle.intersections.specs.Points.{collected}
 use Rattle.intersections.proofs.Collecting.{rows_none, row_room, row_start, row_on, row_end, rows_end}
 use Rattle.intersections.proofs.collect.collect_intersections.Goals as goal
 
 pub loop-i-init : goal.loop-i-init
-loop-i-init c = rows_none _ c.none-found.ensures.n_value c.none-found.ensures.points_value
+loop-i-init c = rows_none _ c.new-found.ensures
 
 pub loop-j-init : goal.loop-j-init
 loop-j-init c = row_start _ _ c.loop-i.invariant
 
 pub push_points-requires : goal.push_points-requires
 push_points-requires c =
-    let cs = take c.min.result c.args.circles in
-    omega (arith, row_room cs c.loop-i.i c.loop-j.j (omega arith) (omega arith) (omega arith))
+    rw c.loop-j.invariant (row_room c.as_slice-heads.result.now c.loop-i.i c.loop-j.j c.as_slice-heads.ensures.fits (omega arith) (omega arith))
 
 pub loop-j-preserved : goal.loop-j-preserved
 loop-j-preserved c =
     let pair = c.new-pair.ensures in
     let pushed = rw (pair.0, pair.1, pair.2) at c.push_points.ensures in
-    row_on _ _ c.loop-j.j (omega arith) pushed.n_value pushed.points_value c.loop-j.invariant
+    row_on _ _ c.loop-j.j (omega arith) pushed c.loop-j.invariant
 
 pub loop-i-preserved : goal.loop-i-preserved
 loop-i-preserved c = row_end _ _ c.loop-j.j (omega arith) c.loop-j.invariant
 
 pub returns : goal.returns
-returns c =
-    let all = rows_end c.args.circles c.min.result c.args.n_sets c.loop-i.i (search rules) c.min.ensures (omega arith) c.loop-i.invariant in
-    record { result_value = all.points; n_value = all.count }
+returns c = rows_end _ c.loop-i.i (omega arith) (omega arith) c.loop-i.invariant ∙ ap collected c.as_slice-heads.ensures.value

@@ -1,7 +1,7 @@
--- `members::gathered_members`: the heads of the set below j are gathered; the law of one head more is Gathering's.
-use lib.ListN.{take}
-use Rattle.intersections.specs.Counted.{HoldsBelow}
+-- `members::gathered_members`: the heads of the set below `head` are gathered; the law of one head more is Gathering's.
+use mathlib.Core.Path.{◌≡◌}
+use Rattle.intersections.proofs.Gathering.{heads_to}
 use Rattle.intersections.proofs.members.gathered_members.Given as goal
 
-abbrev pub invariant-loop-j : goal.invariant-loop-j
-invariant-loop-j l = HoldsBelow (take l.n_sets l.circles) l.mask l.j l.members
+abbrev pub invariant-loop-head : goal.invariant-loop-head
+invariant-loop-head l = l.members.items ≡ heads_to l.circles.items l.mask l.head

@@ -1,9 +1,12 @@
--- `outline::numbered_arcs`: the arcs below i are written, each with its head's number.
+-- `outline::numbered_arcs`: the arcs before the index, each with its head's number.
 use mathlib.Core.Path.{◌≡◌}
-use lib.ListN.{get_or}
-use Rattle.lists.specs.Written.{written}
-use Rattle.boundary.specs.Set.{numbered, no_arc}
+use mathlib.Core.List.{map}
+use Prim.Native.Nat.{◌≤◌}
+use lib.ListN.{length, take}
+use Rattle.boundary.specs.Set.{numbered, arcs_held}
 use Rattle.outline.proofs.outline.numbered_arcs.Given as goal
 
-abbrev pub invariant-loop-i : goal.invariant-loop-i
-invariant-loop-i l = l.all ≡ written (λ i. numbered l.heads (get_or l.arcs i no_arc)) l.i l.initial.all
+abbrev pub invariant-loop-arc : goal.invariant-loop-arc
+invariant-loop-arc l =
+    (l.all.items ≡ map (numbered (map (λ m. m.head) l.set)) (take l.arc-index l.arcs))
+    × (length l.all.items ≤ arcs_held)

@@ -7,4 +7,4 @@ use Rattle.plan.proofs.check.check_heads.Given as goal
 
 -- the heads so far are within their limits
 abbrev pub invariant-loop-h : goal.invariant-loop-h
-invariant-loop-h l = first_failed (heads_items (take l.h-index l.h-items)) ≡ taken
+invariant-loop-h l = first_failed (heads_items (take l.h-index l.heads)) ≡ taken

@@ -1,10 +1,9 @@
--- `regions::probe_compute_exclusive_regions_with_gradient_circles` meets its contract: what its calls give, put in place from the last to the first.
-use mathlib.Core.Path.{◌∙◌}
-use borrow.Author.Rules.{rules}
+-- `regions::probe_compute_exclusive_regions_with_gradient_circles` meets its contract:
+-- what the call leaves, told of the circles handed over.
 use Rattle.probe.proofs.regions.probe_compute_exclusive_regions_with_gradient_circles.Goals as goal
 
-pub returns : goal.returns
-returns c =
-    let s = c in
-    let circles = s.circles_of.ensures in
-    let e = s.compute_exclusive_regions_with_gradient_circles.ensures in record { value = rw (s.rows_number.ensures, e.value, circles); presence_after = e.presence_after ∙ rw circles; exclusives_after = e.exclusives_after ∙ rw circles; gradients_after = e.gradients_after ∙ rw circles }
+pub returns-clause-exclusives_after : goal.returns-clause-exclusives_after
+returns-clause-exclusives_after c =
+    let given = c.in-Some.ensures in
+    let e = c.compute_exclusive_regions_with_gradient_circles.ensures in
+    cc (e.exclusives_after, c.deref.ensures.0, given.0, given.1)

@@ -17,16 +17,16 @@ loop-mask-preserved c =
     elim c.if-wanted-mask-eq1.branch [
       | then-wanted-mask-eq1 w ↦ (
         omega arith,
-        rw w.heads-is (wanted_with a.wanted.now l.heads l.mask l.invariant.1),
+        rw w.heads-is (wanted_with a.wanted.now.bytes.now l.heads l.mask l.invariant.1),
         λ n h. rw w.heads-is (or_below n l.heads l.mask (l.invariant.2 n h) (omega (arith, h))),
       )
       | else-wanted-mask-eq1 w ↦ (
         omega arith,
-        rw w.heads-is (wanted_without a.wanted.now l.heads l.mask (ne_eqb _ 1 w.if-wanted-mask-eq1.false) l.invariant.1),
+        rw w.heads-is (wanted_without a.wanted.now.bytes.now l.heads l.mask (ne_eqb _ 1 w.if-wanted-mask-eq1.false) l.invariant.1),
         λ n h. rw w.heads-is (l.invariant.2 n h),
       )
     ]
 
 pub returns : goal.returns
 returns c =
-    let e : c.loop-mask.mask ≡ c.args.count = omega arith in record { of_wanted = rw e at c.loop-mask.invariant.1; by_index = c.loop-mask.invariant.2 }
+    let e : c.loop-mask.mask ≡ c.args.wanted.now.count = omega arith in record { of_wanted = rw e at c.loop-mask.invariant.1; by_index = c.loop-mask.invariant.2 }

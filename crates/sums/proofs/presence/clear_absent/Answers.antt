@@ -20,21 +20,21 @@ pub loop-mask-init : goal.loop-mask-init
 loop-mask-init c = written_none _ _
 
 pub bounds-sets-mask : goal.bounds-sets-mask
-bounds-sets-mask c = (row_below c.args.n_sets _ (length c.args.areas.now) c.loop-mask.mask c.row_count-count.ensures (omega arith)).0
+bounds-sets-mask c = (row_below c.args.n_sets _ (length c.args.areas.now) c.loop-mask.mask c.row_count-count.ensures.value (omega arith)).0
 
 pub offset_bounds-areas-mask : goal.offset_bounds-areas-mask
 offset_bounds-areas-mask c =
-    let below = row_below c.args.n_sets _ (length c.args.areas.now) c.loop-mask.mask c.row_count-count.ensures (omega arith) in
+    let below = row_below c.args.n_sets _ (length c.args.areas.now) c.loop-mask.mask c.row_count-count.ensures.value (omega arith) in
     omega (arith, below.0)
 
 pub bounds-areas-mask : goal.bounds-areas-mask
-bounds-areas-mask c = omega (arith, (row_below c.args.n_sets _ (length c.args.areas.now) c.loop-mask.mask c.row_count-count.ensures (omega arith)).1)
+bounds-areas-mask c = omega (arith, (row_below c.args.n_sets _ (length c.args.areas.now) c.loop-mask.mask c.row_count-count.ensures.value (omega arith)).1)
 
 pub loop-mask-preserved : goal.loop-mask-preserved
 loop-mask-preserved c =
     let l = c.loop-mask in
     let a = c.args in
-    let below = row_below a.n_sets _ (length a.areas.now) l.mask c.row_count-count.ensures (omega arith) in
+    let below = row_below a.n_sets _ (length a.areas.now) l.mask c.row_count-count.ensures.value (omega arith) in
     let there = among a.has_box (stands a.sets.now) l.mask in
     let stood = get_or a.areas.now l.mask nan in
     let f : ℕ → Float = λ S. cond (among a.has_box (stands a.sets.now) S) (get_or a.areas.now S nan) zero64 in
@@ -49,5 +49,5 @@ loop-mask-preserved c =
 pub returns : goal.returns
 returns c =
     let a = c.args in
-    let all : c.loop-mask.mask ≡ min (rows_of a.n_sets) (length a.areas.now) = omega (arith, c.row_count-count.ensures) in
+    let all : c.loop-mask.mask ≡ min (rows_of a.n_sets) (length a.areas.now) = omega (arith, c.row_count-count.ensures.value) in
     c.loop-mask.invariant ∙ ap (λ (m : ℕ). written (λ S. cond (among a.has_box (stands a.sets.now) S) (get_or a.areas.now S nan) zero64) m a.areas.now) all

@@ -16,21 +16,21 @@ pub loop-mask-init : goal.loop-mask-init
 loop-mask-init c = written_none _ _
 
 pub bounds-sets-mask : goal.bounds-sets-mask
-bounds-sets-mask c = (row_below c.args.n_sets _ (length c.args.presence.now) c.loop-mask.mask c.row_count-count.ensures (omega arith)).0
+bounds-sets-mask c = (row_below c.args.n_sets _ (length c.args.presence.now) c.loop-mask.mask c.row_count-count.ensures.value (omega arith)).0
 
 pub bounds-presence-mask : goal.bounds-presence-mask
-bounds-presence-mask c = omega (arith, (row_below c.args.n_sets _ (length c.args.presence.now) c.loop-mask.mask c.row_count-count.ensures (omega arith)).1)
+bounds-presence-mask c = omega (arith, (row_below c.args.n_sets _ (length c.args.presence.now) c.loop-mask.mask c.row_count-count.ensures.value (omega arith)).1)
 
 pub loop-mask-preserved : goal.loop-mask-preserved
 loop-mask-preserved c =
     let l = c.loop-mask in
     let a = c.args in
-    let below = row_below a.n_sets _ (length a.presence.now) l.mask c.row_count-count.ensures (omega arith) in
+    let below = row_below a.n_sets _ (length a.presence.now) l.mask c.row_count-count.ensures.value (omega arith) in
     rw l.invariant (write_next (λ S. byte (among a.has_box (stands a.sets.now) S)) l.mask a.presence.now _ 0 below.1
     (c.row_byte.ensures ∙ byte_own a.has_box (stands a.sets.now) l.mask))
 
 pub returns : goal.returns
 returns c =
     let a = c.args in
-    let all : c.loop-mask.mask ≡ min (rows_of a.n_sets) (length a.presence.now) = omega (arith, c.row_count-count.ensures) in
+    let all : c.loop-mask.mask ≡ min (rows_of a.n_sets) (length a.presence.now) = omega (arith, c.row_count-count.ensures.value) in
     c.loop-mask.invariant ∙ ap (λ (m : ℕ). written (λ S. byte (among a.has_box (stands a.sets.now) S)) m a.presence.now) all

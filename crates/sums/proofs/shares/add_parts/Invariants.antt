@@ -1,7 +1,7 @@
 -- `shares::add_parts`: the arcs before this one are added.
 use mathlib.Core.Path.{◌≡◌}
-use lib.ListN.{take}
 use mathlib.Core.List.{foldl}
+use lib.ListN.{take}
 use Rattle.binary64.specs.Constants.{zero64}
 use Rattle.clip.specs.Gradient.{with_gradient}
 use Rattle.sums.specs.Slopes.{add_parts_at}
@@ -9,4 +9,7 @@ use Rattle.sums.proofs.shares.add_parts.Given as goal
 
 abbrev pub invariant-loop-place : goal.invariant-loop-place
 invariant-loop-place l =
-    with_gradient l.total l.grad ≡ foldl (add_parts_at l.bounds (take l.n_sets l.circles) l.marks.counts l.marks.phi) (with_gradient zero64 l.initial.grad) (take l.place-index l.arcs)
+    with_gradient l.total l.grad
+    ≡ foldl (add_parts_at l.bounds l.pass.circles.now.items l.pass.heads.now.items)
+    (with_gradient zero64 l.initial.grad)
+    (take l.place-index l.arcs)

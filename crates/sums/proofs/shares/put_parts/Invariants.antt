@@ -4,5 +4,4 @@ use Rattle.sums.proofs.Sloping.{Putting}
 use Rattle.sums.proofs.shares.put_parts.Given as goal
 
 abbrev pub invariant-loop-i : goal.invariant-loop-i
-invariant-loop-i l =
-    Putting l.bounds l.c l.used l.initial.shares.xs l.initial.shares.ys l.initial.shares.rs l.breaks l.n l.shares.xs l.shares.ys l.shares.rs l.many l.sum (l.i - 1)
+invariant-loop-i l = Putting l.bounds l.c l.first l.initial.shares l.breaks.items l.shares l.many l.sum (l.i - 1)

@@ -1,10 +1,11 @@
 -- `terms::add_slopes`: the arcs before this one are added.
 use mathlib.Core.Path.{◌≡◌}
-use lib.ListN.{take}
 use mathlib.Core.List.{foldl}
+use lib.ListN.{take}
 use Rattle.sums.specs.Slopes.{add_slopes_at}
 use Rattle.sums.proofs.terms.add_slopes.Given as goal
 
 abbrev pub invariant-loop-place : goal.invariant-loop-place
 invariant-loop-place l =
-    l.grad ≡ foldl (add_slopes_at (take l.n_sets l.circles) l.marks.counts l.marks.phi) l.initial.grad (take l.place-index l.arcs)
+    l.grad ≡ foldl (add_slopes_at l.pass.circles.now.items l.pass.heads.now.items) l.initial.grad
+    (take l.place-index l.arcs)

@@ -1,45 +1,33 @@
 -- `values::arc_at`: each way out by the tests that led there.
 use mathlib.Core.Path.{ap, ◌∙◌}
-use Prim.Native.Nat.{ℕ, ◌+◌, ◌*◌, ◌/◌, ◌%◌}
-use native.Mathlib.Omega.{arith}
-use lib.ListN.{get_or}
-use Rattle.gaps.proofs.Next.{next_is, next_less}
-use Rattle.sums.proofs.Valuing.{arc_near, arc_whole, arc_far}
+use Rattle.sums.proofs.Valuing.{ends_near, ends_far, arc_near, arc_whole, arc_far}
 use Rattle.sums.proofs.values.arc_at.Goals as goal
 
-pub overflow_add-to : goal.overflow_add-to
-overflow_add-to c =
-    let a = c.args in
-    omega (arith, c.requires.few c.if-place-lt320.true, c.next.ensures, next_less (a.place % 32) (get_or a.marks.now.counts (a.place / 32) 0) (c.requires.next c.if-place-lt320.true))
-
-pub offset_bounds-phi-to : goal.offset_bounds-phi-to
-offset_bounds-phi-to c =
-    let a = c.args in
-    omega (arith, c.requires.few c.if-place-lt320.true, c.next.ensures, next_less (a.place % 32) (get_or a.marks.now.counts (a.place / 32) 0) (c.requires.next c.if-place-lt320.true))
-
-pub bounds-phi-to : goal.bounds-phi-to
-bounds-phi-to c =
-    let a = c.args in
-    omega (arith, c.requires.few c.if-place-lt320.true, c.next.ensures, next_less (a.place % 32) (get_or a.marks.now.counts (a.place / 32) 0) (c.requires.next c.if-place-lt320.true))
+pub gap_arc-requires : goal.gap_arc-requires
+gap_arc-requires c =
+    let marks = c.as_slice-marks.ensures.value ∙ ap (λ h. h.marks.items) c.head.ensures in
+    rw c.next.ensures (ends_near c.args.pass.now c.args.place c.requires c.head_of-j.ensures marks
+    c.if-place-lt320.true)
 
 pub returns-then-place-lt320 : goal.returns-then-place-lt320
 returns-then-place-lt320 c =
-    let a = c.args in
-    λ circles. arc_near circles a.marks.now.counts a.marks.now.phi a.place a.circle _ _ c.if-place-lt320.true (ap (λ (m : ℕ). a.place / 32 * 32 + m) (c.next.ensures ∙ next_is (a.place % 32) (get_or a.marks.now.counts (a.place / 32) 0) (c.requires.next c.if-place-lt320.true)))
-    c.gap.ensures c.between.ensures
+    let marks = c.as_slice-marks.ensures.value ∙ ap (λ h. h.marks.items) c.head.ensures in
+    arc_near c.args.pass.now c.args.place c.requires c.head_of-j.ensures marks c.circle_of-circle.result
+    c.if-place-lt320.true
+    (c.gap_arc.ensures ∙ rw c.next.ensures)
 
 pub returns-then-place-lt330 : goal.returns-then-place-lt330
 returns-then-place-lt330 c =
-    let a = c.args in
-    λ circles. arc_whole circles a.marks.now.counts a.marks.now.phi a.place a.circle (omega arith) (omega arith) c.full_circle.ensures
+    arc_whole c.args.pass.now c.args.place c.requires c.head_of-j.ensures _ c.if-place-lt320.false c.if-place-lt330.true
+    c.full_circle.ensures
 
-pub bounds-phi-a : goal.bounds-phi-a
-bounds-phi-a c = omega (arith, c.requires.far (omega arith))
-
-pub bounds-phi-a-2 : goal.bounds-phi-a-2
-bounds-phi-a-2 c = omega (arith, c.requires.far (omega arith))
+pub gap_arc-requires-2 : goal.gap_arc-requires-2
+gap_arc-requires-2 c =
+    let marks = c.as_slice-marks.ensures.value ∙ ap (λ h. h.marks.items) c.head.ensures in
+    ends_far c.args.pass.now c.args.place c.requires c.head_of-j.ensures marks c.if-place-lt330.false
 
 pub returns : goal.returns
 returns c =
-    let a = c.args in
-    λ circles. arc_far circles a.marks.now.counts a.marks.now.phi a.place a.circle _ (omega arith) c.gap-2.ensures c.between-2.ensures
+    let marks = c.as_slice-marks.ensures.value ∙ ap (λ h. h.marks.items) c.head.ensures in
+    arc_far c.args.pass.now c.args.place c.requires c.head_of-j.ensures marks _ c.if-place-lt330.false
+    c.gap_arc-2.ensures

@@ -1,24 +1,10 @@
--- `values::is_standing`: each way out by the tests that led there.
-use mathlib.Core.Path.{sym, ◌∙◌}
-use Prim.Native.Nat.{◌-◌, ◌/◌}
-use native.Mathlib.Omega.{arith}
-use borrow.Author.Tests.{eq-eqb, ne_eqb}
-use Rattle.masks.specs.Operations.{in_by_shift}
-use Rattle.sums.proofs.Valuing.{standing_near, standing_whole}
+-- `values::is_standing`: the marks of the head that is found.
+use Rattle.gaps.specs.Marks.{unmarked}
+use Rattle.sums.proofs.Held.{standing_with}
 use Rattle.sums.proofs.values.is_standing.Goals as goal
 
-pub returns-then-needed-j-eq1 : goal.returns-then-needed-j-eq1
-returns-then-needed-j-eq1 c =
-    let a = c.args in
-    sym (standing_near a.needed a.marks.now.counts a.place (omega arith) ∙ rw (sym (in_by_shift a.needed (a.place / 32)) ∙ eq-eqb _ _ c.if-needed-j-eq1.true))
-
-pub returns-else-needed-j-eq1 : goal.returns-else-needed-j-eq1
-returns-else-needed-j-eq1 c =
-    let a = c.args in
-    let none = ne_eqb _ _ c.if-needed-j-eq1.false in
-    none ∙ sym (standing_near a.needed a.marks.now.counts a.place (omega arith) ∙ rw (sym (in_by_shift a.needed (a.place / 32)) ∙ none))
-
-pub returns : goal.returns
-returns c =
-    let a = c.args in
-    in_by_shift a.needed (a.place - 320) ∙ sym (standing_whole a.needed a.marks.now.counts a.place (omega arith))
+pub returns-in-Some : goal.returns-in-Some
+returns-in-Some c =
+    let p = c.args.pass.now in
+    standing_with p.needed p.heads.now.items c.args.place c.if-place-lt320.true c.deref.ensures.0
+    (c.in-Some.ensures.lookup.3.1 unmarked) c.len.ensures.value

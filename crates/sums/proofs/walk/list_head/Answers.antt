@@ -1,103 +1,85 @@
 -- `walk::list_head`: the whole circle, or one gap more.
-use mathlib.Core.Path.{sym, ◌∙◌}
-use Prim.Native.Nat.{◌+◌, ◌*◌, ◌<◌}
+use mathlib.Core.Path.{sym, ap, ◌∙◌}
+use Prim.Native.Nat.{◌<◌}
 use native.Mathlib.Omega.{arith}
 use borrow.Author.Tests.{eq-eqb, ne_eqb}
-use lib.ListN.{get_or, take}
+use lib.ListN.{length, get_or}
+use Rattle.boundary.specs.Marks.{no_mark}
 use Rattle.masks.specs.Subset.{and_test}
-use Rattle.sums.proofs.Valuing.{first_many}
-use Rattle.sums.proofs.Walking.{whole_listed, whole_left, round_start, round_next, round_skips, round_end}
+use Rattle.gaps.specs.Marks.{adopted_by}
+use Rattle.sums.specs.Walk.{marks_of}
+use Rattle.sums.proofs.Walking.{whole_yes, whole_no, listed_more, listed_same, placed_more}
+use Rattle.sums.proofs.Walking.{round_start, round_next, round_skips, round_end}
 use Rattle.sums.proofs.walk.list_head.Goals as goal
-use Rattle.sums.proofs.walk.list_head.Goals.{then-mask-marks-2, else-mask-marks-2}
+use Rattle.sums.proofs.walk.list_head.Goals.{then-mask-marks, else-mask-marks}
 
-pub returns-then-mask-marks : goal.returns-then-mask-marks
-returns-then-mask-marks c =
+pub returns-then-mask-head : goal.returns-then-mask-head
+returns-then-mask-head c =
     let a = c.args in
-    let m = a.marks.now in
-    let cs = take a.n_sets a.circles.now in
-    let p = c.requires in
-    let most = p.n_sets_bound.0 in
+    let p = a.pass.now in
+    let r = c.requires in
+    let marks = c.as_slice-marks.ensures.value ∙ ap (λ h. h.marks.items) c.head-head.ensures in
+    let arc = whole_yes p a.mask r.within a.j r.head.0 r.head.1 _ (rw marks at c.first_in-first.ensures)
+    (omega (arith, c.if-marks-first.true, ap length marks))
+    (rw (ap (λ h. h.owners) c.head-head.ensures) at c.if-mask-head.true) in
     record {
-      upper_bound = omega (arith, c.push.ensures.n, p.n_bound.0);
-      listing = rw (c.push.ensures.n, c.push.ensures.all)
-          (whole_listed cs m.counts m.phi m.adopters a.n_sets a.mask a.j _ a.list.now.n a.list.now.all
-          c.next_in-first.ensures c.if-n-first.true
-          (get_or m.owners a.j 0) (rw (first_many a.circles.now a.n_sets c.told-circles most) p.n_sets_bound.1.1.0) p.head_ready.probed p.n_bound.1
-          most p.n_sets_bound.1.0 p.n_sets_bound.1.1.1
-          (omega (arith, most, p.n_sets_bound.1.0, p.n_bound.0)) c.if-mask-marks.true);
+      count = omega (arith, c.push.ensures.len, r.room);
+      placed = rw c.push.ensures.items
+          (placed_more p.circles.now.items p.needed p.heads.now.items a.list.now.items _ r.placed arc.1);
+      said = rw c.push.ensures.items
+          (listed_more p.circles.now.items p.needed p.heads.now.items a.list.now.items _ arc.0);
     }
 
-pub returns-else-mask-marks : goal.returns-else-mask-marks
-returns-else-mask-marks c =
+pub returns-else-mask-head-clause-said : goal.returns-else-mask-head-clause-said
+returns-else-mask-head-clause-said c =
     let a = c.args in
-    let m = a.marks.now in
-    let cs = take a.n_sets a.circles.now in
-    let p = c.requires in
-    let most = p.n_sets_bound.0 in
-    record {
-      upper_bound = omega (arith, p.n_bound.0);
-      listing = whole_left cs m.counts m.phi m.adopters a.n_sets a.mask a.j _ a.list.now.n a.list.now.all
-          c.next_in-first.ensures c.if-n-first.true
-          (get_or m.owners a.j 0) (rw (first_many a.circles.now a.n_sets c.told-circles most) p.n_sets_bound.1.1.0) p.head_ready.probed p.n_bound.1 c.if-mask-marks.false;
-    }
+    let p = a.pass.now in
+    let r = c.requires in
+    let marks = c.as_slice-marks.ensures.value ∙ ap (λ h. h.marks.items) c.head-head.ensures in
+    listed_same p.circles.now.items p.needed p.heads.now.items a.list.now.items
+    (whole_no p a.mask r.within a.j r.head.0 r.head.1 _ (rw marks at c.first_in-first.ensures)
+    (omega (arith, c.if-marks-first.true, ap length marks))
+    (rw (ap (λ h. h.owners) c.head-head.ensures) at c.if-mask-head.false))
 
 pub loop-b-init : goal.loop-b-init
 loop-b-init c =
     let a = c.args in
-    let m = a.marks.now in
-    let p = c.requires in
-    round_start (take a.n_sets a.circles.now) m.counts m.phi m.adopters a.n_sets a.mask a.j _ a.list.now.n a.list.now.all
-    c.next_in-first.ensures (omega arith) p.n_bound.0 p.n_bound.1
-
-pub list_gap-requires : goal.list_gap-requires
-list_gap-requires c =
-    let l = c.loop-b in
-    let w = l.invariant in
-    let p = c.requires in
-    record {
-      n_sets_bound = p.n_sets_bound;
-      j_bound = (p.head_ready.few, (w.last_below, omega arith));
-      a_value = p.head_ready.gaps l.last w.last_below;
-      n_bound = (omega (arith, p.n_sets_bound.0, p.n_sets_bound.1.0, p.head_ready.few, w.room, w.last_below), w.kept);
-    }
+    let p = a.pass.now in
+    let marks = c.as_slice-marks.ensures.value ∙ ap (λ h. h.marks.items) c.head-head.ensures in
+    round_start p.circles.now.items p.needed p.heads.now.items a.mask a.j _ a.list.now.items
+    (rw marks at c.first_in-first.ensures) (omega (arith, c.if-marks-first.false, ap length marks))
+    c.requires.room c.requires.placed
 
 pub loop-b-preserved : goal.loop-b-preserved
+unfolding adopted_by
 loop-b-preserved c =
-    let l = c.loop-b in
     let a = c.args in
-    let m = a.marks.now in
-    let cs = take a.n_sets a.circles.now in
-    let below : l.b < get_or m.counts a.j 0 = omega arith in
-    let tested = sym (and_test 64 a.mask (get_or m.adopters (a.j * 32 + l.b) 0) c.ranges.mask.fits) in
-    elim c.if-mask-marks-2.branch [
-      | then-mask-marks-2 w ↦ rw (w.list-is, w.last-is)
-          (round_next cs m.counts m.phi m.adopters a.n_sets a.mask a.j _ _ l.list.all l.list.n l.last l.b l.invariant _ _ below
-          (tested ∙ eq-eqb _ _ w.if-mask-marks-2.true) w.list_gap.ensures.upper_bound w.list_gap.ensures.listing)
-      | else-mask-marks-2 w ↦ rw (w.list-is, w.last-is)
-          (round_skips cs m.counts m.phi m.adopters a.n_sets a.mask a.j _ _ l.list.all l.list.n l.last l.b l.invariant below
-          (tested ∙ ne_eqb _ _ w.if-mask-marks-2.false))
-    ]
-
-pub list_gap-requires-2 : goal.list_gap-requires-2
-list_gap-requires-2 c =
+    let p = a.pass.now in
     let l = c.loop-b in
-    let w = l.invariant in
-    let p = c.requires in
-    record {
-      n_sets_bound = p.n_sets_bound;
-      j_bound = (p.head_ready.few, (w.last_below, w.first_below));
-      a_value = p.head_ready.gaps l.last w.last_below;
-      n_bound = (omega (arith, p.n_sets_bound.0, p.n_sets_bound.1.0, p.head_ready.few, w.room, w.last_below), w.kept);
-    }
+    let marks = c.as_slice-marks.ensures.value ∙ ap (λ h. h.marks.items) c.head-head.ensures in
+    let below : l.b < length (marks_of p.heads.now.items a.j) = omega (arith, c.loop-b-test.true, ap length marks) in
+    let tested = ap (λ t. adopted_by a.mask (get_or t l.b no_mark)) (sym marks)
+    ∙ sym (and_test 64 a.mask (get_or c.as_slice-marks.result.now l.b no_mark).adopters c.ranges.mask.fits) in
+    elim c.if-mask-marks.branch [
+      | then-mask-marks w ↦ rw (w.list-is, w.last-is)
+          (round_next p.circles.now.items p.needed p.heads.now.items a.mask a.j _ l.invariant below
+          (tested ∙ eq-eqb _ _ w.if-mask-marks.true) w.list_gap.ensures.count w.list_gap.ensures.placed
+          w.list_gap.ensures.said)
+      | else-mask-marks w ↦ rw (w.list-is, w.last-is)
+          (round_skips p.circles.now.items p.needed p.heads.now.items a.mask a.j _ l.invariant below
+          (tested ∙ ne_eqb _ _ w.if-mask-marks.false))
+    ]
 
 pub returns : goal.returns
 returns c =
-    let l = c.loop-b in
-    let w = l.invariant in
     let a = c.args in
-    let m = a.marks.now in
+    let p = a.pass.now in
+    let w = c.loop-b.invariant in
+    let last = c.list_gap-2.ensures in
+    let marks = c.as_slice-marks.ensures.value ∙ ap (λ h. h.marks.items) c.head-head.ensures in
     record {
-      upper_bound = omega (arith, c.list_gap-2.ensures.upper_bound, w.room, w.last_below, c.requires.head_ready.few);
-      listing = round_end (take a.n_sets a.circles.now) m.counts m.phi m.adopters a.n_sets a.mask a.j _ _ l.list.all l.list.n
-          l.last l.b w _ _ (omega arith) c.list_gap-2.ensures.listing;
+      count = omega (arith, last.count, w.room, w.last_below, ap length marks, c.as_slice-marks.ensures.fits);
+      placed = last.placed;
+      said = round_end p.circles.now.items p.needed p.heads.now.items a.mask a.j _ w _
+          (omega (arith, c.loop-b-test.false, ap length marks)) last.said;
     }

@@ -1,11 +1,15 @@
 -- `walk::walk`: the arcs of the heads below j are listed.
+use mathlib.Core.Path.{◌≡◌}
 use Prim.Native.Nat.{◌*◌, ◌≤◌}
-use lib.ListN.{take}
-use Rattle.sums.specs.Walk.{marks_in, heads_in, Listing}
+use lib.ListN.{length}
+use Rattle.lists.specs.Every.{Every}
+use Rattle.sums.specs.Walk.{marks_of, heads_in, Placed, arcs_listed}
 use Rattle.sums.proofs.walk.walk.Given as goal
 
 abbrev pub invariant-loop-j : goal.invariant-loop-j
 invariant-loop-j l =
-    let cs = take l.n_sets l.circles in
-    let m = l.marks in
-    (l.list.n ≤ l.j * 32) × Listing cs m.counts m.phi l.n_sets l.mask (heads_in cs (marks_in m.counts m.phi m.adopters) l.mask l.j) l.list.n l.list.all
+    let cs = l.pass.circles.now.items in
+    let hs = l.pass.heads.now.items in
+    (length l.list.items ≤ l.j * 32)
+    × (Every (Placed l.pass.needed hs) l.list.items
+    × (arcs_listed cs hs l.list.items ≡ heads_in cs (marks_of hs) l.mask l.j))

@@ -9,4 +9,7 @@ use Rattle.regions.specs.Edit.{meets_any}
 use Rattle.table.proofs.met.met_by.Given as goal
 
 abbrev pub invariant-loop-j : goal.invariant-loop-j
-invariant-loop-j l = l.mask ≡ gather l.j (λ i. not (eqb i l.k) && meets_any (get_or l.heads l.k no_head ∷ l.head ∷ []) (get_or l.heads i no_head))
+invariant-loop-j l =
+    l.mask
+    ≡ gather l.j
+    (λ j. not (eqb j l.k) && meets_any (get_or l.heads l.k no_head ∷ l.head ∷ []) (get_or l.heads j no_head))

@@ -1,19 +1,17 @@
 use mathlib.Core.Path.{◌≡◌, refl, ap, ◌∙◌}
-use lib.ListN.{take}
-use Rattle.drawn.specs.Drawn.{plan_circles}
-use Rattle.geometry.specs.Rectangle.{bounds}
+use lib.ListN.{length}
+use Rattle.lists.proofs.Arrays.{length_of_values}
+use Rattle.drawn.proofs.Circles.{circles_many}
 use Rattle.intersections.specs.Points.{collected}
 use Rattle.table.proofs.ready.ready_of.Goals as goal
 
 pub returns : goal.returns
-unfolding plan_circles
 returns c =
-    -- the first n circles are the plan's
-    let circles : take c.args.plan.n c.circles_of-circles.result ≡ plan_circles c.args.plan = ap (take c.args.plan.n) c.circles_of-circles.ensures in
-    record {
-      clipped = refl;
-      n = refl;
+    let p = c.args.plan in
+    let circles = c.circles_of-circles.ensures in
+    let ten : length p.heads ≡ 10 = (let h = c.well_formed in search length_of_values) in record {
+      n = λ few. ap length circles ∙ circles_many p ten few;
       circles = circles;
-      points = c.collect_intersections-points.ensures.result_value ∙ ap collected circles;
-      bounds = c.bounds-bounds.ensures ∙ ap bounds c.box_of.ensures;
+      points = c.collect_intersections-points.ensures ∙ ap collected circles;
+      bounds = refl;
     }

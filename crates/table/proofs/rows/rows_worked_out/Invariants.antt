@@ -8,4 +8,5 @@ use Rattle.table.proofs.rows.rows_worked_out.Given as goal
 
 abbrev pub invariant-loop-mask : goal.invariant-loop-mask
 invariant-loop-mask l =
-    l.wanted ≡ written (λ S. byte (worked_out l.change (stands l.earlier) (stands l.later) S)) l.mask (replicate 1024 0)
+    l.wanted
+    ≡ written (λ S. byte (worked_out l.change (stands l.earlier) (stands l.later) S)) l.mask (replicate 1024 0)

@@ -31,10 +31,10 @@ loop-i-preserved c =
     let tried = c.edit-booked in
     let now = plan_tables l.left l.tables in record {
       tried = record {
-        slices = slices_next clipped_table start f l.i now _ next.result tried.result.answer so_far.slices next.ensures
-            tried.ensures.step;
-        answers = answers_next clipped_table start f l.i now _ next.result tried.result.answer so_far.slices next.ensures
-            tried.ensures.step a.answers.now l.answers _ so_far.answers within c.answer_number.ensures;
+        slices = slices_next clipped_table start f l.i now _ next.result tried.result.answer so_far.slices
+            next.ensures tried.ensures.step;
+        answers = answers_next clipped_table start f l.i now _ next.result tried.result.answer so_far.slices
+            next.ensures tried.ensures.step a.answers.now l.answers _ so_far.answers within c.answer_number.ensures;
         many = length-set l.answers l.i _ ∙ so_far.many;
       };
       same_slices = same_then l.invariant.same_slices tried.ensures.same_slices;
@@ -55,9 +55,11 @@ returns c =
       ran = record {
         tried = tried;
         folded = left;
-        numbered = l.invariant.tried.answers ∙ ap (λ n. answers_written clipped_table start (tab f n) a.answers.now) all;
+        numbered = l.invariant.tried.answers
+            ∙ ap (λ n. answers_written clipped_table start (tab f n) a.answers.now) all;
         ends = λ fresh.
-            subst (λ d. SlicesEnd clipped_table start es d (answers_after clipped_table start es)) (sym left) (run_ends clipped_table start es fresh);
+            subst (λ d. SlicesEnd clipped_table start es d (answers_after clipped_table start es)) (sym left)
+            (run_ends clipped_table start es fresh);
       };
       same_slices = l.invariant.same_slices;
     }

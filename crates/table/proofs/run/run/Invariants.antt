@@ -11,7 +11,8 @@ use Rattle.table.specs.Tables.{plan_tables, SameSlices}
 use Rattle.table.proofs.run.run.Given as goal
 
 -- the first i edits have been tried: the slices are what they leave, and their answers' numbers are written
-pub record Tried (start : PlanSlices) (f : ℕ → Edit) (out : List ℕ) (i : ℕ) (left : PlanSlices) (so_far : List ℕ) : Type 0 where
+pub record Tried (start : PlanSlices) (f : ℕ → Edit) (out : List ℕ) (i : ℕ) (left : PlanSlices) (so_far : List ℕ)
+    : Type 0 where
   pub slices : left ≡ slices_after clipped_table start (tab f i)
   pub answers : so_far ≡ answers_written clipped_table start (tab f i) out
   pub many : length so_far ≡ length out
@@ -19,7 +20,8 @@ pub record Tried (start : PlanSlices) (f : ℕ → Edit) (out : List ℕ) (i : �
 abbrev pub invariant-loop-i : goal.invariant-loop-i
 invariant-loop-i l =
     record {
-      tried : Tried (plan_tables l.initial.left l.initial.tables) (edit_at l.edits.head.now l.edits.x.now l.edits.y.now l.edits.radius.now)
+      tried : Tried (plan_tables l.initial.left l.initial.tables)
+          (edit_at l.edits.head.now l.edits.x.now l.edits.y.now l.edits.radius.now)
           l.initial.answers l.i (plan_tables l.left l.tables) l.answers;
       same_slices : SameSlices l.initial.tables l.tables;
     }

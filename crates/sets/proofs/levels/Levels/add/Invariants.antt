@@ -1,17 +1,18 @@
--- `Levels::add`: the masks below s of their levels are marked as found, and in `level` what joins from those masks.
-use mathlib.Core.Path.{◌≡◌}
+-- `Levels::add`: the masks so far of their levels are marked as found, and in `level` what joins from those masks.
+use Rattle.std.proofs.Common.{◌≡◌}
 use Rattle.masks.specs.Presence.{stands}
-use Rattle.sets.specs.Marked.{marked}
-use Rattle.sets.specs.Steps.{mask_of, joining_below, joined_below}
+use Rattle.sets.specs.Steps.{mask_of}
+use Rattle.sets.proofs.LevelStep.{joined_to, joining_to}
 use Rattle.sets.proofs.levels.Levels.add.Given as goal
 
-abbrev pub invariant-loop-s : goal.invariant-loop-s
-invariant-loop-s l =
-    let n = l.fn.self.heads.n in
-    let o = mask_of l.fn.self.overlapping.now in
-    let d = mask_of l.fn.self.containing.now in
-    let was = stands l.initial.found in
+abbrev pub invariant-loop-mask : goal.invariant-loop-mask
+invariant-loop-mask l =
+    let levels = l.fn.self in
+    let n = levels.heads.n in
+    let f = stands l.initial.found in
+    let o = mask_of levels.overlapping.now in
+    let c = mask_of levels.containing.now in
     record {
-      marks : l.found ≡ marked (joined_below n was o d l.s) l.initial.found;
-      joining : l.level ≡ marked (joining_below n was o d l.s) l.initial.level;
+      marks : l.found ≡ joined_to n f o c l.mask l.initial.found;
+      joining : l.level ≡ joining_to n f o c l.mask l.initial.level;
     }

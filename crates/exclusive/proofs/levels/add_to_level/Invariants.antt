@@ -1,8 +1,0 @@
--- `levels::add_to_level` meets its contract. The invariant: the sums from place lo to place i have the number or +0.
-use mathlib.Core.Path.{◌≡◌}
-use lib.ListN.{length}
-use Rattle.exclusive.proofs.LevelSums.{Adding}
-use Rattle.exclusive.proofs.levels.add_to_level.Given as goal
-
-abbrev pub invariant-loop-i : goal.invariant-loop-i
-invariant-loop-i l = record { room : length l.sums ≡ 1024; sums : Adding l.rows l.lo l.t l.number l.initial.sums l.i l.sums }

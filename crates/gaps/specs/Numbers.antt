@@ -1,0 +1,32 @@
+-- The number of the arc that a gap of a head is in a set, from what is held of the head.
+use Rattle.std.specs.Prelude.{ℕ, Option, None, Some, ◌+◌, ◌*◌, ◌&&◌, List, eqb, length, get_or}
+use Rattle.std.proofs.Math.Bool.{cond}
+use Rattle.std.proofs.Math.Dec.{ltb}
+use Rattle.masks.specs.Mask.{subset}
+use Rattle.geometry.specs.declared.circle.Circle.{Circle}
+use Rattle.gaps.specs.declared.marks.HeadMarks.{HeadMarks}
+use Rattle.gaps.specs.Gaps.{is_arc, next_of}
+use Rattle.gaps.specs.Marks.{phi_at}
+
+module _ (circles : List Circle) (head : HeadMarks) (S j a b : ℕ) where
+  -- between neighbours: the place of the angle that it begins at, if all heads of S are among those held to let head j
+  -- have the gap
+  unfoldable pub neighbour_number : Option ℕ
+  neighbour_number = cond (subset 64 S (get_or head.lets a 0)) (Some (j * 32 + a)) None
+
+  -- between any other two: by the places of both, if the gap is an arc
+  unfoldable pub other_number : Option ℕ
+  unfolding is_arc
+  other_number =
+      cond (is_arc circles S j (phi_at head.marks.items a) (phi_at head.marks.items b))
+      (Some (330 + (j * 32 + a) * 320 + (j * 32 + b)))
+      None
+
+  -- the number of the arc from the a-th angle of head j to the b-th, 32 places a head, if that gap is an arc
+  unfoldable pub gap_number : Option ℕ
+  unfolding next_of neighbour_number other_number
+  gap_number =
+      let n = length head.marks.items in
+      cond (ltb j (length circles) && ltb a n && ltb b n)
+      (cond (eqb b (next_of a n)) neighbour_number other_number)
+      None

@@ -1,6 +1,0 @@
--- `clipped::probe_area_from_clipped_arcs` meets its contract: what its calls give, put in place from the last to the first.
-use borrow.Author.Rules.{rules}
-use Rattle.probe.proofs.clipped.probe_area_from_clipped_arcs.Goals as goal
-
-pub returns : goal.returns
-returns c = rw (c.area_from_clipped_arcs.ensures, c.bounds_of.ensures, c.circles_of.ensures, c.arcs_of-arcs.ensures)

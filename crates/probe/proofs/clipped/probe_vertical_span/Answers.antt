@@ -1,6 +1,0 @@
--- `clipped::probe_vertical_span` meets its contract: what its calls give, put in place from the last to the first.
-use borrow.Author.Rules.{rules}
-use Rattle.probe.proofs.clipped.probe_vertical_span.Goals as goal
-
-pub returns : goal.returns
-returns c = rw (c.ends_of.ensures, c.vertical_edge_inside_interval.ensures, c.members_of-set.ensures.result_value_2, c.circles_of.ensures)

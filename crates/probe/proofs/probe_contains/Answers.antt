@@ -1,6 +1,0 @@
--- `probe::probe_contains` meets its contract: what its calls give, put in place from the last to the first.
-use borrow.Author.Rules.{rules}
-use Rattle.probe.proofs.probe_contains.Goals as goal
-
-pub returns : goal.returns
-returns c = rw (c.contains.ensures, c.around-2.ensures, c.around.ensures)

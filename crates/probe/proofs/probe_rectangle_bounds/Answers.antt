@@ -1,6 +1,0 @@
--- `probe::probe_rectangle_bounds` meets its contract: what its calls give, put in place from the last to the first.
-use borrow.Author.Rules.{rules}
-use Rattle.probe.proofs.probe_rectangle_bounds.Goals as goal
-
-pub returns : goal.returns
-returns c = rw (c.bounds-b.ensures, c.new-2.ensures, c.new.ensures)
