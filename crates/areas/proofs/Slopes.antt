@@ -17,7 +17,9 @@ use Rattle.lists.specs.Every.{Every}
 use Rattle.intersections.specs.Members.{no_circle}
 use Rattle.outline.specs.Area.{add_at, sub_at, arc_slopes, add_slopes, add_gradient}
 use Rattle.boundary.specs.Set.{numbered}
-use Rattle.clip.specs.declared.edges.Edge.{Edge}
+use Rattle.inside.specs.declared.edges.BoxEdge.{BoxEdge}
+use Rattle.inside.specs.declared.edges.BoxEdge.TheVariants.{Bottom, Right, Top, Left}
+use Rattle.inside.specs.Edges.{is_upright, is_outward, factor_of, across_of}
 use Rattle.inside.specs.Span.{Interval, horizontal_span, vertical_span}
 use Rattle.inside.specs.Breaks.{breaks}
 use Rattle.lists.specs.Lists.{over_pairs}
@@ -25,7 +27,7 @@ use Rattle.inside.specs.Parts.{summed}
 use Rattle.clip.specs.Area.{empty_box}
 use Rattle.clip.specs.Gradient.{WithGradient, with_gradient, sub_arc_by_differences, part_slopes, sub_arc_with_gradient, add_part_with_gradient}
 use Rattle.clip.specs.Gradient.{clipped_arc_integral_with_gradient, add_clipped_arc_with_gradient, add_clipped_arcs_with_gradient, moved, edge_slopes}
-use Rattle.clip.specs.Gradient.{add_span_with_gradient, bottom_edge, right_edge, top_edge, left_edge, add_edges_with_gradient, clipped_with_gradient}
+use Rattle.clip.specs.Gradient.{add_span_with_gradient, add_edges_with_gradient, clipped_with_gradient}
 use Rattle.clip.proofs.Naming.{own, Below, has_own, has_head, same_circle}
 use Rattle.lists.proofs.Folds.{pairs_related, fold_related}
 use Rattle.areas.proofs.Scattering.{Increasing, Scattered, Stands, StandFrom, stands_first, entry_changed}
@@ -90,25 +92,25 @@ module _ (ps : List ℕ) (out : List Float) (increasing : Increasing ps) (inside
   stands_if false q q' p p' h h' = h'
 
   module _ (at at' : ℕ) (four : StandFrom ps 4 at at') where
-    edge_kept : (e : Edge) (l : Float) (g G : List Float) → Scattered ps out g G → Scattered ps out (edge_slopes e at l g) (edge_slopes e at' l G)
+    edge_kept : (e : BoxEdge) (across l : Float) (g G : List Float) → Scattered ps out g G → Scattered ps out (edge_slopes e across at l g) (edge_slopes e across at' l G)
     unfolding edge_slopes
-    edge_kept e l g G s =
-        moved_kept e.upright (at + 3) (at' + 3) _ _ _ (four 3 (omega arith))
+    edge_kept e across l g G s =
+        moved_kept (is_upright e) (at + 3) (at' + 3) _ _ _ (four 3 (omega arith))
         (add_kept (at + 2) (at' + 2) _ _ _ (four 2 (omega arith))
-        (moved_kept e.outward _ _ l g G (stands_if e.upright at (at + 1) at' (at' + 1) (stands_first ps 4 at at' (omega arith) four)
+        (moved_kept (is_outward e) _ _ l g G (stands_if (is_upright e) at (at + 1) at' (at' + 1) (stands_first ps 4 at at' (omega arith) four)
         (four 1 (omega arith))) s))
 
-    span_kept : (e : Edge) (l : List Interval) (s t : WithGradient) → Both ps out s t
-        → Both ps out (add_span_with_gradient e at s l) (add_span_with_gradient e at' t l)
+    span_kept : (e : BoxEdge) (factor across : Float) (l : List Interval) (s t : WithGradient) → Both ps out s t
+        → Both ps out (add_span_with_gradient e factor across at s l) (add_span_with_gradient e factor across at' t l)
     unfolding add_span_with_gradient
-    span_kept e [] s t r = r
-    span_kept e (i ∷ l) s t r =
-        span_kept e l
-        (with_gradient (s.sum +ᶠ e.factor *ᶠ (i.high -ᶠ i.low)) (edge_slopes e at (i.high -ᶠ i.low) s.grad))
-        (with_gradient (t.sum +ᶠ e.factor *ᶠ (i.high -ᶠ i.low)) (edge_slopes e at' (i.high -ᶠ i.low) t.grad))
+    span_kept e factor across [] s t r = r
+    span_kept e factor across (i ∷ l) s t r =
+        span_kept e factor across l
+        (with_gradient (s.sum +ᶠ factor *ᶠ (i.high -ᶠ i.low)) (edge_slopes e across at (i.high -ᶠ i.low) s.grad))
+        (with_gradient (t.sum +ᶠ factor *ᶠ (i.high -ᶠ i.low)) (edge_slopes e across at' (i.high -ᶠ i.low) t.grad))
         (record {
-          sums = ap (λ v. v +ᶠ e.factor *ᶠ (i.high -ᶠ i.low)) r.sums;
-          grads = edge_kept e (i.high -ᶠ i.low) s.grad t.grad r.grads;
+          sums = ap (λ v. v +ᶠ factor *ᶠ (i.high -ᶠ i.low)) r.sums;
+          grads = edge_kept e across (i.high -ᶠ i.low) s.grad t.grad r.grads;
         })
 
     edges_kept : (box : Bounds) (cs : List Circle) (s t : WithGradient) → Both ps out s t
@@ -117,9 +119,10 @@ module _ (ps : List ℕ) (out : List Float) (increasing : Increasing ps) (inside
     edges_kept box cs s t r =
         let along : Float → List Interval = λ y. horizontal_span y box.x_min box.x_max cs in
         let up : Float → List Interval = λ x. vertical_span x box.y_min box.y_max cs in
-        span_kept (left_edge box) (up box.x_min) _ _
-        (span_kept (top_edge box) (along box.y_max) _ _
-        (span_kept (right_edge box) (up box.x_max) _ _ (span_kept (bottom_edge box) (along box.y_min) s t r)))
+        span_kept Left (factor_of box Left) (across_of box Left) (up box.x_min) _ _
+        (span_kept Top (factor_of box Top) (across_of box Top) (along box.y_max) _ _
+        (span_kept Right (factor_of box Right) (across_of box Right) (up box.x_max) _ _
+        (span_kept Bottom (factor_of box Bottom) (across_of box Bottom) (along box.y_min) s t r)))
 
   -- ---- arcs
 

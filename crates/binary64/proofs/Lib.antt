@@ -10,5 +10,6 @@ pub mod Whole
 pub mod Functions
 pub mod Remainder
 mod Reducing
+pub mod Ranges
 pub mod Constants
 mod Examples

@@ -10,6 +10,7 @@ ghost use Rattle.binary64.specs.Functions.{absolute, signum_of, clamp_to_zero, l
 ghost use Rattle.binary64.specs.Functions.{rem_euclid, Reducible};
 
 // The sign bit: true for -0 too. A NaN has none, and gives false.
+// A function around the method, which asks its caller that x is a number.
 #[tactic(auto, using(crate::proofs::Functions::sign_is, crate::proofs::Functions::nan_sign))]
 pub fn is_sign_negative(x: f64) -> bool
     ensures { result ≡ negative x }
@@ -18,6 +19,7 @@ pub fn is_sign_negative(x: f64) -> bool
 }
 
 // |x|: the sign bit cleared. A NaN stays a NaN.
+// A function around the method, whose contract says `float_with_sign false x`: each caller would unfold it.
 #[tactic(auto, using(crate::proofs::Functions::absolute_is))]
 pub fn abs(x: f64) -> f64
     ensures { result ≡ absolute x }
@@ -83,6 +85,7 @@ fn exact_remainder(x: f64, m: f64) -> f64
         return x;
     }
     let rest = reduced(abs(x), by);
+    // Not `copysign`: its contract gives `float_with_sign`, as that of `abs`.
     if is_sign_negative(x) { -rest } else { rest }
 }
 

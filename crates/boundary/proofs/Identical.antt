@@ -24,6 +24,7 @@ use Rattle.binary64.proofs.Rounding.{plus_ge, minus_none}
 use Rattle.binary64.proofs.Units.{one_pos, is_of_units, lt_units, mag_digits, mag_limit, plus_is, zero_finite, zero_mag}
 use Rattle.binary64.proofs.Whole.{of_int_finite, of_int_pos, of_int_mag, of_int_sign, of_int_least, add_of_int, sub_of_int, square_of_int}
 use Rattle.geometry.specs.declared.circle.Circle.{Circle}
+use Rattle.geometry.specs.Point.{squared_distance}
 use Rattle.geometry.specs.Tolerances.{coincidence, coincidence_share}
 use Rattle.intersections.specs.Members.{Member, circles_of}
 use Rattle.boundary.specs.Identical.{whole_circle, unmet, LowerOwns}
@@ -136,7 +137,7 @@ module _ (x y : ℤ) (r : ℕ) (hx : nat_abs x ≤ 20000) (hy : nat_abs y ≤ 20
       some n u h = let g = mul-le-mul (mul-le-mul h h) (le_refl u) in omega (arith, g)
 
   value : implicit_value (probe c) c ≡ one64
-  unfolding implicit_value probe
+  unfolding implicit_value squared_distance probe
   value =
       ap₂ (λ (dx dy : Float). (dx *ᶠ dx +ᶠ dy *ᶠ dy) /ᶠ (of_int binary64 (pos r) *ᶠ of_int binary64 (pos r))) across upward
       ∙ ap (λ (z : Float). z /ᶠ (of_int binary64 (pos r) *ᶠ of_int binary64 (pos r))) squares

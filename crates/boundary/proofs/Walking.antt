@@ -2,7 +2,7 @@
 use mathlib.Core.Path.{◌≡◌, refl, sym, ap, ◌∙◌}
 use mathlib.Core.Bool.{Bool, true, false, cond}
 use mathlib.Core.List.{List, [], ◌∷◌, ◌++◌, map, append_assoc, append-nil, map-map}
-use Prim.Native.Nat.{ℕ, zero, suc, ◌+◌, ◌≤◌, ◌<◌, max}
+use Prim.Native.Nat.{ℕ, zero, suc, ◌+◌, ◌≤◌, ◌<◌}
 use native.Mathlib.Numerals.{add-one}
 use native.Mathlib.Omega.{arith}
 use borrow.Author.Tests.{eqb-true, eqb-false}
@@ -11,16 +11,13 @@ use lib.ListN.{length, get_or, drop, length-map, drop_of_length-le}
 use lib.Seq.{drop-cons}
 use lib.Ieee.{Float}
 use Rattle.lists.specs.Lists.{up_to, keep}
-use Rattle.geometry.specs.declared.circle.Circle.{Circle}
 use Rattle.intersections.specs.declared.members.HeadCircle.{HeadCircle}
 use Rattle.intersections.specs.declared.points.IntersectionPoint.{IntersectionPoint}
 use Rattle.intersections.specs.Members.{Member, circles_of, no_circle, points_for}
 use Rattle.intersections.specs.Heads.{circle_list, as_member, members_with}
 use Rattle.boundary.specs.declared.arcs.BoundaryArc.{BoundaryArc}
-use Rattle.boundary.specs.Gaps.{gap_arc}
 use Rattle.boundary.specs.Outline.{lets, owned_from, angle_about, arcs_at, angles_of, outline_from, outline}
 use Rattle.boundary.specs.Sort.{sorted, sort_onto_by, sorted_by}
-use Rattle.boundary.proofs.Gaps.{arcs_by_gaps}
 
 -- ---- the members one after another
 
@@ -92,39 +89,20 @@ outline_looked points S set = by (eqb (length set) 1) refl
         other (members_with points S set) (λ h. eqb-false _ 1 t (sym (length-map set (as_member points S)) ∙ h))
         ∙ ap (λ l. outline_from l 0 (members_with points S set)) (map-map (λ m. m.circle) (as_member points S) set)
 
--- ---- the two loops
+-- ---- the loop
 
 module _ (points : List IntersectionPoint) (S : ℕ) (set : List HeadCircle) where
   -- the arcs of the members before k
   abbrev pub before_member : ℕ → List BoundaryArc
   before_member k = up_to (arcs_of points S set) k
 
-  -- and those of the gaps before i of the member at k, whose circle and angles are given
-  abbrev pub before_gap : ℕ → Circle → List Float → ℕ → List BoundaryArc
-  before_gap k c phis i = before_member k ++ up_to (gap_arc (circle_list set) k c phis) i
+  pub no_member : before_member 0 ≡ []
+  unfolding up_to
+  no_member = refl
 
-  module _ (k : ℕ) (m : HeadCircle) (phis : List Float) where
-    abbrev c : Circle
-    c = m.circle
-
-    pub first_gap : before_gap k m.circle phis 0 ≡ before_member k
-    unfolding up_to
-    first_gap = append-nil (before_member k)
-
-    pub next_gap : (i : ℕ) (arcs : List BoundaryArc) → arcs ≡ gap_arc (circle_list set) k m.circle phis i → before_gap k m.circle phis i ++ arcs ≡ before_gap k m.circle phis (i + 1)
-    unfolding up_to
-    next_gap i arcs e =
-        append_assoc (before_member k) (up_to (gap_arc (circle_list set) k c phis) i) arcs
-        ∙ ap (λ t. before_member k ++ (up_to (gap_arc (circle_list set) k c phis) i ++ t)) e
-        ∙ ap (λ m. before_member k ++ up_to (gap_arc (circle_list set) k c phis) m) (sym (add-one i))
-
-    -- past the last gap the member at k is done
-    pub last_gap : get_or set k nobody ≡ m → phis ≡ sorted (map (angle_about m.circle) (points_for points S m.head))
-        → before_gap k m.circle phis (max 1 (length phis)) ≡ before_member (k + 1)
-    unfolding up_to
-    last_gap em ep =
-        ap (λ l. before_member k ++ l) (sym (arcs_by_gaps (circle_list set) k c phis) ∙ own)
-        ∙ ap (up_to (arcs_of points S set)) (sym (add-one k))
-      where
-        own : arcs_at (circle_list set) k c phis ≡ arcs_of points S set k
-        own = rw (ep, em) refl
+  -- with those of the member at k, whose angles are given
+  pub next_member : (k : ℕ) (m : HeadCircle) (phis : List Float) → get_or set k nobody ≡ m
+      → phis ≡ sorted (map (angle_about m.circle) (points_for points S m.head))
+      → before_member k ++ arcs_at (circle_list set) k m.circle phis ≡ before_member (k + 1)
+  unfolding up_to
+  next_member k m phis em ep = rw (add-one k, em, ep) refl

@@ -1,10 +1,10 @@
--- The arcs of one member of a set, gap by gap.
-use Rattle.std.specs.Prelude.{ℕ, cond, List, [], ltb, length, Float}
+-- The arc of one gap, between two angles.
+use Rattle.std.specs.Prelude.{ℕ, not, ◌&&◌, cond, List, [], ◌∷◌, Float}
 use Rattle.geometry.specs.declared.circle.Circle.{Circle}
 use Rattle.boundary.specs.declared.arcs.BoundaryArc.{BoundaryArc}
-use Rattle.boundary.specs.Outline.{arc_from, arcs_at}
+use Rattle.boundary.specs.Outline.{gap, collapsed, midpoint, owned_from, owned, between}
 
--- The arc in the gap after the i-th angle of the member at k, if it has one; where there is no such angle, the gap is the whole circle.
-unfoldable pub gap_arc : List Circle → ℕ → Circle → List Float → ℕ → List BoundaryArc
-unfolding arc_from arcs_at
-gap_arc cs k c phis i = cond (ltb i (length phis)) (arc_from cs k c phis i) (arcs_at cs k c [])
+-- The arc of the member at k from one angle to the next: none, where the gap is collapsed or its midpoint is not k's own.
+unfoldable pub arc_between : List Circle → ℕ → Circle → Float → Float → List BoundaryArc
+unfolding gap collapsed midpoint owned_from between
+arc_between cs k c a b = cond (not (collapsed (gap a b)) && owned k (midpoint c a b) cs) (between k c a (gap a b) ∷ []) []

@@ -1,6 +1,6 @@
 -- The outline of a set: the arcs that go round what its heads water together. A set is the list of its members; an arc
 -- names its member by the position in that list.
-use Rattle.std.specs.Prelude.{ℕ, suc, ◌+◌, ◌%◌, Bool, true, not, ◌&&◌, ◌||◌, cond, List, [], ◌∷◌, ◌++◌, map, eqb, ltb, length, get_or, Float}
+use Rattle.std.specs.Prelude.{ℕ, suc, ◌+◌, ◌%◌, Bool, true, not, ◌&&◌, ◌||◌, cond, List, [], ◌∷◌, ◌++◌, map, eqb, ltb, length, get_or, Float, Option, Some, None}
 use Rattle.std.specs.Float.{nan}
 use Rattle.elementary.specs.Sine.{sine as sin, cosine as cos}
 use Rattle.elementary.specs.Arctangent.{atan2}
@@ -10,7 +10,7 @@ use Rattle.intersections.specs.Members.{Member, circles_of}
 use Rattle.boundary.specs.declared.arcs.BoundaryArc.{BoundaryArc}
 use Rattle.binary64.specs.Constants.{zero64, half64, one64, two64, pi, two_pi}
 use Rattle.binary64.specs.Functions.{absolute, larger_of, rem_euclid}
-use Rattle.geometry.specs.Point.{at}
+use Rattle.geometry.specs.Point.{at, squared_distance}
 use Rattle.binary64.specs.Floats.{◌+ᶠ◌, ◌-ᶠ◌, ◌*ᶠ◌, ◌/ᶠ◌, ◌<ᶠ◌, ◌≤ᶠ◌}
 use Rattle.geometry.specs.Tolerances.{arc_eps, coincidence, coincidence_share}
 use Rattle.lists.specs.Lists.{up_to}
@@ -20,10 +20,8 @@ use Rattle.boundary.specs.Sort.{sorted, sorted_by}
 
 -- The implicit form of a circle at a point: below 1 inside, 1 on the edge, above 1 outside.
 unfoldable pub implicit_value : Point → Circle → Float
-implicit_value p c =
-    let dx = p.x -ᶠ c.center.x in
-    let dy = p.y -ᶠ c.center.y in
-    (dx *ᶠ dx +ᶠ dy *ᶠ dy) /ᶠ (c.radius *ᶠ c.radius)
+unfolding squared_distance
+implicit_value p c = squared_distance p c.center /ᶠ (c.radius *ᶠ c.radius)
 
 -- How far from 1 the implicit form counts as 1: twice the distance 1e-7 over the radius, and at least 1e-12.
 unfoldable pub tolerance : Circle → Float
@@ -73,6 +71,16 @@ gap a b = let delta = b -ᶠ a in cond (delta ≤ᶠ zero64) (delta +ᶠ two_pi)
 -- A gap of nothing or of a full turn, within 1e-9, is skipped.
 unfoldable pub collapsed : Float → Bool
 collapsed delta = (delta <ᶠ arc_eps) || (two_pi -ᶠ arc_eps <ᶠ delta)
+
+-- the midpoint of the gap from a to b of a circle
+unfoldable pub midpoint : Circle → Float → Float → Point
+unfolding gap point_at
+midpoint c a b = point_at c (a +ᶠ gap a b *ᶠ half64)
+
+-- the same of a gap that is not collapsed
+unfoldable pub gap_midpoint : Circle → Float → Float → Option Point
+unfolding gap collapsed midpoint
+gap_midpoint c a b = cond (collapsed (gap a b)) None (Some (midpoint c a b))
 
 -- ---- arcs
 

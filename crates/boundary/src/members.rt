@@ -7,18 +7,17 @@ ghost use Rattle.boundary.specs.Sort.{sorted};
 
 use crate::angles::angle_about;
 use crate::sort::{Angles, insert};
-use geometry::circle::Circle;
-use intersections::members::counted_for;
+use intersections::members::{HeadCircle, counted_for};
 use intersections::points::IntersectionPoint;
 
-// The angles about a circle's centre of the points counted for a set at head j, sorted.
-pub fn angles_for(mask: usize, j: usize, circle: Circle, points: &[IntersectionPoint]) -> Angles
-    ensures { result.items ≡ sorted (map (angle_about circle) (points_for points.now mask j)) }
+// The angles about a member's centre of the points counted for the set there, sorted.
+pub fn angles_for(mask: usize, member: HeadCircle, points: &[IntersectionPoint]) -> Angles
+    ensures { result.items ≡ sorted (map (angle_about member.circle) (points_for points.now mask member.head)) }
 {
     let mut list = Angles::new();
     for q in points {
-        if counted_for(mask, j, *q) {
-            insert(&mut list, angle_about(circle, q.point));
+        if counted_for(mask, member.head, *q) {
+            insert(&mut list, angle_about(member.circle, q.point));
         }
     }
     list

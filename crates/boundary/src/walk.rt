@@ -5,8 +5,8 @@ ghost use Rattle.boundary.specs.Outline.{outline, outline_from};
 ghost use Rattle.intersections.specs.Heads.{circle_list, members_with};
 
 use crate::arcs::Outline;
-use crate::candidates::{arc_from, gaps};
 use crate::members::angles_for;
+use crate::ownership::MemberOf;
 use intersections::members::Members;
 use intersections::points::IntersectionPoint;
 
@@ -18,23 +18,26 @@ fn looked_at<'a>(set: &Members, points: &'a [IntersectionPoint]) -> &'a [Interse
 }
 
 // The arcs of the members one after another, each with the position of its member.
+// Mask and set are two parameters: nothing here needs that they belong together, and a struct would have to say it.
 fn walk(mask: usize, set: &Members, points: &[IntersectionPoint]) -> Outline
     ensures { result.items ≡ outline_from (circle_list set.now.items) 0 (members_with points.now mask set.now.items) }
 {
     let mut all = Outline::new();
     for (k, member) in set.iter().enumerate() {
-        let angles = angles_for(mask, member.head, member.circle, points);
-        for i in 0..gaps(&angles) {
-            if let Some(arc) = arc_from(k, member.circle, &angles, i, set) {
-                all.push(arc);
-            }
-        }
+        let angles = angles_for(mask, *member, points);
+        let member = MemberOf {
+            set,
+            k,
+            circle: member.circle,
+        };
+        member.push_arcs(&angles, &mut all);
     }
     all
 }
 
 // The arcs of a set's outline in order, each with the position of its member. There is room for all, whatever the
-// points are.
+// points are. Mask and set are two parameters, as in `walk`.
+#[tactic(auto, using(crate::proofs::Walking::outline_looked))]
 pub fn outline_of(mask: usize, set: &Members, points: &[IntersectionPoint]) -> Outline
     ensures { result.items ≡ outline (members_with points.now mask set.now.items) }
 {

@@ -21,11 +21,12 @@ use std::{array, io};
 // The bytes of a call in memory, after the one that says what it is.
 const CALL: usize = 155;
 
-// Byte i, and 0 past the end.
+// Byte i, and 0 past the end. Numbers are read by their place: a call has a fixed form, and what a cut list lacks is 0.
 fn byte_at(s: &[u8], i: usize) -> u8 {
     s.get(i).copied().unwrap_or(0)
 }
 
+// The number of two bytes at i. The bound is any from which i + 1 does not wrap.
 fn short_at(s: &[u8], i: usize) -> usize
     requires { i < 1000000 }
     ensures { result < 65536 }
@@ -33,6 +34,7 @@ fn short_at(s: &[u8], i: usize) -> usize
     usize::from(u16::from_le_bytes([byte_at(s, i), byte_at(s, i + 1)]))
 }
 
+// The number of four bytes at i. The bound is any from which i + 3 does not wrap.
 fn int_at(s: &[u8], i: usize) -> i32
     requires { i < 1000000 }
 {
@@ -46,11 +48,13 @@ fn int_at(s: &[u8], i: usize) -> i32
 
 // A space and the bits, in hexadecimal with no zero in front.
 fn print_int<W: Write>(out: &mut W, z: i32) -> io::Result<()>
-    ensures { OnOk result (Appends (W.contents out.old) (W.contents out.new) (32 ∷ digits 16 false (cast_unsigned w32 z))) }
+    ensures { let said = 32 ∷ digits 16 false (cast_unsigned w32 z) in
+        OnOk result (Appends (W.contents out.old) (W.contents out.new) said) }
 {
     write!(out, " {z:x}")
 }
 
+// Each number as `print_int` has it.
 fn print_ints<W: Write>(out: &mut W, numbers: &[i32]) -> io::Result<()> {
     for z in numbers {
         print_int(out, *z)?;
@@ -74,12 +78,14 @@ fn print_plan<W: Write>(out: &mut W, plan: Plan) -> io::Result<()> {
     out.write_all(b"\n")
 }
 
+// An edit in one line: the head's number, then its x, y and radius.
 fn print_edit<W: Write>(out: &mut W, edit: Edit) -> io::Result<()> {
     write!(out, "edit {}", edit.head)?;
     print_ints(out, &[edit.x, edit.y, edit.radius])?;
     out.write_all(b"\n")
 }
 
+// Taken, or refused with number and offset.
 fn print_answer<W: Write>(out: &mut W, answer: Answer) -> io::Result<()> {
     match answer {
         Ok(()) => writeln!(out, "taken"),
@@ -109,12 +115,12 @@ fn run_file<W: Write>(out: &mut W, s: &[u8]) -> io::Result<()> {
     if answer.is_ok() {
         print_plan(out, r.plan)?;
     }
-    let half = s.len() / 2;
-    let first = reader::feed(reader::start(), &s[..half]);
-    let whole = reader::feed(first, &s[half..]);
+    let (first, second) = s.split_at(s.len() / 2);
+    let whole = reader::feed(reader::feed(reader::start(), first), second);
     print_answer(out, reader::finish(whole))
 }
 
+// The ten heads of a call, whose bytes begin after those of n, the edit's head number and the box.
 fn heads_at(s: &[u8]) -> [Head; 10] {
     array::from_fn(|i| {
         let at = 18 + 12 * i;
@@ -167,31 +173,32 @@ fn run_call<W: Write>(out: &mut W, s: &[u8]) -> io::Result<()> {
     print_plan(out, booked.plan)
 }
 
-// One trial from the front of s; how many bytes it has.
-fn trial<W: Write>(out: &mut W, s: &[u8]) -> io::Result<usize>
+// One trial from the front of s; gives what follows it, which is nothing where the list ends within the trial.
+fn trial<'a, W: Write>(out: &mut W, s: &'a [u8]) -> io::Result<&'a [u8]>
     requires { 0 < length s.now }
-    ensures { IfOk result (λ n. (0 < n) × (n ≤ length s.now)) }
+    ensures { IfOk result (λ rest. length rest.now < length s.now) }
 {
     let end = if s[0] == 0 {
         3 + short_at(s, 1)
     } else {
         1 + CALL
     };
-    if s.len() < end {
-        return Ok(s.len());
+    let Some((bytes, rest)) = s.split_at_checked(end) else {
+        return Ok(&[]);
+    };
+    // The kind is asked again: between, it was seen that the list holds all of the trial.
+    match bytes[0] {
+        0 => run_file(out, &bytes[3..])?,
+        _ => run_call(out, &bytes[1..])?,
     }
-    match s[0] {
-        0 => run_file(out, &s[3..end])?,
-        _ => run_call(out, &s[1..end])?,
-    }
-    Ok(end)
+    Ok(rest)
 }
 
-// A trial says how long it is, so the index goes on by that.
+// All trials of a list. Each says how long it is, so that no chunks of one length give them.
 fn run<W: Write>(out: &mut W, s: &[u8]) -> io::Result<()> {
-    let mut at: usize = 0;
-    while at < s.len() {
-        at += trial(out, &s[at..])?;
+    let mut rest = s;
+    while !rest.is_empty() {
+        rest = trial(out, rest)?;
     }
     Ok(())
 }

@@ -1,44 +1,56 @@
--- What `fill_chords` writes, place by place, and what it gives for each head that is needed.
-use Rattle.std.proofs.Common.{◌≡◌, refl, ap, ◌∙◌, ℕ, zero, suc, ◌/◌, ◌%◌, ◌^◌, ◌<◌, arith, true, List, [], ◌∷◌, length}
-use Rattle.std.proofs.Common.{get_or, lt-ltb}
+-- What `fill_chords` gives, edge by edge and head by head.
+use Rattle.std.proofs.Common.{◌≡◌, refl, ap, ◌∙◌, ℕ, ◌+◌, add-one, List, [], ◌∷◌, ◌++◌, map, length, get_or}
 use Rattle.lists.specs.Written.{tab}
-use Rattle.lists.proofs.Writing.{get_d_tab, written_none, write_next, written_whole}
-use Rattle.masks.specs.Mask.{in_set}
+use Rattle.lists.proofs.Writing.{length_tab, get_d_tab}
 use Rattle.geometry.specs.declared.bounds.Bounds.{Bounds}
 use Rattle.geometry.specs.declared.circle.Circle.{Circle}
-use Rattle.intersections.specs.Members.{circle_at}
-use Rattle.intersections.proofs.Masks.{head_below}
-use Rattle.chords.specs.declared.fill.Chord.{Chord}
+use Rattle.inside.specs.declared.edges.BoxEdge.{BoxEdge}
+use Rattle.inside.specs.declared.edges.BoxEdge.TheVariants.{Bottom, Right, Top, Left}
+use Rattle.intersections.proofs.Adopting.{gathered}
+use Rattle.inside.specs.Edges.{box_edges, edge_number}
 use Rattle.chords.specs.declared.fill.Chords.{Chords}
-use Rattle.chords.specs.declared.edges.BoxEdge.TheVariants.{Bottom, Right, Top, Left}
-use Rattle.chords.specs.Chords.{edge_number, reach_of, chord_of, chord_at, no_chord, Chorded}
+use Rattle.chords.specs.Chords.{Held, held_of, none_held, chord_at, no_chord, chords_of}
+use Rattle.chords.specs.Chords.{edge_held, Chorded}
 use Rattle.chords.proofs.Heads.{shift_in, shift_out}
 
--- the edge at a place is the one of that number
-pub edge_at : (e : ℕ) → e < 4 → edge_number (get_or (Bottom ∷ Right ∷ Top ∷ Left ∷ []) e Bottom) ≡ e
-edge_at zero h = refl
-edge_at (suc zero) h = refl
-edge_at (suc (suc zero)) h = refl
-edge_at (suc (suc (suc zero))) h = refl
-edge_at (suc (suc (suc (suc e)))) h = absurd (omega arith)
+-- no head, and one head more
+module _ {A : Type 0} (f : ℕ → A) where
+  pub tab_none : tab f 0 ≡ []
+  unfolding tab
+  tab_none = refl
 
--- for one place, and for all
-pub ruleset places = (edge_at, shift_in, shift_out)
+  pub tab_next : (m : ℕ) → tab f (m + 1) ≡ tab f m ++ f m ∷ []
+  unfolding tab
+  tab_next m = rw (add-one m)
 
-pub ruleset filled = (edge_at, written_none, write_next, written_whole)
+pub ruleset heads_in_turn =
+    (tab_none, tab_next, length_tab, shift_in, shift_out, gathered)
 
--- the heads that are needed have circles
-pub filled_chorded : (box : Bounds) (circles : List Circle) (needed : ℕ) → needed < 2 ^ length circles
-    → (chords : Chords) → chords.reach ≡ tab (reach_of box circles) 4
-    → chords.ends ≡ tab (chord_at box circles needed) 40 → Chorded box circles needed chords
-unfolding chord_at
-filled_chorded box circles needed below chords reach ends =
+-- what stands at an edge's place
+edge_of : {A : Type 0} (f : BoxEdge → A) (d : A) (edge : BoxEdge)
+    → get_or (map f box_edges) (edge_number edge) d ≡ f edge
+edge_of f d Bottom = refl
+edge_of f d Right = refl
+edge_of f d Top = refl
+edge_of f d Left = refl
+
+-- the heads that are needed have their chords
+pub filled_chorded : (box : Bounds) (circles : List Circle) (needed : ℕ) (chords : Chords)
+    → map held_of chords.edges ≡ map (chords_of box circles needed) box_edges → Chorded box circles needed chords
+unfolding chords_of
+filled_chorded box circles needed chords filled =
     record {
-      reaches = λ e h. ap (λ l. get_or l e 0) reach ∙ get_d_tab (reach_of box circles) 4 e 0 h;
-      ends = λ p h i. ap (λ (l : List Chord). get_or l p no_chord) ends
-          ∙ get_d_tab (chord_at box circles needed) 40 p no_chord h ∙ here p i;
+      starts = λ edge. ap (λ h. h.from) (held edge);
+      stops = λ edge. ap (λ h. h.to) (held edge);
+      reaches = λ edge. ap (λ h. h.reach) (held edge);
+      count = λ edge. ap (λ h. length h.chords) (held edge)
+          ∙ length_tab (chord_at box circles needed edge) (length circles);
+      ends = λ edge l h i. ap (λ k. get_or k.chords l no_chord) (held edge)
+          ∙ get_d_tab (chord_at box circles needed edge) (length circles) l no_chord h
+          ∙ rw i;
     }
   where
-    here : (p : ℕ) → in_set needed (p % 10) ≡ true
-        → chord_at box circles needed p ≡ chord_of box (circle_at circles (p % 10)) (p / 10)
-    here p i = rw (i, lt-ltb _ _ (head_below needed (length circles) (p % 10) below i))
+    held : (edge : BoxEdge) → edge_held chords edge ≡ chords_of box circles needed edge
+    held edge =
+        ap (λ (l : List Held). get_or l (edge_number edge) none_held) filled
+        ∙ edge_of (chords_of box circles needed) none_held edge

@@ -1,7 +1,8 @@
 -- The span of an edge for a set, from the chords of its heads.
-use Rattle.std.proofs.Common.{◌≡◌, refl, sym, ap, ◌∙◌, ℕ, zero, suc, ◌+◌, ◌*◌, ◌/◌, ◌%◌, ◌<◌, ◌≤◌, ◌^◌, arith, add-one}
+use Rattle.std.proofs.Common.{◌≡◌, refl, sym, ap, ◌∙◌, ℕ, zero, suc, ◌+◌, ◌<◌, ◌≤◌, ◌^◌, arith, add-one}
 use Rattle.std.proofs.Common.{Bool, true, false, not, ◌&&◌, ◌||◌, cond, List, [], ◌∷◌, ◌++◌, map, length, get_or, Float}
-use Rattle.std.proofs.Common.{bit_and, pow_mono, lt_of_lt_of_le, eq-eqb, ne_eqb}
+use Rattle.std.proofs.Common.{pow_mono, lt_of_lt_of_le}
+use Rattle.std.proofs.lemmas.List.{get_or-map}
 use Rattle.std.proofs.Math.Bool.{and-true, or-false}
 use mathlib.Core.List.{map-append, map-map, foldl, foldl-append}
 use Rattle.masks.specs.Mask.{in_set, every, subset, Subset}
@@ -13,12 +14,16 @@ use Rattle.geometry.specs.declared.circle.Circle.{Circle}
 use Rattle.lists.specs.Lists.{up_to}
 use Rattle.intersections.specs.Members.{heads_of, circle_at}
 use Rattle.intersections.proofs.Masks.{every_cong}
+use Rattle.inside.specs.declared.edges.BoxEdge.{BoxEdge}
+use Rattle.inside.specs.declared.edges.BoxEdge.TheVariants.{Bottom, Right, Top, Left}
+use Rattle.inside.specs.Edges.{edge_number, is_upright, line_of, from_of, to_of, edge_span}
 use Rattle.inside.specs.Span.{misses, missed, half_chord, raised, lowered, low_end, high_end, open-between}
 use Rattle.inside.specs.Span.{horizontal_span, vertical_span, seen}
-use Rattle.inside.proofs.Spanning.{seen_level, seen_upright}
+use Rattle.inside.proofs.Spanning.{as_seen}
+use Rattle.chords.specs.declared.fill.EdgeChords.{EdgeChords}
 use Rattle.chords.specs.declared.fill.Chords.{Chords}
-use Rattle.chords.specs.Chords.{upright_edge, line_of, reach_of, chord_of, no_chord, Chorded}
-use Rattle.chords.specs.Chords.{end_to, span_from, lows_of, highs_of, edge_from}
+use Rattle.chords.specs.Chords.{chord_from, Chorded}
+use Rattle.chords.specs.Chords.{held_of, none_held, end_to, span_from, lows_of, highs_of, edge_held, edge_from}
 use Rattle.chords.proofs.Heads.{heads_with, heads_without, shift_in, shift_out}
 
 -- ---- the heads of a set one after another
@@ -92,7 +97,7 @@ module _ (circ : ℕ → Circle) (S : ℕ) where
         by true e r = rw (next n e, foldl-append (λ x c. move x (at c)) x (own n) (circ n ∷ []), r, h n (omega arith) e)
         by false e r = rw (skip n e) r
 
--- ---- the span of an edge, from what the arrays hold
+-- ---- the span of an edge, from what is held
 
 module _ (box : Bounds) (circles : List Circle) (S : ℕ) (chords : Chords)
     (few : length circles ≤ 10) (below : S < 2 ^ length circles) (held : Chorded box circles S chords) where
@@ -102,66 +107,59 @@ module _ (box : Bounds) (circles : List Circle) (S : ℕ) (chords : Chords)
   abbrev heads : List Circle
   heads = map (circle_at circles) (heads_of (length circles) S)
 
-  module _ (e : ℕ) (edge : e < 4) (from to : Float) where
+  module _ (edge : BoxEdge) where
     abbrev y : Float
-    y = line_of box e
+    y = line_of box edge
 
     abbrev circ : ℕ → Circle
-    circ l = seen (upright_edge e) (circle_at circles l)
+    circ l = seen (is_upright edge) (circle_at circles l)
 
-    reach_is : not (missed y (own circ S n)) ≡ subset 64 S (get_or chords.reach e 0)
-    unfolding reach_of
+    reach_is : not (missed y (own circ S n)) ≡ subset 64 S (edge_held chords edge).reach
     reach_is =
         let wide = lt_of_lt_of_le below (pow_mono {i = n} {j = 64} (omega (arith, few))) in
         reached_heads circ S y n
         ∙ every_cong n _ _ (λ i k.
         ap (λ b. not (in_set S i) || b) (sym (in_gather n (λ l. not (misses y (circ l))) i k)))
-        ∙ rw (← held.reaches e edge) (sym (and_test n S _ below) ∙ and_test 64 S _ wide)
-
-    chord_is : (l : ℕ) → l < n → in_set S l ≡ true
-        → get_or chords.ends (e * 10 + l) no_chord ≡ chord_of box (circle_at circles l) e
-    chord_is l h i =
-        let q : (e * 10 + l) / 10 ≡ e = omega (arith, few) in
-        let r : (e * 10 + l) % 10 ≡ l = omega (arith, few) in
-        rw (q, r) at (held.ends (e * 10 + l) (omega (arith, few)) (rw r i))
+        ∙ rw (← held.reaches edge) (sym (and_test n S _ below) ∙ and_test 64 S _ wide)
 
     chosen : {A : Type 0} (m : Bool) (a b : A) → cond m a b ≡ cond (not m) b a
     chosen true a b = refl
     chosen false a b = refl
 
     -- as the edge sees the circles of the set
-    span_is : edge_from n chords S e from to ≡ horizontal_span y from to (map (seen (upright_edge e)) heads)
-    unfolding horizontal_span span_from chord_of
+    span_is : edge_from chords S edge
+        ≡ horizontal_span y (from_of box edge) (to_of box edge) (map (seen (is_upright edge)) heads)
+    unfolding horizontal_span span_from chord_from
     span_is =
         let cs = own circ S n in
-        sym (rw (map-map (seen (upright_edge e)) (circle_at circles) (heads_of n S)) (chosen (missed y cs) [] _ ∙ rw (
+        let lo = from_of box edge in
+        let hi = to_of box edge in
+        let h = edge_held chords edge in
+        rw (held.count edge, held.starts edge, held.stops edge)
+        (sym (rw (map-map (seen (is_upright edge)) (circle_at circles) (heads_of n S)) (chosen (missed y cs) [] _ ∙ rw (
           reach_is,
-          low_folded y from cs,
-          high_folded y to cs,
-          end_heads circ S raised (low y) (lows_of chords e) from n (λ l h i. ap (λ c. c.low) (chord_is l h i)),
-          end_heads circ S lowered (high y) (highs_of chords e) to n (λ l h i. ap (λ c. c.high) (chord_is l h i)),
-        )))
+          low_folded y lo cs,
+          high_folded y hi cs,
+          end_heads circ S raised (low y) (lows_of h) lo n (λ l k i. ap (λ c. c.low) (held.ends edge l k i)),
+          end_heads circ S lowered (high y) (highs_of h) hi n (λ l k i. ap (λ c. c.high) (held.ends edge l k i)),
+        ))))
+
+    -- it is the span of the plain form
+    pub edge_is : edge_from chords S edge ≡ edge_span box edge heads
+    edge_is = span_is ∙ as_seen box edge heads
 
   -- the four edges
-  pub bottom : edge_from n chords S 0 box.x_min box.x_max ≡ horizontal_span box.y_min box.x_min box.x_max heads
-  unfolding upright_edge line_of
-  bottom =
-      span_is 0 (omega arith) box.x_min box.x_max
-      ∙ ap (horizontal_span box.y_min box.x_min box.x_max) (seen_level heads)
+  pub bottom : edge_from chords S Bottom ≡ horizontal_span box.y_min box.x_min box.x_max heads
+  bottom = edge_is Bottom
 
-  pub right : edge_from n chords S 1 box.y_min box.y_max ≡ vertical_span box.x_max box.y_min box.y_max heads
-  unfolding upright_edge line_of
-  right = span_is 1 (omega arith) box.y_min box.y_max ∙ seen_upright box.x_max box.y_min box.y_max heads
+  pub right : edge_from chords S Right ≡ vertical_span box.x_max box.y_min box.y_max heads
+  right = edge_is Right
 
-  pub top : edge_from n chords S 2 box.x_min box.x_max ≡ horizontal_span box.y_max box.x_min box.x_max heads
-  unfolding upright_edge line_of
-  top =
-      span_is 2 (omega arith) box.x_min box.x_max
-      ∙ ap (horizontal_span box.y_max box.x_min box.x_max) (seen_level heads)
+  pub top : edge_from chords S Top ≡ horizontal_span box.y_max box.x_min box.x_max heads
+  top = edge_is Top
 
-  pub left : edge_from n chords S 3 box.y_min box.y_max ≡ vertical_span box.x_min box.y_min box.y_max heads
-  unfolding upright_edge line_of
-  left = span_is 3 (omega arith) box.y_min box.y_max ∙ seen_upright box.x_min box.y_min box.y_max heads
+  pub left : edge_from chords S Left ≡ vertical_span box.x_min box.y_min box.y_max heads
+  left = edge_is Left
 
 -- ---- for the loop over the heads
 
@@ -180,15 +178,15 @@ module _ (move : Float → Float → Float) (ends : ℕ → Float) (S : ℕ) (x 
     ends_out e = rw (add-one l, e)
 
 -- the span
-module _ (n reach : ℕ) (low high : ℕ → Float) (S : ℕ) (from to : Float) (fits : S < 2 ^ 64) where
-  pub span_open : bit_and S reach ≡ S
+module _ (n reach : ℕ) (low high : ℕ → Float) (S : ℕ) (from to : Float) where
+  pub span_open : subset 64 S reach ≡ true
       → span_from n reach low high S from to ≡ open-between (end_to raised low S from n) (end_to lowered high S to n)
   unfolding span_from
-  span_open all = rw (sym (and_test 64 S reach fits) ∙ eq-eqb (bit_and S reach) S all)
+  span_open all = rw all
 
-  pub span_missed : (bit_and S reach ≡ S → ⊥) → span_from n reach low high S from to ≡ []
+  pub span_missed : subset 64 S reach ≡ false → span_from n reach low high S from to ≡ []
   unfolding span_from
-  span_missed e = rw (sym (and_test 64 S reach fits) ∙ ne_eqb (bit_and S reach) S e)
+  span_missed e = rw e
 
 pub ruleset heads_in_turn = (ends_start, ends_in, ends_out, span_open, span_missed, shift_in, shift_out)
 
@@ -196,4 +194,23 @@ pub ruleset heads_in_turn = (ends_start, ends_in, ends_out, span_open, span_miss
 pub chorded_less : {box : Bounds} {circles : List Circle} {needed : ℕ} {chords : Chords} (S : ℕ) → Subset S needed
     → Chorded box circles needed chords → Chorded box circles S chords
 chorded_less {needed = needed} S within held =
-    record { reaches = held.reaches; ends = λ p h i. held.ends p h (subset_head S needed within (p % 10) i) }
+    record {
+      starts = held.starts;
+      stops = held.stops;
+      reaches = held.reaches;
+      count = held.count;
+      ends = λ edge l h i. held.ends edge l h (subset_head S needed within l i);
+    }
+
+-- ---- for the edge that is read
+
+edge_below : (edge : BoxEdge) → edge_number edge < 4
+edge_below Bottom = omega arith
+edge_below Right = omega arith
+edge_below Top = omega arith
+edge_below Left = omega arith
+
+pub edge_in_place : (chords : Chords) (edge : BoxEdge) (d : EdgeChords) → length chords.edges ≡ 4
+    → edge_held chords edge ≡ held_of (get_or chords.edges (edge_number edge) d)
+edge_in_place chords edge d four =
+    get_or-map held_of chords.edges (edge_number edge) d none_held (omega (arith, four, edge_below edge))

@@ -1,56 +1,59 @@
 -- The spans of the box's edges for a set, from the chords that each head cuts from each edge.
-use Rattle.std.specs.Prelude.{ℕ, zero, suc, ◌+◌, ◌*◌, ◌/◌, ◌%◌, ◌<◌, Bool, true, not, ◌&&◌, cond, ◌≡◌, List, []}
-use Rattle.std.specs.Prelude.{eqb, ltb, length, get_or, Float}
+use Rattle.std.specs.Prelude.{ℕ, zero, suc, ◌<◌, true, not, cond, ◌≡◌, List, [], map, length, get_or, Float}
 use Rattle.std.specs.Float.{nan}
+use Rattle.lists.specs.Written.{tab}
 use Rattle.masks.specs.Mask.{in_set, subset, gather}
 use Rattle.binary64.specs.Constants.{zero64}
 use Rattle.binary64.specs.Floats.{◌+ᶠ◌, ◌-ᶠ◌}
 use Rattle.geometry.specs.declared.bounds.Bounds.{Bounds}
 use Rattle.geometry.specs.declared.circle.Circle.{Circle}
 use Rattle.intersections.specs.Members.{circle_at}
-use Rattle.chords.specs.declared.edges.BoxEdge.{BoxEdge}
-use Rattle.chords.specs.declared.edges.BoxEdge.TheVariants.{Bottom, Right, Top, Left}
-use Rattle.chords.specs.declared.fill.Chord.{Chord}
-use Rattle.chords.specs.declared.fill.Chords.{Chords}
+use Rattle.inside.specs.declared.edges.BoxEdge.{BoxEdge}
+use Rattle.inside.specs.Edges.{edge_number, is_upright, line_of, from_of, to_of}
 use Rattle.inside.specs.Span.{Interval, misses, half_chord, raised, lowered, open-between, seen}
+use Rattle.chords.specs.declared.fill.Chord.{Chord}
+use Rattle.chords.specs.declared.fill.EdgeChords.{EdgeChords}
+use Rattle.chords.specs.declared.fill.Chords.{Chords}
 
--- the number of an edge, counterclockwise from the bottom
-abbrev pub edge_number : BoxEdge → ℕ
-edge_number Bottom = 0
-edge_number Right = 1
-edge_number Top = 2
-edge_number Left = 3
+-- the heads that reach an edge
+abbrev pub reach_of : Bounds → List Circle → BoxEdge → ℕ
+reach_of box circles edge =
+    gather (length circles) (λ l. not (misses (line_of box edge) (seen (is_upright edge) (circle_at circles l))))
 
--- the vertical edges
-unfoldable pub upright_edge : ℕ → Bool
-upright_edge e = eqb (e % 2) 1
+-- the chord that a circle, as an edge sees it, cuts from the edge's line
+unfoldable pub chord_from : Float → Circle → Chord
+unfolding half_chord
+chord_from at c = let half = half_chord at c in record { low = c.center.x -ᶠ half; high = c.center.x +ᶠ half }
 
--- the x of a vertical edge, the y of a horizontal one
-unfoldable pub line_of : Bounds → ℕ → Float
-line_of box e = cond (eqb e 0) box.y_min (cond (eqb e 1) box.x_max (cond (eqb e 2) box.y_max box.x_min))
+-- the chord that a circle cuts from an edge
+abbrev pub chord_of : Bounds → Circle → BoxEdge → Chord
+chord_of box circle edge = chord_from (line_of box edge) (seen (is_upright edge) circle)
 
--- the heads that reach edge e
-unfoldable pub reach_of : Bounds → List Circle → ℕ → ℕ
-unfolding gather misses seen upright_edge line_of
-reach_of box circles e =
-    gather (length circles) (λ l. not (misses (line_of box e) (seen (upright_edge e) (circle_at circles l))))
+-- the chord of a head with an edge, if the head is needed, else 0 for both ends
+abbrev pub chord_at : Bounds → List Circle → ℕ → BoxEdge → ℕ → Chord
+chord_at box circles needed edge l =
+    cond (in_set needed l) (chord_of box (circle_at circles l) edge) (record { low = zero64; high = zero64 })
 
--- the chord that a circle cuts from edge e
-unfoldable pub chord_of : Bounds → Circle → ℕ → Chord
-unfolding half_chord seen upright_edge line_of
-chord_of box circle e =
-    let c = seen (upright_edge e) circle in
-    let half = half_chord (line_of box e) c in
-    record { low = c.center.x -ᶠ half; high = c.center.x +ᶠ half }
+-- what is held of an edge: its ends, the heads that reach it and a chord for each head
+pub record Held : Type 0 where
+  pub from : Float
+  pub to : Float
+  pub reach : ℕ
+  pub chords : List Chord
 
--- place p, of ten an edge: the chord of head p % 10 with edge p / 10 if the head is needed and has a circle, else 0 for
--- both ends
-unfoldable pub chord_at : Bounds → List Circle → ℕ → ℕ → Chord
-unfolding chord_of
-chord_at box circles needed p =
-    let l = p % 10 in
-    cond (in_set needed l && ltb l (length circles)) (chord_of box (circle_at circles l) (p / 10))
-    (record { low = zero64; high = zero64 })
+abbrev pub held_of : EdgeChords → Held
+held_of e = record { from = e.from; to = e.to; reach = e.reach; chords = e.chords.items }
+
+-- what an edge is to hold for the heads of `needed`
+unfoldable pub chords_of : Bounds → List Circle → ℕ → BoxEdge → Held
+unfolding gather misses seen chord_from tab
+chords_of box circles needed edge =
+    record {
+      from = from_of box edge;
+      to = to_of box edge;
+      reach = reach_of box circles edge;
+      chords = tab (chord_at box circles needed edge) (length circles);
+    }
 
 -- ---- the spans for a set
 
@@ -76,19 +79,33 @@ span_from n reach low high S from to =
 abbrev pub no_chord : Chord
 no_chord = record { low = nan; high = nan }
 
--- the ends of the chords with edge e, ten places an edge
-abbrev pub lows_of : Chords → ℕ → ℕ → Float
-lows_of chords e l = (get_or chords.ends (e * 10 + l) no_chord).low
+abbrev pub none_held : Held
+none_held = record { from = nan; to = nan; reach = 0; chords = [] }
 
-abbrev pub highs_of : Chords → ℕ → ℕ → Float
-highs_of chords e l = (get_or chords.ends (e * 10 + l) no_chord).high
+-- the ends of the chords with an edge
+abbrev pub lows_of : Held → ℕ → Float
+lows_of h l = (get_or h.chords l no_chord).low
 
--- of edge e, from what is held of the chords
-abbrev pub edge_from : ℕ → Chords → ℕ → ℕ → Float → Float → List Interval
-edge_from n chords S e = span_from n (get_or chords.reach e 0) (lows_of chords e) (highs_of chords e) S
+abbrev pub highs_of : Held → ℕ → Float
+highs_of h l = (get_or h.chords l no_chord).high
 
--- What is held for the heads of `needed`.
+-- the span from what is held of an edge
+abbrev pub held_span : Held → ℕ → List Interval
+held_span h S = span_from (length h.chords) h.reach (lows_of h) (highs_of h) S h.from h.to
+
+-- of an edge, from what is held of the four
+abbrev pub edge_held : Chords → BoxEdge → Held
+edge_held chords edge = get_or (map held_of chords.edges) (edge_number edge) none_held
+
+abbrev pub edge_from : Chords → ℕ → BoxEdge → List Interval
+edge_from chords S edge = held_span (edge_held chords edge) S
+
+-- What is held for the heads of `needed`: of each edge its ends, the heads that reach it, and a chord for each head,
+-- which is its own if it is needed.
 pub record Chorded (box : Bounds) (circles : List Circle) (needed : ℕ) (chords : Chords) : Type 0 where
-  pub reaches : (e : ℕ) → e < 4 → get_or chords.reach e 0 ≡ reach_of box circles e
-  pub ends : (p : ℕ) → p < 40 → in_set needed (p % 10) ≡ true
-      → get_or chords.ends p no_chord ≡ chord_of box (circle_at circles (p % 10)) (p / 10)
+  pub starts : (edge : BoxEdge) → (edge_held chords edge).from ≡ from_of box edge
+  pub stops : (edge : BoxEdge) → (edge_held chords edge).to ≡ to_of box edge
+  pub reaches : (edge : BoxEdge) → (edge_held chords edge).reach ≡ reach_of box circles edge
+  pub count : (edge : BoxEdge) → length (edge_held chords edge).chords ≡ length circles
+  pub ends : (edge : BoxEdge) (l : ℕ) → l < length circles → in_set needed l ≡ true
+      → get_or (edge_held chords edge).chords l no_chord ≡ chord_of box (circle_at circles l) edge

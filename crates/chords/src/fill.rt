@@ -1,93 +1,86 @@
 // The chords that the heads cut from the edges of the box. Rests on specs/Chords.antt.
-ghost use Rattle.std.specs.Prelude.{◌≡◌, ◌<◌};
-ghost use Rattle.lists.specs.Written.{tab};
-ghost use Rattle.chords.specs.Chords.{edge_number, reach_of, chord_of, chord_at};
+ghost use Rattle.std.specs.Prelude.{◌≡◌, map};
+ghost use Rattle.inside.specs.Edges.{box_edges};
+ghost use Rattle.chords.specs.Chords.{chord_from, chords_of, held_of};
 
-use crate::edges::BoxEdge;
+use arrayvec::ArrayVec;
 use geometry::bounds::Bounds;
 use geometry::circle::{Circle, Circles};
+use inside::edges::BoxEdge;
 use inside::span::{half_chord, misses, seen};
 
-// The ends of the chord that a head cuts from an edge.
-#[derive(Clone, Copy)]
+// The ends of the chord that a head cuts from an edge. Both are 0 by default, for a head that is not needed. Not an
+// Option: such a head is in no set that is asked for, and a None would need an answer of the span that nobody reads.
+#[derive(Clone, Copy, Default)]
 pub struct Chord {
     pub low: f64,
     pub high: f64,
 }
 
-impl Chord {
-    // What a place without a chord holds.
-    const NONE: Chord = Chord {
-        low: 0.0,
-        high: 0.0,
-    };
+// What is held of an edge of the box: its ends, the heads that reach it, as a mask, and a chord for each head.
+#[derive(Drop)]
+pub struct EdgeChords {
+    pub from: f64,
+    pub to: f64,
+    pub reach: usize,
+    pub chords: ArrayVec<Chord, 10>,
 }
 
-// For each edge the heads that reach it, as a mask, and their chords, ten places an edge.
-#[derive(Clone, Copy)]
+// The same of the four edges, by number.
+#[derive(Drop)]
 pub struct Chords {
-    pub reach: [usize; 4],
-    pub ends: [Chord; 40],
+    pub edges: [EdgeChords; 4],
 }
 
-// The heads that reach an edge.
-#[tactic(auto, using(intersections::proofs::Adopting::gathered), unfolding(crate::specs::Chords::reach_of))]
-fn reach_of(circles: &Circles, bounds: Bounds, edge: BoxEdge) -> usize
-    ensures { result ≡ reach_of bounds circles.now.items (edge_number edge) }
+// The chord that a circle, as an edge sees it, cuts from the edge's line.
+#[tactic(auto, unfolding(crate::specs::Chords::chord_from))]
+fn chord_from(at: f64, c: Circle) -> Chord
+    ensures { result ≡ chord_from at c }
 {
-    let upright = edge.is_upright();
-    let at = edge.line(bounds);
-    let mut reach = 0;
-    for (l, circle) in circles.iter().enumerate() {
-        if !misses(at, seen(upright, *circle)) {
-            reach |= 1 << l;
-        }
-    }
-    reach
-}
-
-// The chord that a head cuts from an edge.
-#[tactic(auto, unfolding(crate::specs::Chords::chord_of))]
-fn chord_of(circle: Circle, bounds: Bounds, edge: BoxEdge) -> Chord
-    ensures { result ≡ chord_of bounds circle (edge_number edge) }
-{
-    let c = seen(edge.is_upright(), circle);
-    let half = half_chord(edge.line(bounds), c);
+    let half = half_chord(at, c);
     Chord {
         low: c.center.x - half,
         high: c.center.x + half,
     }
 }
 
-// The chord at a place: that of head p % 10 with edge p / 10, if the head is needed and has a circle.
-#[tactic(auto, using(crate::proofs::Ends::places), unfolding(crate::specs::Chords::chord_at))]
-fn chord_at(circles: &Circles, bounds: Bounds, needed: usize, p: usize) -> Chord
-    requires { p < 40 }
-    ensures { result ≡ chord_at bounds circles.now.items needed p }
-{
-    let l = p % 10;
-    if needed >> l & 1 == 1
-        && let Some(circle) = circles.get(l)
+impl EdgeChords {
+    // What is held of an edge, with the chords of the heads of `needed`. Circles, box and heads are parameters, handed
+    // down once: a struct of them would be made in fill_chords and taken apart here. The chords are pushed one by one,
+    // since the heads that reach the edge are gathered on the way.
+    #[tactic(auto, using(crate::proofs::Ends::heads_in_turn), unfolding(crate::specs::Chords::chords_of))]
+    fn of(circles: &Circles, bounds: Bounds, needed: usize, edge: BoxEdge) -> EdgeChords
+        ensures { held_of result ≡ chords_of bounds circles.now.items needed edge }
     {
-        return chord_of(*circle, bounds, BoxEdge::ALL[p / 10]);
+        let upright = edge.is_upright();
+        let at = edge.line(bounds);
+        let mut held = EdgeChords {
+            from: edge.from(bounds),
+            to: edge.to(bounds),
+            reach: 0,
+            chords: ArrayVec::new(),
+        };
+        for (l, circle) in circles.iter().enumerate() {
+            let c = seen(upright, *circle);
+            if !misses(at, c) {
+                held.reach |= 1 << l;
+            }
+            held.chords.push(if needed >> l & 1 == 1 {
+                chord_from(at, c)
+            } else {
+                Chord::default()
+            });
+        }
+        held
     }
-    Chord::NONE
 }
 
-// Which heads reach each edge, and the chords of the heads of `needed` with the four edges. A place without a chord
-// holds 0 for both ends: its head is not needed, or has no circle.
-#[tactic(auto, using(crate::proofs::Ends::filled))]
+// Which heads reach each edge, and the chords of the heads of `needed` with the four edges. A head that is not needed
+// has 0 for both ends.
 pub fn fill_chords(circles: &Circles, bounds: Bounds, needed: usize) -> Chords
-    ensures reach_after { result.reach ≡ tab (reach_of bounds circles.now.items) 4 }
-    ensures ends_after { result.ends ≡ tab (chord_at bounds circles.now.items needed) 40 }
+    ensures filled { map held_of result.edges ≡ map (chords_of bounds circles.now.items needed) box_edges }
 {
-    let mut reach = [0; 4];
-    for (e, edge) in BoxEdge::ALL.iter().enumerate() {
-        reach[e] = reach_of(circles, bounds, *edge);
+    Chords {
+        edges: BoxEdge::ALL.map(|edge| EdgeChords::of(circles, bounds, needed, edge)),
     }
-    let mut ends = [Chord::NONE; 40];
-    for p in 0..40 {
-        ends[p] = chord_at(circles, bounds, needed, p);
-    }
-    Chords { reach, ends }
 }

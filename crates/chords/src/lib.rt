@@ -2,6 +2,5 @@
 // set from them.
 #![tactic(auto)]
 
-pub mod edges;
 pub mod fill;
 pub mod spans;

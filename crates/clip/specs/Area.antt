@@ -1,7 +1,6 @@
 -- The area of a set inside the box: along the parts of its outline in the box, and along the spans of the four edges.
 use Rattle.std.specs.Prelude.{Bool, ◌||◌, cond, ltb, length, get_or, Float}
 use mathlib.Core.List.{List, foldl}
-use Rattle.std.specs.Float.Ieee.{neg}
 use Rattle.geometry.specs.declared.bounds.Bounds.{Bounds}
 use Rattle.geometry.specs.declared.circle.Circle.{Circle}
 use Rattle.binary64.specs.Constants.{zero64, half64}
@@ -9,6 +8,7 @@ use Rattle.binary64.specs.Floats.{◌+ᶠ◌, ◌-ᶠ◌, ◌*ᶠ◌, ◌≤ᶠ�
 use Rattle.intersections.specs.Members.{Member, circles_of, no_circle}
 use Rattle.boundary.specs.Outline.{outline}
 use Rattle.boundary.specs.declared.arcs.BoundaryArc.{BoundaryArc}
+use Rattle.inside.specs.Edges.{box_edges, factor_of, edge_span}
 use Rattle.inside.specs.Span.{Interval, horizontal_span, vertical_span}
 use Rattle.inside.specs.Parts.{clipped_arc_integral}
 
@@ -33,11 +33,7 @@ add_span factor = foldl (λ total i. total +ᶠ factor *ᶠ (i.high -ᶠ i.low))
 -- the spans of the four edges, counterclockwise from the bottom, for the circles of a set
 unfoldable pub add_edges : Bounds → List Circle → Float → Float
 unfolding horizontal_span vertical_span
-add_edges box cs total =
-    let bottom = add_span (neg box.y_min) total (horizontal_span box.y_min box.x_min box.x_max cs) in
-    let right = add_span box.x_max bottom (vertical_span box.x_max box.y_min box.y_max cs) in
-    let top = add_span box.y_max right (horizontal_span box.y_max box.x_min box.x_max cs) in
-    add_span (neg box.x_min) top (vertical_span box.x_min box.y_min box.y_max cs)
+add_edges box cs total = foldl (λ sum e. add_span (factor_of box e) sum (edge_span box e cs)) total box_edges
 
 -- The area in the box of the set whose circles are `own`. The arcs of its outline name circles of `all`.
 unfoldable pub clipped_area_of : Bounds → List Circle → List Circle → List BoundaryArc → Float

@@ -3,7 +3,6 @@
 -- Rust does here, and not as in specs/Area.antt.
 use Rattle.std.specs.Prelude.{ℕ, ◌+◌, ◌*◌, Bool, true, false, cond, ltb, length, get_or, replicate, Float}
 use mathlib.Core.List.{List, [], ◌∷◌, foldl}
-use Rattle.std.specs.Float.Ieee.{neg}
 use Rattle.elementary.specs.Sine.{sine as sin, cosine as cos}
 use Rattle.geometry.specs.declared.bounds.Bounds.{Bounds}
 use Rattle.geometry.specs.declared.circle.Circle.{Circle}
@@ -13,8 +12,11 @@ use Rattle.intersections.specs.Members.{Member, circles_of, no_circle}
 use Rattle.boundary.specs.Outline.{outline}
 use Rattle.outline.specs.Area.{add_at, sub_at}
 use Rattle.boundary.specs.declared.arcs.BoundaryArc.{BoundaryArc}
-use Rattle.clip.specs.declared.edges.Edge.{Edge}
+use Rattle.outline.specs.declared.terms.Triple.{Triple}
+use Rattle.outline.specs.Terms.{triple}
 use Rattle.clip.specs.declared.slopes.Sum.{Sum}
+use Rattle.inside.specs.declared.edges.BoxEdge.{BoxEdge}
+use Rattle.inside.specs.Edges.{box_edges, is_upright, is_outward, factor_of, across_of, edge_span}
 use Rattle.inside.specs.Span.{Interval, horizontal_span, vertical_span}
 use Rattle.inside.specs.Breaks.{breaks}
 use Rattle.lists.specs.Lists.{over_pairs}
@@ -40,6 +42,15 @@ unfoldable pub sub_arc_by_differences : Circle → Float → Float → Float →
 sub_arc_by_differences c s-diff c-diff delta =
     let r = c.radius in
     c.center.x *ᶠ r *ᶠ s-diff -ᶠ c.center.y *ᶠ r *ᶠ c-diff +ᶠ r *ᶠ r *ᶠ delta
+
+-- the part of a circle from a to b: its integral, and its shares of a gradient
+unfoldable pub part_integral : Circle → Float → Float → Float
+unfolding sub_arc_by_differences
+part_integral c a b = sub_arc_by_differences c (sin b -ᶠ sin a) (cos b -ᶠ cos a) (b -ᶠ a)
+
+unfoldable pub part_shares : Circle → Float → Float → Triple
+part_shares c a b =
+    triple (c.radius *ᶠ (sin b -ᶠ sin a)) (c.radius *ᶠ (cos b -ᶠ cos a)) (c.radius *ᶠ (b -ᶠ a))
 
 -- one part's share of the gradient, in the three entries of its circle from `off` on
 unfoldable pub part_slopes : ℕ → Float → Float → Float → Float → List Float → List Float
@@ -91,40 +102,26 @@ moved false g i x = sub_at g i x
 
 -- The share of a span of length l in the box's four entries from `at` on: the edge moves with the centre, and by a
 -- quarter of the side across with each size parameter.
-unfoldable pub edge_slopes : Edge → ℕ → Float → List Float → List Float
-edge_slopes e at l g =
-    let moving = moved e.outward g (cond e.upright at (at + 1)) l in
-    moved e.upright (add_at moving (at + 2) (e.across /ᶠ four64 *ᶠ l)) (at + 3) (e.across /ᶠ four64 *ᶠ l)
+unfoldable pub edge_slopes : BoxEdge → Float → ℕ → Float → List Float → List Float
+edge_slopes e across at l g =
+    let share = across /ᶠ four64 *ᶠ l in
+    let moving = moved (is_outward e) g (cond (is_upright e) at (at + 1)) l in
+    moved (is_upright e) (add_at moving (at + 2) share) (at + 3) share
 
--- the span of an edge, added
-unfoldable pub add_span_with_gradient : Edge → ℕ → WithGradient → List Interval → WithGradient
+-- the span of an edge, added, by a factor and the side across
+unfoldable pub add_span_with_gradient : BoxEdge → Float → Float → ℕ → WithGradient → List Interval → WithGradient
 unfolding edge_slopes
-add_span_with_gradient e at s [] = s
-add_span_with_gradient e at s (i ∷ rest) =
+add_span_with_gradient e factor across at s [] = s
+add_span_with_gradient e factor across at s (i ∷ rest) =
     let l = i.high -ᶠ i.low in
-    add_span_with_gradient e at (with_gradient (s.sum +ᶠ e.factor *ᶠ l) (edge_slopes e at l s.grad)) rest
-
--- the box's four edges
-abbrev pub bottom_edge : Bounds → Edge
-bottom_edge box = record { upright = false; outward = false; factor = neg box.y_min; across = box.y_max -ᶠ box.y_min }
-
-abbrev pub right_edge : Bounds → Edge
-right_edge box = record { upright = true; outward = true; factor = box.x_max; across = box.x_max -ᶠ box.x_min }
-
-abbrev pub top_edge : Bounds → Edge
-top_edge box = record { upright = false; outward = true; factor = box.y_max; across = box.y_max -ᶠ box.y_min }
-
-abbrev pub left_edge : Bounds → Edge
-left_edge box = record { upright = true; outward = false; factor = neg box.x_min; across = box.x_max -ᶠ box.x_min }
+    let next = with_gradient (s.sum +ᶠ factor *ᶠ l) (edge_slopes e across at l s.grad) in
+    add_span_with_gradient e factor across at next rest
 
 -- the spans of the four edges, counterclockwise from the bottom, for the circles of a set
 unfoldable pub add_edges_with_gradient : Bounds → List Circle → ℕ → WithGradient → WithGradient
 unfolding add_span_with_gradient horizontal_span vertical_span
 add_edges_with_gradient box cs at s =
-    let bottom = add_span_with_gradient (bottom_edge box) at s (horizontal_span box.y_min box.x_min box.x_max cs) in
-    let right = add_span_with_gradient (right_edge box) at bottom (vertical_span box.x_max box.y_min box.y_max cs) in
-    let top = add_span_with_gradient (top_edge box) at right (horizontal_span box.y_max box.x_min box.x_max cs) in
-    add_span_with_gradient (left_edge box) at top (vertical_span box.x_min box.y_min box.y_max cs)
+    foldl (λ so e. add_span_with_gradient e (factor_of box e) (across_of box e) at so (edge_span box e cs)) s box_edges
 
 -- ---- a set
 

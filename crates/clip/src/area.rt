@@ -7,13 +7,13 @@ ghost use Rattle.inside.specs.Span.{spans};
 ghost use Rattle.clip.specs.Area.{empty_box, add_clipped_arc, add_clipped_arcs, add_span, add_edges};
 ghost use Rattle.clip.specs.Area.{clipped_area_of, clipped_area};
 
-use crate::edges::edge_spans;
 use boundary::arcs::BoundaryArc;
 use boundary::walk::outline_of;
 use geometry::bounds::Bounds;
 use geometry::circle::{Circle, Circles};
+use inside::edges::BoxEdge;
 use inside::parts::clipped_arc_integral;
-use inside::span::Span;
+use inside::span::{Span, edge_inside_interval};
 use intersections::members::{HeadCircle, circles_of, members_of};
 use intersections::points::IntersectionPoint;
 
@@ -25,7 +25,8 @@ pub fn empty_box(bounds: Bounds) -> bool
     bounds.x_max <= bounds.x_min || bounds.y_max <= bounds.y_min
 }
 
-// An arc's integral in the box, added to a sum; one of no circle adds nothing.
+// An arc's integral in the box, added to a sum; one of no circle adds nothing. As in `outline::area` with another step:
+// a function that is handed the step would be longer at both.
 #[tactic(auto, unfolding(crate::specs::Area::add_clipped_arc))]
 fn add_clipped_arc(total: f64, bounds: Bounds, circles: &[Circle], arc: BoundaryArc) -> f64
     ensures { result ≡ add_clipped_arc bounds circles.now total arc }
@@ -51,11 +52,12 @@ pub fn add_span(factor: f64, total: f64, span: Span) -> f64
 fn add_edges(total: f64, bounds: Bounds, set: &[HeadCircle]) -> f64
     ensures { result ≡ add_edges bounds (circle_list set.now) total }
 {
-    let on = edge_spans(bounds, set);
-    let with_bottom = add_span(-bounds.y_min, total, on.bottom);
-    let with_right = add_span(bounds.x_max, with_bottom, on.right);
-    let with_top = add_span(bounds.y_max, with_right, on.top);
-    add_span(-bounds.x_min, with_top, on.left)
+    let mut sum = total;
+    for edge in BoxEdge::ALL {
+        let span = edge_inside_interval(edge, bounds, set);
+        sum = add_span(edge.factor(bounds), sum, span);
+    }
+    sum
 }
 
 // Arcs of circles, added up.
@@ -68,8 +70,19 @@ fn arcs_sum(arcs: &[BoundaryArc], bounds: Bounds, circles: &[Circle]) -> f64
     )
 }
 
+// The area in the box of a set; the arcs of its outline name circles of a list.
+#[tactic(auto, unfolding(crate::specs::Area::clipped_area_of))]
+fn clipped_area(arcs: &[BoundaryArc], circles: &[Circle], bounds: Bounds, set: &[HeadCircle]) -> f64
+    ensures { result ≡ clipped_area_of bounds circles.now (circle_list set.now) arcs.now }
+{
+    if empty_box(bounds) {
+        return 0.0;
+    }
+    0.5 * add_edges(arcs_sum(arcs, bounds, circles), bounds, set)
+}
+
 // The area in the box of the set `mask`, whose arcs are given.
-#[tactic(auto, using(crate::proofs::Rows::of_heads), unfolding(crate::specs::Area::clipped_area_of))]
+#[tactic(auto, using(crate::proofs::Rows::of_heads))]
 pub fn area_from_clipped_arcs(
     arcs: &[BoundaryArc],
     circles: &Circles,
@@ -79,11 +92,7 @@ pub fn area_from_clipped_arcs(
     ensures { let all = circles.now.items in
         result ≡ clipped_area_of bounds all (map (circle_at all) (heads_of (length all) mask)) arcs.now }
 {
-    if empty_box(bounds) {
-        return 0.0;
-    }
-    let total = arcs_sum(arcs, bounds, circles);
-    0.5 * add_edges(total, bounds, &members_of(mask, circles))
+    clipped_area(arcs, circles, bounds, &members_of(mask, circles))
 }
 
 // The area that the heads of a set water together inside the box.
@@ -96,11 +105,7 @@ pub fn clipped_region_area(
 ) -> f64
     ensures { result ≡ clipped_area bounds (members_of circles.now.items points.now mask) }
 {
-    if empty_box(bounds) {
-        return 0.0;
-    }
     let set = members_of(mask, circles);
     let arcs = outline_of(mask, &set, points);
-    let total = arcs_sum(&arcs, bounds, &circles_of(&set));
-    0.5 * add_edges(total, bounds, &set)
+    clipped_area(&arcs, &circles_of(&set), bounds, &set)
 }

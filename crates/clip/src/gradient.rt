@@ -2,18 +2,19 @@
 // Rests on specs/Gradient.antt.
 ghost use Rattle.std.specs.Prelude.{◌≡◌, map, length};
 ghost use Rattle.intersections.specs.Members.{heads_of, circle_at, members_of};
+ghost use Rattle.intersections.specs.Heads.{circle_list};
 ghost use Rattle.clip.specs.Gradient.{with_gradient, so_far, add_clipped_arcs_with_gradient};
 ghost use Rattle.clip.specs.Gradient.{clipped_with_gradient, clipped_onto};
 
 use crate::area::empty_box;
-use crate::place::Place;
 use crate::slopes::Sum;
 use boundary::arcs::BoundaryArc;
 use boundary::walk::outline_of;
 use geometry::bounds::Bounds;
 use geometry::circle::Circles;
-use intersections::members::{circles_of, members_of};
+use intersections::members::{HeadCircle, circles_of, members_of};
 use intersections::points::IntersectionPoint;
+use outline::place::Place;
 
 impl Sum<'_> {
     // Arcs of circles, added.
@@ -28,8 +29,31 @@ impl Sum<'_> {
     }
 }
 
+// The area in the box of a set, and its gradient, added to grad. The arcs of its outline name circles of a list, after
+// whose entries come the box's. Not one body with clipped_area: each of its steps has another form here, with the
+// gradient lent along.
+#[tactic(auto, unfolding(crate::specs::Gradient::clipped_with_gradient))]
+fn area_and_gradient(
+    arcs: &[BoundaryArc],
+    circles: &Circles,
+    bounds: Bounds,
+    set: &[HeadCircle],
+    grad: &mut [f64],
+) -> f64
+    ensures { with_gradient result grad.new
+        ≡ clipped_with_gradient bounds circles.now.items (circle_list set.now) arcs.now grad.old }
+{
+    if empty_box(bounds) {
+        return 0.0;
+    }
+    let mut sum = Sum { total: 0.0, grad };
+    sum.add_arcs(arcs, bounds, circles);
+    sum.add_edges(bounds, set, Place::after(circles.len()));
+    0.5 * sum.total
+}
+
 // The area in the box of the set `mask`, whose arcs are given, and its gradient, added to grad.
-#[tactic(auto, using(crate::proofs::Rows::of_heads), unfolding(crate::specs::Gradient::clipped_with_gradient))]
+#[tactic(auto, using(crate::proofs::Rows::of_heads))]
 pub fn area_and_gradient_from_clipped_arcs(
     arcs: &[BoundaryArc],
     circles: &Circles,
@@ -41,17 +65,7 @@ pub fn area_and_gradient_from_clipped_arcs(
         with_gradient result grad.new
         ≡ clipped_with_gradient bounds all (map (circle_at all) (heads_of (length all) mask)) arcs.now grad.old }
 {
-    if empty_box(bounds) {
-        return 0.0;
-    }
-    let mut sum = Sum { total: 0.0, grad };
-    sum.add_arcs(arcs, bounds, circles);
-    sum.add_edges(
-        bounds,
-        &members_of(mask, circles),
-        Place::after(circles.len()),
-    );
-    0.5 * sum.total
+    area_and_gradient(arcs, circles, bounds, &members_of(mask, circles), grad)
 }
 
 // The area that the heads of a set water together inside the box, and its gradient, added to grad: by position three
@@ -67,13 +81,7 @@ pub fn clipped_region_area_and_gradient(
     ensures { with_gradient result grad.new
         ≡ clipped_onto bounds (members_of circles.now.items points.now mask) grad.old }
 {
-    if empty_box(bounds) {
-        return 0.0;
-    }
     let set = members_of(mask, circles);
     let arcs = outline_of(mask, &set, points);
-    let mut sum = Sum { total: 0.0, grad };
-    sum.add_arcs(&arcs, bounds, &circles_of(&set));
-    sum.add_edges(bounds, &set, Place::after(set.len()));
-    0.5 * sum.total
+    area_and_gradient(&arcs, &circles_of(&set), bounds, &set, grad)
 }

@@ -1,5 +1,6 @@
 // Exclusive areas of circles in lent slices: over any list of sets, and under the Rust's names over those that
-// discover_regions finds. Rests on specs/Diagram.antt.
+// discover_regions finds. Rests on specs/Diagram.antt. (The two under the Rust's names are two, and take circles and
+// box apart, as the Rust has them: what they share is `exclusive_areas_of`, over a drawing with its box or none.)
 ghost use Rattle.std.specs.Prelude.{◌≡◌, length};
 ghost use Rattle.masks.specs.Presence.{stands};
 ghost use Rattle.diagram.specs.Drawing.{count_of, rows_of};
@@ -14,6 +15,8 @@ use sums::rows::write_areas;
 
 // The presence bytes and exclusive areas of a drawing whose sets are given: rows 0 to 2^n - 1 of both slices, for n
 // heads. Refused, where a slice has fewer than 2^n places, nothing is written.
+// Slices one by one, here and in `gradients`: with a struct each contract would say beside what they hold that they
+// are the same slices as before.
 pub fn exclusive_areas_of(
     sets: &[u8; 1024],
     drawing: &Drawing,

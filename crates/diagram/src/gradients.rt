@@ -1,13 +1,15 @@
 // Exclusive areas of circles with their gradients, in lent slices: over any list of sets, and under the Rust's names
 // over those that discover_regions finds. A gradient has three numbers a head, and in a box four more. Rests on
 // specs/Diagram.antt.
+// A body of its own beside `exclusives`: the areas that come with gradients are summed in another order, and made
+// exclusive by another rule. Circles and box are apart in the last two, as the Rust has them.
 ghost use Rattle.std.specs.Prelude.{◌≡◌, length};
 ghost use Rattle.masks.specs.Presence.{stands};
 ghost use Rattle.diagram.specs.Drawing.{count_of, slopes_of};
 ghost use Rattle.diagram.specs.Diagram.{open_with_gradients, clipped_with_gradients};
 ghost use Rattle.diagram.specs.Diagram.{check_with, presence_left_with, areas_left, gradients_left};
 
-use crate::drawing::{Drawing, width_of};
+use crate::drawing::Drawing;
 use crate::rows::{finish_rows, write_rows_with_gradients};
 use exclusive::areas::RowsError;
 use exclusive_gradients::gradients::{to_exclusive_areas_and_gradients, width_answer};
@@ -36,7 +38,7 @@ pub fn exclusive_areas_and_gradients_of(
         presence.old exclusives.old gradients.old }
 {
     let n = drawing.circles.len();
-    let width = width_of(drawing);
+    let width = drawing.width();
     let rows = presence.len().min(exclusives.len());
     width_answer(n, rows, gradients.len(), width)?;
     write_rows_with_gradients(drawing, sets, width, exclusives, gradients);

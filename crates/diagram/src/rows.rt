@@ -1,6 +1,7 @@
 // The rows of a diagram in lent slices, before anything is subtracted: presence bytes, areas, and gradients by head.
-// The sets come as presence bytes. Rests on specs/Rows.antt. (That there are 2^n places is asked by two functions here,
-// of other slices each: a type that lends them with it would be made and taken apart once for each, and be no plainer.)
+// The sets come as presence bytes, beside the drawing and not in it: any list of sets is allowed, and `Drawing::sets`
+// is but one. Rests on specs/Rows.antt. (That there are 2^n places is asked by two functions here, of other slices
+// each: a type that lends them with it would be made and taken apart once for each, and be no plainer.)
 ghost use Rattle.std.specs.Prelude.{◌≡◌, ◌*◌, ◌≤◌, ◌^◌, length, get_or};
 ghost use Rattle.std.specs.Float.{nan};
 ghost use Rattle.lists.specs.Written.{written};
@@ -42,6 +43,7 @@ fn write_box_row(drawing: &Drawing, grad: &mut [f64])
 {
     grad.fill(0.0);
     if let Some(container) = drawing.container {
+        // With `get_mut` the proof did not close: its contract does not say what the slice holds after the write.
         let third = drawing.circles.len() * 3 + 2;
         if third < grad.len() {
             grad[third] = container.area();
@@ -50,7 +52,8 @@ fn write_box_row(drawing: &Drawing, grad: &mut [f64])
 }
 
 // The areas of the sets, as they come with their gradients, and the gradients of all rows, `width` numbers each. All
-// gradients are +0 before those of the sets are written, so that absent rows are left so.
+// gradients are +0 before those of the sets are written, so that absent rows are left so. `width` as a number: in its
+// place the contract would name the drawing's five times.
 #[tactic(auto, using(sums::proofs::Laid::rows_in_all))]
 pub(crate) fn write_rows_with_gradients(
     drawing: &Drawing,

@@ -1,2 +1,3 @@
-// The sets and the exclusives of a taken plan: theorems over the definitions of `sets` and `exclusive`. There is no code here.
+// The sets and the exclusives of a taken plan: theorems over the definitions of `sets` and `exclusive`. There is no
+// code here.
 #![tactic(auto)]

@@ -1,4 +1,5 @@
--- A plan drawn: the circles of its heads and its box, whole centimetres as f64 (`x as f64`). What rows are worked out from.
+-- A plan drawn: the circles of its heads and its box, whole centimetres as f64 (`x as f64`). What rows are worked out
+-- from.
 use Rattle.std.specs.Prelude.{List, map, take}
 use Rattle.std.specs.Float.{binary64}
 use Rattle.std.specs.Float.Ieee.{of_int}

@@ -11,6 +11,8 @@ use geometry::point::Point;
 use geometry::rectangle::Rectangle;
 use plan::{Ground, Plan};
 
+// The two are functions and no `From`: the types on both sides are those of other crates.
+
 // The circles of a plan's heads, by head number.
 pub fn circles_of(plan: Plan) -> Circles
     ensures { result.items ≡ plan_circles plan }

@@ -11,12 +11,19 @@ ghost use Rattle.elementary.specs.ArctangentSteps.{Ordered, InQuarter};
 use crate::fixed::{horner, mulhi};
 use binary64::{abs, is_sign_negative};
 
+// A quarter of a turn and half a turn in units of 2^-62. Each is rounded: the half is not twice the quarter.
 const QUARTER_TURN: u64 = 7244019458077122842;
 
 const HALF_TURN: u64 = 14488038916154245685;
 
 // The largest magnitude of a coordinate, 2^20.
 const LARGEST: f64 = 1048576.0;
+
+// 2^64: how many units of a tangent are in 1.
+const TANGENT_SCALE: f64 = 18446744073709551616.0;
+
+// 2^-62: the unit of an angle.
+const ANGLE_UNIT: f64 = 2.168404344971009e-19;
 
 // The alternating polynomial of the recipe, in units of 2^-63, from the highest power to the constant.
 const COEFFICIENTS: [u64; 22] = [
@@ -60,7 +67,7 @@ fn tangent(low: f64, high: f64) -> u64
 {
     let q = low / high;
     if q < 1.0 {
-        std::num::truncating_f64_to_u64(q * 18446744073709551616.0)
+        std::num::truncating_f64_to_u64(q * TANGENT_SCALE)
     } else {
         u64::MAX
     }
@@ -114,7 +121,8 @@ pub fn atan2(y: f64, x: f64) -> f64
     if !in_domain(width, height) {
         return 0.0;
     }
-    let t = std::num::nearest_u64_to_f64(upper_half(x, width, height)) * 2.168404344971009e-19;
+    let t = std::num::nearest_u64_to_f64(upper_half(x, width, height)) * ANGLE_UNIT;
+    // Not `copysign`: its contract gives `float_with_sign`, as that of `abs`.
     if is_sign_negative(y) { -t } else { t }
 }
 
@@ -126,10 +134,11 @@ fn cofunction(c: f64) -> f64
 }
 
 // Whether c is a cosine: -1 ≤ c ≤ 1.
+#[tactic(auto, using(binary64::proofs::Ranges::ranges))]
 fn in_unit(c: f64) -> bool
     ensures { result ≡ in_unit c }
 {
-    -1.0 <= c && c <= 1.0
+    (-1.0..=1.0).contains(&c)
 }
 
 // The angle from 0 to PI whose cosine is c; +0 where c is below -1, above 1, or no number.

@@ -8,6 +8,7 @@ ghost use Rattle.elementary.specs.Root.{nearest_root, root as root_of, hypot as 
 ghost use Rattle.elementary.specs.RootSteps.{Near, Balanced, Leading};
 
 // The bits of the positive infinity: those of the positive finite numbers lie below.
+// By bits and not `is_finite`: the steps below need the bound on the bits, which its contract does not give.
 const INFINITY: u64 = f64::to_bits(f64::INFINITY);
 
 // 2^52: the first of a normal number's 53 digits, which its bits leave out.
@@ -19,7 +20,11 @@ pub fn root(x: f64) -> f64
 {
     if 0.0 < x {
         let bits = x.to_bits();
-        if bits < INFINITY { positive(bits) } else { 0.0 }
+        if bits < INFINITY {
+            PositiveBits { bits }.root()
+        } else {
+            0.0
+        }
     } else if x == 0.0 {
         x
     } else {
@@ -41,114 +46,149 @@ struct Parts {
     lead: u64,
 }
 
-// The leading digits of the positive finite number with the given bits. The bound on the bits, and that on the digits
-// below, hold within the steps of one root: a type for each would be made and taken apart at every step.
-fn split(bits: u64) -> Parts
-    requires { (0 < bits) × (bits < 2047 * 2 ^ 52) }
-    ensures { Leading (mag (from_bits binary64 bits)) result.digits result.lead }
-{
-    let field = bits >> 52;
-    if field == 0 {
-        let zeros = bits.leading_zeros();
-        Parts {
-            digits: bits << (zeros - 11),
-            lead: u64::from(63 - zeros),
-        }
-    } else {
-        Parts {
-            digits: bits % FIRST_DIGIT + FIRST_DIGIT,
-            lead: field + 51,
-        }
-    }
+// The bits of a positive finite number.
+#[derive(Clone, Copy)]
+struct PositiveBits {
+    bits: u64,
+    ghost above: { 0 < bits },
+    ghost finite: { bits < 2047 * 2 ^ 52 },
 }
 
-// The root of the positive finite number with the given bits. Half the exponent is the root's, and
-// an odd one goes to the radicand. The root's bits are its exponent's field, less one, and its 53
-// digits, of which the first adds that one.
-fn positive(bits: u64) -> f64
-    requires { (0 < bits) × (bits < 2047 * 2 ^ 52) }
-    ensures { result ≡ root_of (from_bits binary64 bits) }
-{
-    let Parts { digits, lead } = split(bits);
-    let digits = nearest(digits << (lead % 2), guess(bits));
-    f64::from_bits(((lead / 2 + 485) << 52) + digits)
-}
-
-// A guess at the root of the positive finite number with the given bits. Nothing is promised of it:
-// `settle` tests it. For a normal number its digits are the root's, or one off. From a first guess
-// in the bits r goes to 1 / root(x) and y to root(x) by Newton's factor (3 - y * r) / 2, which is
-// used without its half, so that both are 2, 16 and 8192 times as large. They are off by at most
-// 2^-4.8, then 2^-9, 2^-17, 2^-34; the last line takes up what rounding left.
-fn guess(bits: u64) -> f64
-    requires { bits < 2047 * 2 ^ 52 }
-{
-    let x = f64::from_bits(bits);
-    let r0 = f64::from_bits(0x5FE6_EB50_C7B5_37A9 - (bits >> 1));
-    let y0 = x * r0;
-    let t0 = 3.0 - y0 * r0;
-    let r1 = r0 * t0;
-    let y1 = y0 * t0;
-    let t1 = 12.0 - y1 * r1;
-    let r2 = r1 * t1;
-    let y2 = y1 * t1;
-    let t2 = 768.0 - y2 * r2;
-    // 2^-14 and 2^-13
-    let half = r2 * 0.00006103515625 * t2;
-    let y = y2 * 0.0001220703125 * t2;
-    y + half * (x - y * y)
-}
-
-// The whole number nearest to the root of m * 2^52, from the digits of a guess; where these do not
-// settle it, digit by digit.
-fn nearest(m: u64, guess: f64) -> u64
-    requires { (2 ^ 52 ≤ m) × (m < 2 ^ 54) }
-    ensures { result ≡ nearest_root 53 (m * 2 ^ 52) }
-{
-    if 0.0 < guess
-        && let Some(q) = settle(m, guess.to_bits() % FIRST_DIGIT + FIRST_DIGIT)
+impl PositiveBits {
+    // The leading digits of the number.
+    fn split(self) -> Parts
+        ensures { Leading (mag (from_bits binary64 self.bits)) result.digits result.lead }
     {
-        return q;
-    }
-    nearest_by_digits(m)
-}
-
-// The whole number nearest to the root of m * 2^52, digit by digit: each step takes two digits of
-// the radicand and gives one of the root. `root` is the whole part of the root of what was taken,
-// `rest` what its square leaves.
-fn nearest_by_digits(m: u64) -> u64
-    requires { (2 ^ 52 ≤ m) × (m < 2 ^ 54) }
-    ensures { result ≡ nearest_root 53 (m * 2 ^ 52) }
-{
-    let mut digits = m << 10;
-    let mut root: u64 = 0;
-    let mut rest: u64 = 0;
-    for _ in 0..53u32 {
-        rest = rest * 4 + (digits >> 62);
-        digits <<= 2;
-        let square = root * 4 + 1;
-        root *= 2;
-        if square <= rest {
-            rest -= square;
-            root += 1;
+        let bits = self.bits;
+        let field = bits >> 52;
+        if field == 0 {
+            let zeros = bits.leading_zeros();
+            Parts {
+                digits: bits << (zeros - 11),
+                lead: u64::from(63 - zeros),
+            }
+        } else {
+            Parts {
+                digits: bits % FIRST_DIGIT + FIRST_DIGIT,
+                lead: field + 51,
+            }
         }
     }
-    if rest <= root { root } else { root + 1 }
+
+    // The root of the number. Half the exponent is the root's, and an odd one goes to the radicand. The root's bits
+    // are its exponent's field, less one, and its 53 digits, of which the first adds that one.
+    fn root(self) -> f64
+        ensures { result ≡ root_of (from_bits binary64 self.bits) }
+    {
+        let Parts { digits, lead } = self.split();
+        let radicand = Radicand {
+            m: digits << (lead % 2),
+        };
+        let digits = radicand.nearest(self.guess());
+        f64::from_bits(((lead / 2 + 485) << 52) + digits)
+    }
+
+    // A guess at the root of the number. Nothing is promised of it: `settle` tests it. For a normal number its digits
+    // are the root's, or one off. From a first guess in the bits r goes to 1 / root(x) and y to root(x) by Newton's
+    // factor (3 - y * r) / 2, which is used without its half, so that both are 2, 16 and 8192 times as large, and the
+    // 3 is 3, 12 and 768. They are off by at most 2^-4.8, then 2^-9, 2^-17, 2^-34; the last line takes up what
+    // rounding left.
+    fn guess(self) -> f64 {
+        let x = f64::from_bits(self.bits);
+        let mut r = f64::from_bits(0x5FE6_EB50_C7B5_37A9 - (self.bits >> 1));
+        let mut y = x * r;
+        for three in [3.0, 12.0] {
+            let factor = three - y * r;
+            r *= factor;
+            y *= factor;
+        }
+        let factor = 768.0 - y * r;
+        // 2^-14 and 2^-13
+        let half = r * 0.00006103515625 * factor;
+        let y = y * 0.0001220703125 * factor;
+        y + half * (x - y * y)
+    }
 }
 
-// The whole number nearest to the root of m * 2^52, if it is q or stands beside q.
-fn settle(m: u64, q: u64) -> Option<u64>
-    requires { (m < 2 ^ 54) × ((2 ^ 52 ≤ q) × (q < 2 ^ 53)) }
-    ensures { IfSome result (λ r. Near (m * 2 ^ 52) r) }
-{
-    let Scales { square, radicand } = weigh(m, q)?;
-    if radicand + q <= square {
-        // the root is below the middle of q - 1 and q
-        (square + 2 < radicand + q * 3).then_some(q - 1)
-    } else if square + q < radicand {
-        // the root is above the middle of q and q + 1
-        (radicand <= square + q * 3 + 2).then_some(q + 1)
-    } else {
-        Some(q)
+// A whole number m of 53 or 54 digits: the root of m * 2^52 has 53.
+#[derive(Clone, Copy)]
+struct Radicand {
+    m: u64,
+    ghost least: { 2 ^ 52 ≤ m },
+    ghost below: { m < 2 ^ 54 },
+}
+
+impl Radicand {
+    // The whole number nearest to the root of m * 2^52, from the digits of a guess; where these do not settle it,
+    // digit by digit.
+    fn nearest(self, guess: f64) -> u64
+        ensures { result ≡ nearest_root 53 (self.m * 2 ^ 52) }
+    {
+        if 0.0 < guess
+            && let Some(q) = self.settle(guess.to_bits() % FIRST_DIGIT + FIRST_DIGIT)
+        {
+            return q;
+        }
+        self.nearest_by_digits()
+    }
+
+    // The whole number nearest to the root of m * 2^52, digit by digit: each step takes two digits of the radicand and
+    // gives one of the root. `root` is the whole part of the root of what was taken, `rest` what its square leaves.
+    fn nearest_by_digits(self) -> u64
+        ensures { result ≡ nearest_root 53 (self.m * 2 ^ 52) }
+    {
+        let mut digits = self.m << 10;
+        let mut root: u64 = 0;
+        let mut rest: u64 = 0;
+        for _ in 0..53u32 {
+            rest = rest * 4 + (digits >> 62);
+            digits <<= 2;
+            let square = root * 4 + 1;
+            root *= 2;
+            if square <= rest {
+                rest -= square;
+                root += 1;
+            }
+        }
+        if rest <= root { root } else { root + 1 }
+    }
+
+    // The whole number nearest to the root of m * 2^52, if it is q or stands beside q.
+    fn settle(self, q: u64) -> Option<u64>
+        requires { (2 ^ 52 ≤ q) × (q < 2 ^ 53) }
+        ensures { IfSome result (λ r. Near (self.m * 2 ^ 52) r) }
+    {
+        let Scales { square, radicand } = self.weigh(q)?;
+        if radicand + q <= square {
+            // the root is below the middle of q - 1 and q
+            (square + 2 < radicand + q * 3).then_some(q - 1)
+        } else if square + q < radicand {
+            // the root is above the middle of q and q + 1
+            (radicand <= square + q * 3 + 2).then_some(q + 1)
+        } else {
+            Some(q)
+        }
+    }
+
+    // The square of q against m * 2^52, by exact products in halves: q * q is (high - 1) * 2^54 + low, and m * 2^52 is
+    // m_high * 2^54 + (m % 4) * 2^52. None where they are too far apart.
+    fn weigh(self, q: u64) -> Option<Scales>
+        requires { q < 2 ^ 53 }
+        ensures { IfSome result (λ s. Balanced (self.m * 2 ^ 52) (q * q) s.square s.radicand) }
+    {
+        let upper = q >> 27;
+        let lower = q % 0x800_0000;
+        let cross = upper * lower;
+        let high = upper * upper + (cross >> 26) + 1;
+        let low = ((cross % 0x400_0000) << 28) + lower * lower;
+        let ahead = high.checked_sub(self.m >> 2)?;
+        if 2 < ahead {
+            return None;
+        }
+        Some(Scales {
+            square: (ahead << 54) + low,
+            radicand: (self.m % 4 + 4) << 52,
+        })
     }
 }
 
@@ -157,25 +197,4 @@ fn settle(m: u64, q: u64) -> Option<u64>
 struct Scales {
     square: u64,
     radicand: u64,
-}
-
-// The square of q against m * 2^52, by exact products in halves: q * q is (high - 1) * 2^54 + low,
-// and m * 2^52 is m_high * 2^54 + (m % 4) * 2^52. None where they are too far apart.
-fn weigh(m: u64, q: u64) -> Option<Scales>
-    requires { (m < 2 ^ 54) × (q < 2 ^ 53) }
-    ensures { IfSome result (λ s. Balanced (m * 2 ^ 52) (q * q) s.square s.radicand) }
-{
-    let upper = q >> 27;
-    let lower = q % 0x800_0000;
-    let cross = upper * lower;
-    let high = upper * upper + (cross >> 26) + 1;
-    let low = ((cross % 0x400_0000) << 28) + lower * lower;
-    let ahead = high.checked_sub(m >> 2)?;
-    if 2 < ahead {
-        return None;
-    }
-    Some(Scales {
-        square: (ahead << 54) + low,
-        radicand: (m % 4 + 4) << 52,
-    })
 }

@@ -18,6 +18,12 @@ const QUARTER: u64 = 905502432259640355;
 // The sine of a quarter turn in units of 2^-61.
 const ONE: u64 = 2305843009213693952;
 
+// 2^59: how many units of an angle are in 1.
+const ANGLE_SCALE: f64 = 576460752303423488.0;
+
+// 2^-61: the unit of a sine.
+const SINE_UNIT: f64 = 4.336808689942018e-19;
+
 // The alternating polynomial of the recipe, in units of 2^-62, from the highest power to the constant.
 const COEFFICIENTS: [u64; 11] = [
     94649,
@@ -69,7 +75,7 @@ fn half_turned(w: u64) -> bool
 fn fixed_sine(negative: bool, w: u64) -> f64
     ensures { result ≡ fixed_sine negative w }
 {
-    let size = std::num::nearest_u64_to_f64(quarter_sine(reduced(w))) * 4.336808689942018e-19;
+    let size = std::num::nearest_u64_to_f64(quarter_sine(reduced(w))) * SINE_UNIT;
     if negative != half_turned(w) {
         -size
     } else {
@@ -90,7 +96,7 @@ fn angle(v: f64) -> u64
     ensures value { result ≡ angle_of v }
     ensures bound { result ≤ 2 ^ 63 }
 {
-    std::num::truncating_f64_to_u64(abs(v) * 576460752303423488.0)
+    std::num::truncating_f64_to_u64(abs(v) * ANGLE_SCALE)
 }
 
 // The sine of v; +0 outside the domain.

@@ -13,6 +13,7 @@ use crate::presence::Presence;
 use binary64::clamp_to_zero;
 
 // Why tables are refused, under document 01's numbers.
+// Not `plan::Refusal`: this crate knows no plan.
 #[derive(Clone, Copy, PartialEq, Eq, Debug)]
 pub enum RowsError {
     TooManyHeads = 2,
@@ -53,14 +54,16 @@ fn clamped(byte: u8, number: f64) -> f64
     0.0
 }
 
-// "Clamping comes last." (That a table has 2^n rows is asked here by each function that writes one: a type that lends
-// the presence with the table would be made and taken apart in each of them, and be no shorter.)
+// Document 01: "Clamping comes last."
+// That a table has 2^n rows is asked here by each function that writes one: a type that lends the presence with the
+// table would be made in each of the public functions, and be no shorter.
 fn clamp_rows(present: &Presence, numbers: &mut [f64])
     requires { 2 ^ present.now.n ≤ length numbers.old }
     ensures { let P = present.now in numbers.new ≡ written
         (λ S. cond (stands P.bytes.now S) (clamp_to_zero (get_or numbers.old S nan)) zero64) (2 ^ P.n) numbers.old }
 {
     let bytes = present.bytes;
+    // By index: a row's byte stands at the index of its number, and so the compiler vectorises the loop.
     for s in 0..present.row_count() {
         numbers[s] = clamped(bytes[s], numbers[s]);
     }

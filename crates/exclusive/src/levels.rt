@@ -12,19 +12,18 @@ use crate::presence::Presence;
 use crate::rows::row_order;
 use masks::is_subset;
 
-// Where the level that ends at place `hi` starts.
+// Where the level that ends at place `hi` starts: it lies below `hi`, and all rows from there on have as many heads.
 fn level_start(rows: &[usize], hi: usize) -> usize
     requires { (0 < hi) × (hi ≤ length rows.now) }
-    ensures upper_bound { result < hi }
-    ensures i_value { (i : _) → result ≤ i → i < hi → ones (get_or rows.now i 0) ≡ ones (get_or rows.now (hi - 1) 0) }
+    ensures starts_before { result < hi }
+    ensures as_many_heads { let heads = ones (get_or rows.now (hi - 1) 0) in
+        (i : _) → result ≤ i → i < hi → ones (get_or rows.now i 0) ≡ heads }
 {
     let heads = rows[hi - 1].count_ones();
-    for lo in (1..hi).rev() {
-        if rows[lo - 1].count_ones() != heads {
-            return lo;
-        }
+    match rows[..hi].iter().rposition(|row| row.count_ones() != heads) {
+        Some(last) => last + 1,
+        None => 0,
     }
-    0
 }
 
 // The rows from place lo to place hi of the order, all of as many heads.
@@ -71,7 +70,8 @@ pub(crate) fn subtract_levels(present: &Presence, areas: &mut [f64])
     let rows = order.as_slice();
     let mut sums = [0.0; 1024];
     let mut hi = rows.len();
-    // One level a turn: how many rows it has is known only once it is reached, so that no range gives the turns.
+    // One level a turn, and no `chunk_by`: its contract speaks of runs, and hands a level over without its places among
+    // the sums.
     while 0 < hi {
         let lo = level_start(rows, hi);
         Level { rows, lo, hi }.add_rows_after(areas, &mut sums);

@@ -11,8 +11,8 @@ pub struct Presence<'a> {
 }
 
 impl Presence<'_> {
-    // How many rows there are. The length changes nothing, but of a bound that it sees to be a power of two the
-    // compiler makes a shift in each turn of a loop, and does not vectorise it.
+    // How many rows there are. The minimum changes nothing: it keeps from the compiler that the bound is a power of
+    // two, of which it would make a shift in each turn of a loop, and not vectorise it.
     #[tactic(auto, using(crate::proofs::Places::masks_le))]
     pub fn row_count(&self) -> usize
         ensures value { result ≡ 2 ^ self.now.n }

@@ -16,6 +16,9 @@ pub type Rows = ArrayVec<usize, 1024>;
 // and the next takes its place if its row is absent: nothing waits for the test. Tried and slower, of whole calls: a
 // list with a push for each present row (by a sixth at 300 rows), a list made of the full array and cut (by two fifths
 // at 20 rows).
+// `exclusive_gradients` has this loop with another test. One function that is handed the test would be public, and ask
+// of its caller that the test may be called, where no public function here asks anything; one for a single row would
+// test each time that there is a place for it.
 fn collect_present(present: &Presence, masks: &mut [usize; 1024]) -> usize
     ensures value { take result masks.new ≡ keep (stands present.now.bytes.now) (tab (λ S. S) (2 ^ present.now.n)) }
     ensures bound { result ≤ 1024 }
@@ -29,7 +32,8 @@ fn collect_present(present: &Presence, masks: &mut [usize; 1024]) -> usize
     n
 }
 
-// How many heads each of these rows has, counted once for all numbers of heads.
+// How many heads each of these rows has, counted once for all numbers of heads, and 0 at a place where there is no row:
+// an array and no list, and beside the masks, which are filled without a test.
 fn row_heads(rows: &[usize]) -> [u32; 1024]
     requires { length rows.now ≤ 1024 }
     ensures { result ≡ written (λ i. ones (get_or rows.now i 0)) (length rows.now) (replicate 1024 0) }
@@ -42,7 +46,9 @@ fn row_heads(rows: &[usize]) -> [u32; 1024]
 }
 
 // The present rows: by number of heads, then by mask.
-pub(crate) fn row_order(present: &Presence) -> Rows
+// A turn for each number, as the definition has it, and no `sort_unstable_by_key`: that says a permutation in order,
+// and not which.
+pub fn row_order(present: &Presence) -> Rows
     ensures { result.items ≡ row_order (stands present.now.bytes.now) present.now.n }
 {
     let mut masks = [0usize; 1024];

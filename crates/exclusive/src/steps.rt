@@ -1,5 +1,4 @@
-// What `exclusive_gradients` takes from here: the row order and the subtraction, over any tables. Rests on
-// specs/RowOrder.antt and specs/Entries.antt.
+// The row order and the subtraction over any tables. Rests on specs/RowOrder.antt and specs/Entries.antt.
 ghost use Rattle.std.specs.Prelude.{◌≡◌, cond, [], min, ◌≤◌, eqb, length, OnOk, OnErr};
 ghost use Rattle.masks.specs.Presence.{stands};
 ghost use Rattle.exclusive.specs.RowOrder.{row_order};
@@ -11,7 +10,8 @@ use crate::levels::subtract_levels;
 use crate::presence::Presence;
 use crate::rows::{Rows, row_order};
 
-// The present rows of n heads in row order; none where there are more than ten heads or fewer than 2^n presence bytes.
+// The same order of any presence bytes and any number of heads; no rows where there are more than ten heads or fewer
+// than 2^n bytes.
 pub fn rows_in_order(present: &[u8], n: usize) -> Rows
     ensures { result.items ≡ cond (eqb (rows_answer n (length present.now)) 0) (row_order (stands present.now) n) [] }
 {
@@ -21,8 +21,9 @@ pub fn rows_in_order(present: &[u8], n: usize) -> Rows
     }
 }
 
-// Each area less the sum of what stands for its row's strict supersets, in place, and not yet clamped. Absent rows and
-// what is beyond stay. Refused, for more than ten heads or where a table has fewer than 2^n rows, nothing is written.
+// Each area less the sum of what stands for its row's strict supersets, in place, and not yet clamped. Absent rows
+// stay, and so do numbers beyond the 2^n rows. Refused, for more than ten heads or where a table has fewer than 2^n
+// rows, nothing is written.
 pub fn to_unclamped_areas(present: &[u8], areas: &mut [f64], n: usize) -> Result<(), RowsError>
     ensures value { result ≡ rows_check n (min (length present.now) (length areas.old)) }
     ensures subtracted { OnOk result (Subtracted n (stands present.now) 1 areas.old areas.new) }

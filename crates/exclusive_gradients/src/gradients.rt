@@ -31,15 +31,18 @@ fn keeps(byte: u8, area: f64) -> bool
     byte == 1 && !(area < 0.0)
 }
 
-// "The gradient form only replaces values below 0.0 and then zeroes that gradient row." Absent rows are +0.
+// Document 01: "The gradient form only replaces values below 0.0 and then zeroes that gradient row."
+// Absent rows are +0.
 fn replace_rows(present: &Presence, areas: &mut [f64], gradients: &mut [f64], width: usize)
     requires { (2 ^ present.now.n ≤ length areas.old) × (2 ^ present.now.n * width ≤ length gradients.old) }
     ensures areas_after { let P = present.now in areas.new
         ≡ written (λ S. cond (kept_row P.bytes.now areas.old S) (get_or areas.old S nan) zero64) (2 ^ P.n) areas.old }
     ensures gradients_after { let P = present.now in gradients.new
-        ≡ written (λ x. cond (kept_row P.bytes.now areas.old (x / width)) (get_or gradients.old x nan) zero64) (2 ^ P.n * width) gradients.old }
+        ≡ written (λ x. cond (kept_row P.bytes.now areas.old (x / width)) (get_or gradients.old x nan) zero64)
+        (2 ^ P.n * width) gradients.old }
 {
     let bytes = present.bytes;
+    // By index, and no `chunks_exact_mut`: that asks for a width above 0, and here 0 is allowed.
     for s in 0..present.row_count() {
         if !keeps(bytes[s], areas[s]) {
             areas[s] = 0.0;
@@ -52,6 +55,7 @@ fn replace_rows(present: &Presence, areas: &mut [f64], gradients: &mut [f64], wi
 // The exclusive areas of n heads and their gradients, in place of the areas and gradients of the rows, `width` numbers
 // a gradient. Refused, for more than ten heads or where a table has fewer than 2^n rows or the gradients fewer than 2^n
 // times the width numbers, nothing is written.
+// Areas and gradients are two slices, the gradients one row's numbers after another's, as the C interface lends them.
 pub fn to_exclusive_areas_and_gradients(
     present: &[u8],
     areas: &mut [f64],

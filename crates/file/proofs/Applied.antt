@@ -1,5 +1,5 @@
--- The theorems that `specs/Applied.antt` states: what a step of the reader leaves of the plan, before the plan is handed out and
--- after; then the fold over the bytes, and the book by `edit_taken` of `plan`.
+-- The theorems that `specs/Applied.antt` states: what a step of the reader leaves of the plan, before the plan is
+-- handed out and after; then the fold over the bytes, and the book by `edit_taken` of `plan`.
 use Prim.Native.Nat.{ℕ, suc, ◌-◌, ◌^◌, ◌≤◌}
 use mathlib.Core.Path.{◌≡◌, refl, sym, ap, ◌∙◌, subst}
 use mathlib.Core.List.{List, [], ◌∷◌}
@@ -21,11 +21,15 @@ use Rattle.file.specs.declared.reader.Completed.{Completed}
 use Rattle.file.specs.declared.reader.Completed.TheVariants.{ThePlan, AnEdit}
 use Rattle.file.specs.declared.reader.Reader.{Reader}
 use Rattle.file.specs.declared.reader.Stage.{Stage}
-use Rattle.file.specs.declared.reader.Stage.TheVariants.{AtCount, AtMap, AtByte0, AtByte1, AtByte2, AtByte3, AtEdit, Stopped}
+use Rattle.file.specs.declared.reader.Stage.TheVariants.{AtCount, AtMap, AtByte0, AtByte1, AtByte2, AtByte3, AtEdit}
+use Rattle.file.specs.declared.reader.Stage.TheVariants.{Stopped}
 use Rattle.file.specs.declared.reader.Target.{Target}
 use Rattle.file.specs.declared.reader.Target.TheVariants.{TheBox, HeadAt, EditOf}
-use Rattle.file.specs.File.{Got, got, stop, number32, plan_part, File, ends, gives_plan, gives_edit, edits, then_edits, read_file}
-use Rattle.file.specs.Reader.{count_of, item_of, next_field, start, begin, map_read, plan_put, value_read, to_field, turn, to_head, complete_at, complete, seek, choose, step_at, step, finish, feed, handing, hand, handed_over}
+use Rattle.file.specs.File.{Got, got, stop, number32, plan_part, File, ends, gives_plan, gives_edit, edits, then_edits}
+use Rattle.file.specs.File.{read_file}
+use Rattle.file.specs.Reader.{count_of, item_of, next_field, start, begin, map_read, plan_put, value_read, to_field}
+use Rattle.file.specs.Reader.{turn, to_head, complete_at, complete, seek, choose, step_at, step, finish, feed, handing}
+use Rattle.file.specs.Reader.{hand, handed_over}
 use Rattle.file.specs.Same.{end_of}
 use Rattle.file.specs.Sound.{EditsWithin, FileWithin}
 use Rattle.file.specs.Applied.{plan_after, entries, ReaderPlan, ReaderBook, TakenGives}
@@ -157,7 +161,8 @@ edits_step (Stopped why) r b h = (tt, λ f. refl)
 
 -- ---- the bytes
 
-edits_fed : (s : List ℕ) (r : Reader) (a : Answered) → InEdits r.stage r.target → (feed r s).plan ≡ plan_after r.plan (handed_over r s (ends a))
+edits_fed : (s : List ℕ) (r : Reader) (a : Answered) → InEdits r.stage r.target
+    → (feed r s).plan ≡ plan_after r.plan (handed_over r s (ends a))
 unfolding feed handed_over plan_after
 edits_fed [] r a h = refl
 edits_fed (b ∷ s) r a h =
@@ -170,12 +175,15 @@ LeavesPlan (ends a) q = Unit {0}
 LeavesPlan (gives_plan p f) q = q ≡ plan_after p f
 LeavesPlan (gives_edit e f) q = ⊥
 
-on_handed : (handed : Option Completed) (r : Reader) (s : List ℕ) (a : Answered) → Onward handed r.stage r.target → (InPlan r.stage r.target → LeavesPlan (handed_over r s (ends a)) (feed r s).plan) → LeavesPlan (handing handed r.plan (handed_over r s (ends a))) (feed r s).plan
+on_handed : (handed : Option Completed) (r : Reader) (s : List ℕ) (a : Answered) → Onward handed r.stage r.target
+    → (InPlan r.stage r.target → LeavesPlan (handed_over r s (ends a)) (feed r s).plan)
+    → LeavesPlan (handing handed r.plan (handed_over r s (ends a))) (feed r s).plan
 on_handed None r s a h rest = rest h
 on_handed (Some ThePlan) r s a h rest = edits_fed s r a h
 on_handed (Some (AnEdit e)) r s a h rest = absurd h
 
-plan_fed : (s : List ℕ) (r : Reader) (a : Answered) → InPlan r.stage r.target → LeavesPlan (handed_over r s (ends a)) (feed r s).plan
+plan_fed : (s : List ℕ) (r : Reader) (a : Answered) → InPlan r.stage r.target
+    → LeavesPlan (handed_over r s (ends a)) (feed r s).plan
 unfolding feed handed_over
 plan_fed [] r a h = tt
 plan_fed (b ∷ s) r a h =
@@ -187,7 +195,8 @@ reader_plan s p f e =
 
 -- ---- the book
 
-edits_booked : (lent : Lent) (f : File) (p : Plan) → 2 ^ p.n ≤ lent.rows → Acceptable p → length p.heads ≡ 10 → EditsWithin p f → book p (entries lent f) ≡ plan_after p f
+edits_booked : (lent : Lent) (f : File) (p : Plan) → 2 ^ p.n ≤ lent.rows → Acceptable p → length p.heads ≡ 10
+    → EditsWithin p f → book p (entries lent f) ≡ plan_after p f
 unfolding after entries plan_after
 edits_booked lent (ends a) p enough ok ten within = refl
 edits_booked lent (gives_plan q f) p enough ok ten within = absurd within
@@ -202,7 +211,8 @@ reader_book s p f lent enough e =
 
 -- ---- a taken file
 
-plan_given : (most : ℕ) (g : Got Plan) → end_of (then_edits most g) ≡ taken → (p : Plan) × (f : File) × (then_edits most g ≡ gives_plan p f)
+plan_given : (most : ℕ) (g : Got Plan) → end_of (then_edits most g) ≡ taken
+    → (p : Plan) × (f : File) × (then_edits most g ≡ gives_plan p f)
 unfolding end_of
 plan_given most (got p at s) e = (p, edits most p at s, refl)
 plan_given most (stop r at) e =

@@ -1,4 +1,5 @@
--- The theorems that `specs/Exactly.antt` states: where a field began, by the steps of the reader; and the answer by the first check that fails.
+-- The theorems that `specs/Exactly.antt` states: where a field began, by the steps of the reader; and the answer by the
+-- first check that fails.
 use Prim.Native.Nat.{ℕ, suc, ◌+◌, ◌-◌, ◌^◌, ◌<◌}
 use mathlib.Core.Path.{◌≡◌, refl, sym, ap, ap₂, ◌∙◌, subst}
 use mathlib.Core.Bool.{Bool, true, false, cond, false≢true}
@@ -17,19 +18,25 @@ use Rattle.plan.specs.declared.Refusal.{Refusal}
 use Rattle.plan.specs.declared.Refusal.TheVariants.{Ended}
 use Rattle.plan.specs.Book.{with_head}
 use Rattle.plan.specs.Exactly.{Satisfied}
-use Rattle.plan.specs.Table.{Answered, taken, refused, refusal_at, holds, refusal_of, number_of, answer_number, answer_offset}
+use Rattle.plan.specs.Table.{Answered, taken, refused, refusal_at, holds, refusal_of, number_of, answer_number}
+use Rattle.plan.specs.Table.{answer_offset}
 use Rattle.plan.proofs.Answers.{same_refusal, same_offset}
 use Rattle.plan.proofs.Exactly.{holds_exactly}
 use Rattle.file.specs.declared.reader.Completed.TheVariants.{ThePlan}
 use Rattle.file.specs.declared.reader.Reader.{Reader}
 use Rattle.file.specs.declared.reader.Stage.{Stage}
-use Rattle.file.specs.declared.reader.Stage.TheVariants.{AtCount, AtMap, AtByte0, AtByte1, AtByte2, AtByte3, AtEdit, Stopped}
+use Rattle.file.specs.declared.reader.Stage.TheVariants.{AtCount, AtMap, AtByte0, AtByte1, AtByte2, AtByte3, AtEdit}
+use Rattle.file.specs.declared.reader.Stage.TheVariants.{Stopped}
 use Rattle.file.specs.declared.reader.Target.{Target}
 use Rattle.file.specs.declared.reader.Target.TheVariants.{TheBox, HeadAt, EditOf}
 use Rattle.file.specs.File.{next_offset, number32, read_file}
-use Rattle.file.specs.Reader.{count_of, item_of, next_field, start, goes_on, check_or, begin, map_read, value_read, to_field, turn, to_head, complete_at, complete, seek, choose, step_at, step, finished_at, feed}
+use Rattle.file.specs.Reader.{count_of, item_of, next_field, start, goes_on, check_or, begin, map_read, value_read}
+use Rattle.file.specs.Reader.{to_field, turn, to_head, complete_at, complete, seek, choose, step_at, step, finished_at}
+use Rattle.file.specs.Reader.{feed}
 use Rattle.file.specs.Same.{end_of}
-use Rattle.file.specs.Exactly.{Check, check_of, checks_at, checks_of, checks, PlacedAt, ChecksPlaced, AllPassed, FirstFails, Wanted, FileTaken, FileEnded, FileRefused, FirstNumbered, FileNumber, FileSevenNever}
+use Rattle.file.specs.Exactly.{Check, check_of, checks_at, checks_of, checks, PlacedAt, ChecksPlaced, AllPassed}
+use Rattle.file.specs.Exactly.{FirstFails, Wanted, FileTaken, FileEnded, FileRefused, FirstNumbered, FileNumber}
+use Rattle.file.specs.Exactly.{FileSevenNever}
 use Rattle.file.proofs.Offsets.{fed_at, ended_at}
 use Rattle.file.proofs.Reading.{by_test, checked}
 use Rattle.file.proofs.Same.{reader_answers}
@@ -69,7 +76,8 @@ sought_began r i =
 step_began : (stage : Stage) (r : Reader) (b : ℕ) → Began stage r.from r.at → BeganAt (step_at stage r b)
 unfolding step_at
 step_began AtCount r b k = checked BeganAt (Count b) r.at r (begin r b) tt tt
-step_began AtMap r b k = checked BeganAt (Map (count_of r.target) b) r.at r (seek (map_read r b) 0) (sought_began (map_read r b) 0) tt
+step_began AtMap r b k =
+    checked BeganAt (Map (count_of r.target) b) r.at r (seek (map_read r b) 0) (sought_began (map_read r b) 0) tt
 step_began AtByte0 r b k = ap next_offset k
 step_began (AtByte1 a) r b k = ap next_offset k
 step_began (AtByte2 a a') r b k = ap next_offset k
@@ -103,7 +111,8 @@ placed_at AtMap r b k e h g = (e, tt)
 placed_at AtByte0 r b k e h g = tt
 placed_at (AtByte1 a) r b k e h g = tt
 placed_at (AtByte2 a a') r b k e h g = tt
-placed_at (AtByte3 a a' a'') r b k e h g = (field_placed r.target r.field (number32 a a' a'' b) k r.from (omega arith), tt)
+placed_at (AtByte3 a a' a'') r b k e h g =
+    (field_placed r.target r.field (number32 a a' a'' b) k r.from (omega arith), tt)
 placed_at AtEdit r b k e h g = (e, tt)
 placed_at (Stopped why) r b k e h g = tt
 
@@ -117,21 +126,27 @@ checks_placed s b h =
 -- ---- the reader stops exactly at the first check that fails
 
 -- a check that is passed, and one that is not
-passed : (P : Reader → Type 0) (item : Item) (from : ℕ) (r next : Reader) → Satisfied item → P next → P (check_or item from r next)
-passed P item from r next s k = subst (λ t. P (goes_on (cond t taken (refused (refusal_of item) from)) r next)) (sym ((holds_exactly item).1 s)) k
+passed : (P : Reader → Type 0) (item : Item) (from : ℕ) (r next : Reader) → Satisfied item → P next
+    → P (check_or item from r next)
+passed P item from r next s k =
+    subst (λ t. P (goes_on (cond t taken (refused (refusal_of item) from)) r next)) (sym ((holds_exactly item).1 s)) k
 
-failed : (item : Item) (from : ℕ) (r next : Reader) → ¬ Satisfied item → (check_or item from r next).stage ≡ Stopped (refusal_at (refusal_of item) from)
+failed : (item : Item) (from : ℕ) (r next : Reader) → ¬ Satisfied item
+    → (check_or item from r next).stage ≡ Stopped (refusal_at (refusal_of item) from)
 failed item from r next s = go (holds item) refl
   where
-    go : (t : Bool) → holds item ≡ t → (goes_on (cond t taken (refused (refusal_of item) from)) r next).stage ≡ Stopped (refusal_at (refusal_of item) from)
+    go : (t : Bool) → holds item ≡ t
+        → (goes_on (cond t taken (refused (refusal_of item) from)) r next).stage ≡ Stopped (refusal_at (refusal_of item) from)
     go true e = absurd (s ((holds_exactly item).0 e))
     go false e = refl
 
-stopped_step : (r : Reader) (b : ℕ) (refusal : Refusal) (o : ℕ) (stage : Stage) → stage ≡ Stopped (refusal_at refusal o) → (step_at stage r b).stage ≡ Stopped (refusal_at refusal o)
+stopped_step : (r : Reader) (b : ℕ) (refusal : Refusal) (o : ℕ) (stage : Stage) → stage ≡ Stopped (refusal_at refusal o)
+    → (step_at stage r b).stage ≡ Stopped (refusal_at refusal o)
 unfolding step_at
 stopped_step r b refusal o stage e = subst (λ t. (step_at t r b).stage ≡ Stopped (refusal_at refusal o)) (sym e) refl
 
-stays_stopped : (s : List ℕ) (r : Reader) (refusal : Refusal) (o : ℕ) → r.stage ≡ Stopped (refusal_at refusal o) → (feed r s).stage ≡ Stopped (refusal_at refusal o)
+stays_stopped : (s : List ℕ) (r : Reader) (refusal : Refusal) (o : ℕ) → r.stage ≡ Stopped (refusal_at refusal o)
+    → (feed r s).stage ≡ Stopped (refusal_at refusal o)
 unfolding feed
 stays_stopped [] r refusal o e = e
 stays_stopped (b ∷ s) r refusal o e = stays_stopped s (step r b) refusal o (stopped_step r b refusal o r.stage e)
@@ -161,7 +176,8 @@ module _ (refusal : Refusal) (o : ℕ) where
   fails_at AtEdit r b s rest u = one_fails (HeadNumber b r.plan.n) r.at r (choose r b) s rest u
   fails_at (Stopped why) r b s rest u = rest u
 
-  fails_stop : (s : List ℕ) (r : Reader) → FirstFails refusal o (checks r s) → (feed r s).stage ≡ Stopped (refusal_at refusal o)
+  fails_stop : (s : List ℕ) (r : Reader) → FirstFails refusal o (checks r s)
+      → (feed r s).stage ≡ Stopped (refusal_at refusal o)
   unfolding feed checks
   fails_stop [] r u = absurd u
   fails_stop (b ∷ s) r u = fails_at r.stage r b s (fails_stop s (step r b)) u
@@ -233,7 +249,8 @@ decided (c ∷ cs) = go (holds c.item) refl (decided cs)
     go : (t : Bool) → holds c.item ≡ t → AllPassed cs ⊎ SomeFails cs → AllPassed (c ∷ cs) ⊎ SomeFails (c ∷ cs)
     go true e (inl rest) = inl ((holds_exactly c.item).0 e, rest)
     go true e (inr rest) = inr (rest.0, rest.1, inr ((holds_exactly c.item).0 e, rest.2))
-    go false e rest = inr (refusal_of c.item, c.offset, inl ((λ s. false≢true (sym e ∙ (holds_exactly c.item).1 s)), refl, refl))
+    go false e rest =
+        inr (refusal_of c.item, c.offset, inl ((λ s. false≢true (sym e ∙ (holds_exactly c.item).1 s)), refl, refl))
 
 -- no check is refused under 1 or 7
 abbrev Kinds : Item → Type 0
@@ -293,7 +310,8 @@ module _ (s : List ℕ) where
   running_taken AtEdit at e = refl
   running_taken (Stopped why) at e = absurd (refused_taken why.refusal why.at e)
 
-  running_wanted : (stage : Stage) (at : ℕ) (r : Refusal) (o : ℕ) → Running stage → finished_at stage at ≡ refused r o → Wanted stage × (r ≡ Ended)
+  running_wanted : (stage : Stage) (at : ℕ) (r : Refusal) (o : ℕ) → Running stage → finished_at stage at ≡ refused r o
+      → Wanted stage × (r ≡ Ended)
   running_wanted AtCount at r o k e = (tt, sym (same_refusal e))
   running_wanted AtMap at r o k e = (tt, sym (same_refusal e))
   running_wanted AtByte0 at r o k e = (tt, sym (same_refusal e))
@@ -314,7 +332,8 @@ module _ (s : List ℕ) where
   wanted_ended (Stopped why) at k = absurd k
 
   -- an answer where some check fails is that check's
-  the_failing : (r : Refusal) (o : ℕ) → end_of (read_file s) ≡ refused r o → SomeFails (checks start s) → FirstFails r o (checks start s)
+  the_failing : (r : Refusal) (o : ℕ) → end_of (read_file s) ≡ refused r o → SomeFails (checks start s)
+      → FirstFails r o (checks start s)
   the_failing r o e u =
       let same : refused u.0 u.1 ≡ refused r o = sym (failing u.0 u.1 u.2) ∙ e in
       let refusal : u.0 ≡ r = same_refusal same in
@@ -370,13 +389,15 @@ from_number k o (c ∷ cs) u =
 pub file_number : FileNumber
 file_number s k o h = ((λ q. given (end_of (read_file s)) refl q.0 q.1), found)
   where
-    given : (a : Answered) → end_of (read_file s) ≡ a → answer_number a ≡ k → answer_offset a ≡ o → FirstNumbered k o (checks start s)
+    given : (a : Answered) → end_of (read_file s) ≡ a → answer_number a ≡ k → answer_offset a ≡ o
+        → FirstNumbered k o (checks start s)
     given (Ok done) e n at = absurd (omega (arith, n))
     given (Err r) e n at =
         let first = (file_refused s r.refusal r.at (λ q. let is = ap number_of q in omega (arith, is, n))).0 e in
         subst (λ i. FirstNumbered i o (checks start s)) n (subst (λ i. FirstNumbered (number_of r.refusal) i (checks start s)) at (to_number r.refusal r.at (checks start s) first))
 
-    found : FirstNumbered k o (checks start s) → (answer_number (end_of (read_file s)) ≡ k) × (answer_offset (end_of (read_file s)) ≡ o)
+    found : FirstNumbered k o (checks start s)
+        → (answer_number (end_of (read_file s)) ≡ k) × (answer_offset (end_of (read_file s)) ≡ o)
     found u =
         let r = from_number k o (checks start s) u in
         let is = (file_refused s r.0 o (λ q. let one = ap number_of q in omega (arith, one, r.1))).1 r.2 in

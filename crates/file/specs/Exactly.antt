@@ -1,6 +1,6 @@
--- When a plan file is taken and when each refusal and offset is given: both directions, so that nothing is refused without cause. The checks that
--- the bytes of a file complete are listed in reading order, each with the offset that its refusal has; the first that fails gives the answer.
--- Proved under the names in lower case, `proofs/Exactly.antt`.
+-- When a plan file is taken and when each refusal and offset is given: both directions, so that nothing is refused
+-- without cause. The checks that the bytes of a file complete are listed in reading order, each with the offset that
+-- its refusal has; the first that fails gives the answer. Proved under the names in lower case, `proofs/Exactly.antt`.
 use Rattle.std.specs.Prelude.{ℕ, ◌+◌, ◌-◌, ◌^◌, ◌<◌, min, ◌≡◌, List, [], ◌∷◌, ◌++◌, ◌↔◌, ◌⊎◌, length}
 use Rattle.lists.specs.Every.{Every}
 use Rattle.plan.specs.declared.Item.{Item}
@@ -11,7 +11,8 @@ use Rattle.plan.specs.Exactly.{Satisfied}
 use Rattle.plan.specs.Table.{taken, refused, answer_number, answer_offset, number_of, refusal_of}
 use Rattle.file.specs.declared.reader.Reader.{Reader}
 use Rattle.file.specs.declared.reader.Stage.{Stage}
-use Rattle.file.specs.declared.reader.Stage.TheVariants.{AtCount, AtMap, AtByte0, AtByte1, AtByte2, AtByte3, AtEdit, Stopped}
+use Rattle.file.specs.declared.reader.Stage.TheVariants.{AtCount, AtMap, AtByte0, AtByte1, AtByte2, AtByte3, AtEdit}
+use Rattle.file.specs.declared.reader.Stage.TheVariants.{Stopped}
 use Rattle.file.specs.File.{number32, read_file}
 use Rattle.file.specs.Reader.{count_of, item_of, start, step, feed}
 use Rattle.file.specs.Same.{end_of}
@@ -26,7 +27,8 @@ pub record Check : Type 0 where
 abbrev pub check_of : Item → ℕ → Check
 check_of item offset = record { item = item; offset = offset }
 
--- What a byte completes: the number of heads, a map, an edit's head number, or a field, of which it is then the last byte.
+-- What a byte completes: the number of heads, a map, an edit's head number, or a field, of which it is then the last
+-- byte.
 abbrev pub checks_at : Stage → Reader → ℕ → List Check
 checks_at AtCount r b = check_of (Count b) r.at ∷ []
 checks_at AtMap r b = check_of (Map (count_of r.target) b) r.at ∷ []
@@ -55,8 +57,8 @@ PlacedAt k (Radius z) offset = offset + 3 ≡ k
 PlacedAt k (HeadNumber head n) offset = offset ≡ k
 PlacedAt k (Tables needed lent) offset = ⊥
 
--- Every check of a file has its place's offset; lent tables are none of them. An offset is a u64 that stays at its largest value, so the file is shorter
--- than that.
+-- Every check of a file has its place's offset; lent tables are none of them. An offset is a u64 that stays at its
+-- largest value, so the file is shorter than that.
 abbrev pub ChecksPlaced : Type 0
 ChecksPlaced = (s : List ℕ) (b : ℕ) → length s < 2 ^ 64 - 1 → Every (λ c. PlacedAt (length s) c.item c.offset) (checks_of (feed start s) b)
 
@@ -69,7 +71,8 @@ AllPassed cs = Every (λ c. Satisfied c.item) cs
 -- the first check that is not passed has this refusal and this offset
 abbrev pub FirstFails : Refusal → ℕ → List Check → Type 0
 FirstFails r o [] = ⊥
-FirstFails r o (c ∷ cs) = (¬ Satisfied c.item × (refusal_of c.item ≡ r) × (c.offset ≡ o)) ⊎ (Satisfied c.item × FirstFails r o cs)
+FirstFails r o (c ∷ cs) =
+    (¬ Satisfied c.item × (refusal_of c.item ≡ r) × (c.offset ≡ o)) ⊎ (Satisfied c.item × FirstFails r o cs)
 
 -- a byte is wanted: the file must not end here
 abbrev pub Wanted : Stage → Type 0
@@ -84,7 +87,8 @@ Wanted (Stopped why) = ⊥
 
 -- taken: every check is passed, and the file ends where an edit could begin
 abbrev pub FileTaken : Type 0
-FileTaken = (s : List ℕ) → (end_of (read_file s) ≡ taken) ↔ (AllPassed (checks start s) × ((feed start s).stage ≡ AtEdit))
+FileTaken =
+    (s : List ℕ) → (end_of (read_file s) ≡ taken) ↔ (AllPassed (checks start s) × ((feed start s).stage ≡ AtEdit))
 
 -- 1: every check is passed, and the file ends where a byte is wanted; the offset is the file's length
 abbrev pub FileEnded : Type 0
@@ -101,7 +105,8 @@ FirstNumbered k o [] = ⊥
 FirstNumbered k o (c ∷ cs) =
     (¬ Satisfied c.item × (number_of (refusal_of c.item) ≡ k) × (c.offset ≡ o)) ⊎ (Satisfied c.item × FirstNumbered k o cs)
 
--- The same by document 01's numbers: k, beyond 1, with the offset o is given exactly if the first check that is not passed has both.
+-- The same by document 01's numbers: k, beyond 1, with the offset o is given exactly if the first check that is not
+-- passed has both.
 abbrev pub FileNumber : Type 0
 FileNumber = (s : List ℕ) (k o : ℕ) → 1 < k
     → ((answer_number (end_of (read_file s)) ≡ k) × (answer_offset (end_of (read_file s)) ≡ o)) ↔ FirstNumbered k o (checks start s)

@@ -24,7 +24,7 @@ use Rattle.exact.specs.Points.{Placed, AllPlaced, Off, AllOff}
 use Rattle.exact.proofs.Theorem.{stays_bounded}
 use Rattle.intersections.specs.declared.points.IntersectionPoint.{IntersectionPoint}
 use Rattle.intersections.specs.Counts.{heads_below}
-use Rattle.intersections.specs.Members.{no_circle, circle_at, counted_for, heads_of, points_for, points_held, member_at, members_of}
+use Rattle.intersections.specs.Members.{no_circle, circle_at, has_parent, counted_for, heads_of, points_for, points_held, member_at, members_of}
 use Rattle.intersections.specs.Points.{with_adopters, pair_points, later_points, collected}
 use Rattle.plan.specs.Limits.{Acceptable}
 use Rattle.plan.specs.declared.Plan.{Plan}
@@ -67,7 +67,7 @@ module _ (cs : List Circle)
 
   -- a point counted for a set at a head has that head for a parent
   at_parent : (S j : ℕ) (q : IntersectionPoint) → OfParents q → counted_for S j q ≡ true → Placed q.point × Off (circle_at cs j).center q.point
-  unfolding counted_for
+  unfolding counted_for has_parent
   at_parent S j q h e = by (eqb q.first j) (eqb q.second j) refl refl (and_both (eqb q.first j || eqb q.second j) (subset 64 S q.adopters) e).0
     where
       by : (a b : Bool) → eqb q.first j ≡ a → eqb q.second j ≡ b → (a || b) ≡ true → Placed q.point × Off (circle_at cs j).center q.point

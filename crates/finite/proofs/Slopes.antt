@@ -22,12 +22,14 @@ use Rattle.lists.specs.Every.{Every, every_map, every_at, every_replicate}
 use Rattle.intersections.specs.Members.{circles_of, no_circle}
 use Rattle.boundary.specs.Outline.{outline}
 use Rattle.outline.specs.Area.{add_at, sub_at}
-use Rattle.clip.specs.declared.edges.Edge.{Edge}
+use Rattle.inside.specs.declared.edges.BoxEdge.{BoxEdge}
+use Rattle.inside.specs.declared.edges.BoxEdge.TheVariants.{Bottom, Right, Top, Left}
+use Rattle.inside.specs.Edges.{is_upright, is_outward}
 use Rattle.inside.specs.Breaks.{breaks}
 use Rattle.inside.specs.Parts.{summed}
 use Rattle.inside.specs.Span.{Interval}
 use Rattle.clip.specs.Area.{empty_box}
-use Rattle.clip.specs.Gradient.{WithGradient, with_gradient, sub_arc_by_differences, part_slopes, sub_arc_with_gradient, add_part_with_gradient, clipped_arc_integral_with_gradient, add_clipped_arc_with_gradient, add_clipped_arcs_with_gradient, moved, edge_slopes, add_span_with_gradient, bottom_edge, right_edge, top_edge, left_edge, add_edges_with_gradient, clipped_with_gradient, clipped_onto, clipped_gradient}
+use Rattle.clip.specs.Gradient.{WithGradient, with_gradient, sub_arc_by_differences, part_slopes, sub_arc_with_gradient, add_part_with_gradient, clipped_arc_integral_with_gradient, add_clipped_arc_with_gradient, add_clipped_arcs_with_gradient, moved, edge_slopes, add_span_with_gradient, add_edges_with_gradient, clipped_with_gradient, clipped_onto, clipped_gradient}
 use Rattle.finite.specs.Arcs.{ShortArc}
 use Rattle.finite.specs.Open.{InDomain}
 use Rattle.finite.specs.Clipped.{BoxInDomain, GradientMost, ClippedGradientFinite, GradientClippedFinite}
@@ -141,29 +143,29 @@ moved_most true j k g i x e h room = entry_add j k g i x e h room
 moved_most false j k g i x e h room = entry_sub j k g i x e h room
 
 -- an edge adds its span to one entry and a quarter of the side across times it to two
-edge_slopes_most : (e : Edge) (at k : ℕ) (l : Float) (g : List Float) → Most 80000 1074 e.across → Most 171072 1074 l → Every (Most k 1074) g
-    → k + 6843051072 ≤ 2 ^ 53 → Every (Most (k + 6843051072) 1074) (edge_slopes e at l g)
+edge_slopes_most : (e : BoxEdge) (across : Float) (at k : ℕ) (l : Float) (g : List Float) → Most 80000 1074 across → Most 171072 1074 l → Every (Most k 1074) g
+    → k + 6843051072 ≤ 2 ^ 53 → Every (Most (k + 6843051072) 1074) (edge_slopes e across at l g)
 unfolding edge_slopes
-edge_slopes_most e at k l g ha hl h room =
-    let share = e.across /ᶠ four64 *ᶠ l in
+edge_slopes_most e across at k l g ha hl h room =
+    let share = across /ᶠ four64 *ᶠ l in
     let most = mul_most (div_most ha four_least 20000 1074 refl (lit≤ tt) (lit≤ tt) (lit≤ tt) (lit≤ tt)) hl 1074 refl (lit≤ tt) (lit≤ tt) in
-    let centre = moved e.outward g (cond e.upright at (at + 1)) l in
+    let centre = moved (is_outward e) g (cond (is_upright e) at (at + 1)) l in
     let size = add_at centre (at + 2) share in
-    let first = moved_most e.outward k 171072 g (cond e.upright at (at + 1)) l h hl (omega arith) in
+    let first = moved_most (is_outward e) k 171072 g (cond (is_upright e) at (at + 1)) l h hl (omega arith) in
     let second = entry_add (k + 171072) 3421440000 centre (at + 2) share first most (omega arith) in
-    let third = moved_most e.upright (k + 171072 + 3421440000) 3421440000 size (at + 3) share second most (omega arith) in
-    entries_weaken (moved e.upright size (at + 3) share) third (omega arith)
+    let third = moved_most (is_upright e) (k + 171072 + 3421440000) 3421440000 size (at + 3) share second most (omega arith) in
+    entries_weaken (moved (is_upright e) size (at + 3) share) third (omega arith)
 
-span_both : (e : Edge) (at j k : ℕ) {s : WithGradient} (l : List Interval) → Most 40000 1074 e.factor → Most 80000 1074 e.across
+span_both : (e : BoxEdge) {factor across : Float} (at j k : ℕ) {s : WithGradient} (l : List Interval) → Most 40000 1074 factor → Most 80000 1074 across
     → GradientMost j k s → OneShort l → j + 6842880000 ≤ 2 ^ 53 → k + 6843051072 ≤ 2 ^ 53
-    → GradientMost (j + 6842880000) (k + 6843051072) (add_span_with_gradient e at s l)
+    → GradientMost (j + 6842880000) (k + 6843051072) (add_span_with_gradient e factor across at s l)
 unfolding add_span_with_gradient OneShort
 span_both e at j k [] hf ha h short roomj roomk = gradient_weaken h (omega arith) (omega arith)
-span_both e at j k {s} (i ∷ rest) hf ha h short roomj roomk =
+span_both e {factor} {across} at j k {s} (i ∷ rest) hf ha h short roomj roomk =
     rw short.1
     record {
       sum = add_most h.sum (mul_most hf short.0 1074 refl (lit≤ tt) (lit≤ tt)) roomj (lit≤ tt);
-      entries = edge_slopes_most e at k (i.high -ᶠ i.low) s.grad ha short.0 h.entries roomk;
+      entries = edge_slopes_most e across at k (i.high -ᶠ i.low) s.grad ha short.0 h.entries roomk;
     }
 
 -- the four edges add at most 27,371,520,000 to the sum and 27,372,204,288 to an entry
@@ -174,10 +176,10 @@ edges_both box cs at j k s b d h roomj roomk =
     let short = edges_short box cs b d in
     let wide = sub_most b.x-max b.x-min (lit≤ tt) (lit≤ tt) in
     let high = sub_most b.y-max b.y-min (lit≤ tt) (lit≤ tt) in
-    let bottom = span_both (bottom_edge box) at j k _ (neg_most b.y-min) high h short.bottom (omega arith) (omega arith) in
-    let right = span_both (right_edge box) at (j + 6842880000) (k + 6843051072) _ b.x-max wide bottom short.right (omega arith) (omega arith) in
-    let top = span_both (top_edge box) at (j + 6842880000 + 6842880000) (k + 6843051072 + 6843051072) _ b.y-max high right short.top (omega arith) (omega arith) in
-    let left = span_both (left_edge box) at (j + 6842880000 + 6842880000 + 6842880000) (k + 6843051072 + 6843051072 + 6843051072) _ (neg_most b.x-min) wide top short.left (omega arith) (omega arith) in
+    let bottom = span_both Bottom at j k _ (neg_most b.y-min) high h short.bottom (omega arith) (omega arith) in
+    let right = span_both Right at (j + 6842880000) (k + 6843051072) _ b.x-max wide bottom short.right (omega arith) (omega arith) in
+    let top = span_both Top at (j + 6842880000 + 6842880000) (k + 6843051072 + 6843051072) _ b.y-max high right short.top (omega arith) (omega arith) in
+    let left = span_both Left at (j + 6842880000 + 6842880000 + 6842880000) (k + 6843051072 + 6843051072 + 6843051072) _ (neg_most b.x-min) wide top short.left (omega arith) (omega arith) in
     gradient_weaken left (omega arith) (omega arith)
 
 -- ---- the area with its gradient

@@ -1,18 +1,17 @@
 -- Laws of what is held of the heads: how many marks a head has, and what is held of each; and each list as the code's
 -- loops fill it.
-use mathlib.Core.Path.{◌≡◌, refl, sym, ap, ◌∙◌}
+use mathlib.Core.Path.{◌≡◌, refl, sym, ap, ap₂, ◌∙◌}
 use mathlib.Core.Bool.{Bool, true, false, cond}
 use mathlib.Core.List.{List, [], ◌∷◌, ◌++◌, map, map-append, append-nil}
 use Prim.Native.Nat.{ℕ, ◌+◌, ◌/◌, ◌^◌, ◌≤◌, ◌<◌}
+use native.Mathlib.Nat.{le_refl}
 use native.Mathlib.Numerals.{add-one}
 use native.Mathlib.Omega.{arith}
 use lib.Bits.{bit_and}
 use lib.Dec.{ltb}
-use borrow.Author.Tests.{lt-ltb, le-ltb, eq-eqb, ne_eqb}
+use borrow.Author.Tests.{lt-ltb, ltb-true, ltb-false, eq-eqb, ne_eqb}
 use lib.ListN.{length, get_or, set, take, length-map, length-take}
 use lib.Seq.{take_all, take-suc}
-use Rattle.std.specs.Array.{AllOfLen}
-use Rattle.std.proofs.lemmas.List.{ext_get_or}
 use Rattle.std.specs.List.{filter}
 use Rattle.masks.specs.Mask.{in_set}
 use Rattle.masks.specs.Operations.{in_by_shift}
@@ -20,19 +19,20 @@ use Rattle.lists.specs.Lists.{keep}
 use Rattle.lists.proofs.Lists.{keep_push}
 use Rattle.lists.proofs.Listing.{take_push}
 use Rattle.lists.specs.Written.{tab, written}
-use Rattle.lists.proofs.Writing.{written_none, write_next, written_on, written_whole, length_tab, get_d_tab}
+use Rattle.lists.proofs.Writing.{written_none, write_next, written_before, written_past, written_whole}
+use Rattle.lists.proofs.Writing.{length_tab, get_d_tab}
 use Rattle.geometry.specs.declared.circle.Circle.{Circle}
 use Rattle.intersections.specs.declared.points.IntersectionPoint.{IntersectionPoint}
-use Rattle.intersections.specs.Members.{no_point, points_held}
+use Rattle.intersections.specs.Members.{has_parent, no_point, points_held}
 use Rattle.boundary.specs.declared.sort.Mark.{Mark}
-use Rattle.boundary.specs.Marks.{mark, insert_mark}
+use Rattle.boundary.specs.Marks.{mark, no_mark, insert_mark}
 use Rattle.boundary.specs.Outline.{angle_about}
 use Rattle.boundary.specs.Sort.{sort_onto_by, sorted_by}
 use Rattle.boundary.proofs.Sorting.{sorted_length}
 use Rattle.gaps.proofs.Next.{next_is, next_less}
 use Rattle.gaps.specs.declared.marks.HeadMarks.{HeadMarks}
 use Rattle.gaps.specs.Gaps.{next_of}
-use Rattle.gaps.specs.Marks.{has_parent, mark_of, marks_at, Few, gap_letters, phi_at, lets_at}
+use Rattle.gaps.specs.Marks.{mark_of, marks_at, Few, gap_letters, phi_at, lets_at, let_at, marks_let}
 use Rattle.gaps.specs.Marks.{head_marked, unmarked, heads_marked}
 
 -- the library's filter
@@ -126,50 +126,50 @@ marks_whole circles points few c j h = rw (take_all points_held (keep (has_paren
 -- ---- the gaps one after another
 
 module _ (circles : List Circle) (j : ℕ) (marks : List Mark) where
-  abbrev zeros : List ℕ
-  zeros = tab (λ i. 0) points_held
+  -- those before i have who lets the head have them
+  pub let_to : ℕ → List Mark
+  let_to i = written (let_at circles j marks) i marks
 
-  zeros_many : length zeros ≡ 32
-  zeros_many = length_tab (λ i. 0) 32
+  pub let_none : marks ≡ let_to 0
+  unfolding let_to
+  let_none = written_none (let_at circles j marks) marks
 
-  -- those before i are written
-  pub lets_to : ℕ → List ℕ
-  lets_to i = written (lets_at circles j marks) i zeros
+  -- they keep their angles
+  phi_kept : (i k : ℕ) → phi_at (let_to i) k ≡ phi_at marks k
+  unfolding let_to let_at
+  phi_kept i k = by (ltb k i) refl
+    where
+      by : (b : Bool) → ltb k i ≡ b → phi_at (let_to i) k ≡ phi_at marks k
+      by true e = ap (λ m. m.phi) (written_before (let_at circles j marks) i k marks no_mark (ltb-true k i e))
+      by false e = ap (λ m. m.phi) (written_past (let_at circles j marks) i k marks no_mark (ltb-false k i e))
 
-  pub lets_none : zeros ≡ lets_to 0
-  unfolding lets_to
-  lets_none = written_none (lets_at circles j marks) zeros
+  pub let_next : {l : List Mark} {v : ℕ} (i : ℕ) → l ≡ let_to i → i < length marks
+      → v ≡ gap_letters circles j (phi_at l i) (phi_at l (next_of i (length marks)))
+      → let m = get_or l i no_mark in
+      set l i (record { phi = m.phi; adopters = m.adopters; lets = v }) ≡ let_to (i + 1)
+  unfolding let_to let_at lets_at
+  let_next {l} {v} i e h g =
+      let here = ap (λ l. get_or l i no_mark) e
+      ∙ written_past (let_at circles j marks) i i marks no_mark (le_refl i) in
+      let lets = g
+      ∙ ap (λ (l : List Mark). gap_letters circles j (phi_at l i) (phi_at l (next_of i (length marks)))) e
+      ∙ ap₂ (gap_letters circles j) (phi_kept i i) (phi_kept i (next_of i (length marks))) in
+      ap (λ t. set t i (record { phi = (get_or l i no_mark).phi; adopters = (get_or l i no_mark).adopters; lets = v })) e
+      ∙ write_next (let_at circles j marks) i marks _ no_mark h
+      (rw (here, lets, lt-ltb i (length marks) h, next_is i (length marks) h) refl)
 
-  pub lets_next : (i : ℕ) → i < length marks → length marks ≤ 32
-      → set (lets_to i) i (gap_letters circles j (phi_at marks i) (phi_at marks (next_of i (length marks))))
-      ≡ lets_to (i + 1)
-  unfolding lets_to lets_at
-  lets_next i h few =
-      write_next (lets_at circles j marks) i zeros _ 0 (omega (arith, zeros_many))
-      (rw (lt-ltb i (length marks) h, next_is i (length marks) h) refl)
+  pub let_all : (i : ℕ) → i ≡ length marks → let_to i ≡ marks_let circles j marks
+  unfolding let_to marks_let
+  let_all i e = written_whole (let_at circles j marks) i (length marks) marks e refl
 
-  -- those past the last stay nobody
-  pub lets_all : (i : ℕ) → length marks ≤ i → i ≤ 32 → lets_to i ≡ tab (lets_at circles j marks) 32
-  unfolding lets_to lets_at
-  lets_all i past few =
-      written_on (lets_at circles j marks) i 32 zeros 0 few (omega (arith, zeros_many))
-      (λ k h g. rw (le-ltb k (length marks) (omega arith), get_d_tab {A = ℕ} (λ i. 0) 32 k 0 g))
-      ∙ written_whole (lets_at circles j marks) 32 32 zeros refl zeros_many
-
-pub ruleset letting = (lets_none, lets_next, lets_all, next_less)
+pub ruleset letting = (let_none, let_next, let_all, next_less)
 
 -- ---- what is held of each head
 
 -- the default is of a head that no set needs
-pub unmarked_is : (items : List Mark) (lets : List ℕ) (owners : ℕ)
-    → items ≡ [] → AllOfLen (λ x. x ≡ 0) lets 32 → owners ≡ 0
-    → ◌≡◌ {A = HeadMarks} (record { marks = record { items = items }; lets = lets; owners = owners }) unmarked
-unmarked_is items lets owners e z f = rw (e, zero, f) refl
-  where
-    zero : lets ≡ tab (λ i. 0) points_held
-    zero =
-        ext_get_or 0 lets (tab (λ i. 0) 32) (z.long ∙ sym (length_tab (λ i. 0) 32))
-        (λ i h. let k : i < 32 = omega (arith, z.long) in z.at i 0 k ∙ sym (get_d_tab (λ i. 0) 32 i 0 k))
+pub unmarked_is : {items : List Mark} {owners : ℕ} → items ≡ [] → owners ≡ 0
+    → ◌≡◌ {A = HeadMarks} (record { marks = record { items = items }; owners = owners }) unmarked
+unmarked_is e f = rw (e, f) refl
 
 module _ (circles : List Circle) (points : List IntersectionPoint) (needed : ℕ) where
   -- one of each head
@@ -216,4 +216,4 @@ module _ (circles : List Circle) (points : List IntersectionPoint) (needed : ℕ
   unfolding heads_to heads_marked
   heads_all j e = rw e refl
 
-pub ruleset heading = (heads_none, heads_few, heads_with, heads_without, heads_all, unmarked_is)
+pub ruleset heading = (heads_none, heads_few, heads_with, heads_without, heads_all)

@@ -2,16 +2,15 @@
 use mathlib.Core.Path.{◌≡◌, refl, sym, subst}
 use mathlib.Core.Bool.{Bool, true, false, cond}
 use mathlib.Core.List.{List}
-use Prim.Native.Nat.{ℕ, ◌+◌, ◌*◌, ◌^◌, ◌<◌}
+use Prim.Native.Nat.{ℕ, ◌+◌, ◌*◌, ◌<◌}
 use borrow.Author.Tests.{lt-ltb, eq-eqb, ne_eqb, eqb-true, eqb-false}
-use lib.Bits.{bit_and}
 use lib.Dec.{eqb}
 use lib.ListN.{length, get_or}
 use Rattle.std.specs.Prelude.{Option, None, Some}
 use Rattle.std.specs.Bool.{then_some}
 use Rattle.masks.specs.Mask.{subset}
-use Rattle.masks.specs.Subset.{and_test}
 use Rattle.geometry.specs.declared.circle.Circle.{Circle}
+use Rattle.boundary.specs.Marks.{no_mark}
 use Rattle.gaps.specs.declared.marks.HeadMarks.{HeadMarks}
 use Rattle.gaps.specs.Gaps.{is_arc, next_of}
 use Rattle.gaps.specs.Marks.{phi_at}
@@ -34,7 +33,7 @@ module _ (circles : List Circle) (head : HeadMarks) (S j a b : ℕ) where
 
   -- whether there is an arc, as held and as worked out
   abbrev held : Bool
-  held = subset 64 S (get_or head.lets a 0)
+  held = subset 64 S (get_or head.marks.items a no_mark).lets
 
   abbrev arc : Bool
   arc = is_arc circles S j (phi_at head.marks.items a) (phi_at head.marks.items b)
@@ -51,9 +50,8 @@ module _ (circles : List Circle) (head : HeadMarks) (S j a b : ℕ) where
         rw (lt-ltb j (length circles) hj, lt-ltb a n ha, lt-ltb b n hb, ne_eqb b (next_of a n) e) refl
 
     -- as the code tests them
-    pub by_masks : S < 2 ^ 64 → b ≡ next_of a n
-        → then_some (eqb (bit_and S (get_or head.lets a 0)) S) near ≡ gap_number circles head S j a b
-    by_masks h e = rw (between_neighbours e, and_test 64 S (get_or head.lets a 0) h) (some_if held near)
+    pub by_masks : b ≡ next_of a n → then_some held near ≡ gap_number circles head S j a b
+    by_masks e = rw (between_neighbours e) (some_if held near)
 
     pub by_arc : (b ≡ next_of a n → ⊥) → then_some arc far ≡ gap_number circles head S j a b
     by_arc e = rw (between_others e) (some_if arc far)

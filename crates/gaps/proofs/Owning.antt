@@ -1,22 +1,23 @@
--- A test of every head; and whether every head of a set lets a head have a point, head by head as the code's loop goes.
-use mathlib.Core.Path.{◌≡◌, refl, sym, ap, ◌∙◌}
-use mathlib.Core.Bool.{Bool, true, false, not, ◌&&◌, ◌||◌, and-false, or-true, and_assoc}
-use mathlib.Core.List.{List}
+-- A test of every number below another; and whether every head of a set lets a head have a point, as the code asks all.
+use mathlib.Core.Path.{◌≡◌, sym, ap, ◌∙◌}
+use mathlib.Core.Bool.{Bool, not, ◌&&◌, ◌||◌, and_assoc}
+use mathlib.Core.List.{List, map}
 use mathlib.Core.Logic.{◌⊎◌, inl, inr, ⊎_elim}
-use Prim.Native.Nat.{ℕ, zero, suc, ◌+◌, ◌/◌, ◌^◌, ◌<◌}
+use Prim.Native.Nat.{ℕ, zero, suc, ◌+◌, ◌<◌}
 use native.Mathlib.Nat.{eq-or-lt_of_le, le_of_suc-le-suc, add-zero, zero-add}
 use native.Mathlib.Numerals.{add-one}
 use native.Mathlib.Omega.{arith}
-use borrow.Author.Tests.{eq-eqb, ne_eqb}
-use lib.Bits.{bit_and}
-use lib.ListN.{length}
-use Rattle.std.specs.List.{list_all, range_with_len}
+use lib.ListN.{length, get_or}
+use Rattle.std.specs.List.{list_all, enumerate_from, range_with_len}
+use Rattle.std.proofs.lemmas.List.{ext_get_or}
+use Rattle.std.proofs.lemmas.List.Folds.{list_all-map}
+use Rattle.std.proofs.lemmas.List.FromFn.{length-enumerate_from, get_or-enumerate_from}
+use Rattle.std.proofs.lemmas.List.FromFn.{length-map-range_with_len, get_or-map-range_with_len}
 use Rattle.masks.specs.Mask.{every, in_set}
-use Rattle.masks.specs.Operations.{in_by_shift}
 use Rattle.std.proofs.Math.Bool.{and-true}
 use Rattle.geometry.specs.declared.point.Point.{Point}
 use Rattle.geometry.specs.declared.circle.Circle.{Circle}
-use Rattle.intersections.specs.Members.{circle_at}
+use Rattle.intersections.specs.Members.{no_circle, circle_at}
 use Rattle.boundary.specs.Outline.{lets}
 use Rattle.gaps.specs.Gaps.{owned_in}
 
@@ -24,19 +25,7 @@ use Rattle.gaps.specs.Gaps.{owned_in}
 pub lt_or_eq : (i n : ℕ) → i < suc n → (i < n) ⊎ (i ≡ n)
 lt_or_eq i n h = ⊎_elim (λ e. inr e) (λ k. inl k) (eq-or-lt_of_le (le_of_suc-le-suc h))
 
--- ---- a test of every head
-
-every_suc : (p : ℕ → Bool) (n : ℕ) → every n p ≡ true → p n ≡ true → every (n + 1) p ≡ true
-unfolding every
-every_suc p n h e = rw (add-one n, h, e)
-
-every_fails : (p : ℕ → Bool) (n i : ℕ) → i < n → p i ≡ false → every n p ≡ false
-unfolding every
-every_fails p zero i h e = absurd (omega arith)
-every_fails p (suc n) i h e =
-    ⊎_elim (λ k. rw (every_fails p n i k e))
-    (λ k. let q : p n ≡ false = sym (ap p k) ∙ e in rw q (and-false (every n p)))
-    (lt_or_eq i n h)
+-- ---- a test of every number below another
 
 -- of the numbers of a range
 every_from : (p : ℕ → Bool) (a n : ℕ) → every (a + n) p ≡ (every a p && list_all p (range_with_len a n))
@@ -53,35 +42,24 @@ every_range p n = sym (ap (λ (m : ℕ). every m p) (sym (zero-add n)) ∙ every
 
 -- ---- the heads of a set
 
-module _ (circles : List Circle) (S j : ℕ) (p : Point) where
-  -- head l is not in the set, or lets head j have the point
-  abbrev lets_in : ℕ → Bool
-  lets_in l = not (in_set S l) || lets j p l (circle_at circles l)
+-- a list with its indices, by its indices
+enumerated : {A : Type 0} (l : List A) (d : A)
+    → enumerate_from 0 l ≡ map (λ i. (i, get_or l i d)) (range_with_len 0 (length l))
+enumerated {A} l d =
+    ext_get_or (0, d) (enumerate_from 0 l) (map (λ i. (i, get_or l i d)) (range_with_len 0 (length l)))
+    (length-enumerate_from 0 l ∙ sym (length-map-range_with_len (λ i. (i, get_or l i d)) 0 (length l)))
+    (λ i h.
+    let below : i < length l = omega (arith, length-enumerate_from 0 l, h) in
+    get_or-enumerate_from 0 l i (0, d) below
+    ∙ ap (λ k. (k, get_or l i d)) (zero-add i)
+    ∙ sym (get_or-map-range_with_len (λ i. (i, get_or l i d)) 0 (length l) i i (0, d) below (zero-add i)))
 
-  -- those below n do
-  pub owned_to : ℕ → Bool
-  owned_to n = every n lets_in
-
-  pub owned_none : owned_to 0 ≡ true
-  unfolding owned_to every
-  owned_none = refl
-
-  pub owned_more : (l : ℕ) → owned_to l ≡ true → lets j p l (circle_at circles l) ≡ true → owned_to (l + 1) ≡ true
-  unfolding owned_to
-  owned_more l h e = every_suc lets_in l h (rw e (or-true (not (in_set S l))))
-
-  pub owned_past : (l : ℕ) → owned_to l ≡ true → (bit_and (S / 2 ^ l) 1 ≡ 1 → ⊥) → owned_to (l + 1) ≡ true
-  unfolding owned_to
-  owned_past l h e = every_suc lets_in l h (rw (← in_by_shift S l, ne_eqb _ _ e) refl)
-
-  pub owned_all : (n : ℕ) → n ≡ length circles → owned_to n ≡ true → true ≡ owned_in circles S j p
-  unfolding owned_in owned_to
-  owned_all n e h = sym (rw e at h)
-
-  pub owned_fails : (l : ℕ) → l < length circles → bit_and (S / 2 ^ l) 1 ≡ 1 → lets j p l (circle_at circles l) ≡ false
-      → false ≡ owned_in circles S j p
-  unfolding owned_in
-  owned_fails l h e f =
-      sym (every_fails lets_in (length circles) l h (rw (← in_by_shift S l, eq-eqb _ _ e, f) refl))
-
-pub ruleset owning = (owned_none, owned_more, owned_past, owned_all, owned_fails)
+-- every head with its circle: not in the set, or it lets head j have the point
+pub all_let : (circles : List Circle) (S j : ℕ) (p : Point)
+    → list_all (λ q. not (in_set S q.0) || lets j p q.0 q.1) (enumerate_from 0 circles) ≡ owned_in circles S j p
+unfolding owned_in
+all_let circles S j p =
+    ap (list_all (λ q. not (in_set S q.0) || lets j p q.0 q.1)) (enumerated circles no_circle)
+    ∙ list_all-map (λ q. not (in_set S q.0) || lets j p q.0 q.1) (λ i. (i, circle_at circles i))
+    (range_with_len 0 (length circles))
+    ∙ every_range (λ l. not (in_set S l) || lets j p l (circle_at circles l)) (length circles)

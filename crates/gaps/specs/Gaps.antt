@@ -3,12 +3,10 @@ use Rattle.std.specs.Prelude.{ℕ, ◌+◌, Bool, not, ◌&&◌, ◌||◌, List,
 use Rattle.std.proofs.Math.Bool.{cond}
 use Rattle.std.proofs.Math.Dec.{ltb}
 use Rattle.masks.specs.Mask.{in_set, every}
-use Rattle.binary64.specs.Constants.{half64}
-use Rattle.binary64.specs.Floats.{◌+ᶠ◌, ◌*ᶠ◌}
 use Rattle.geometry.specs.declared.point.Point.{Point}
 use Rattle.geometry.specs.declared.circle.Circle.{Circle}
 use Rattle.intersections.specs.Members.{circle_at}
-use Rattle.boundary.specs.Outline.{lets, gap, collapsed, point_at}
+use Rattle.boundary.specs.Outline.{lets, gap, collapsed, midpoint}
 
 -- ---- the gaps of a head that are arcs of a set
 
@@ -16,11 +14,6 @@ use Rattle.boundary.specs.Outline.{lets, gap, collapsed, point_at}
 unfoldable pub owned_in : List Circle → ℕ → ℕ → Point → Bool
 unfolding every lets
 owned_in circles S j p = every (length circles) (λ l. not (in_set S l) || lets j p l (circle_at circles l))
-
--- the midpoint of the gap from a to b of a circle
-unfoldable pub midpoint : Circle → Float → Float → Point
-unfolding gap point_at
-midpoint c a b = point_at c (a +ᶠ gap a b *ᶠ half64)
 
 -- the gap from a to b of head j is an arc of S: it is not collapsed, and its midpoint is j's own
 unfoldable pub is_arc : List Circle → ℕ → ℕ → Float → Float → Bool

@@ -1,6 +1,6 @@
 -- What is worked out once a head: its meeting points by angle, each with its adopters, who lets the head have the gap
 -- from each to the next, and who lets it have its probe.
-use Rattle.std.specs.Prelude.{ℕ, ◌+◌, ◌%◌, ◌<◌, ◌≤◌, Bool, not, ◌||◌, List, [], map, take, eqb, length, get_or, Float}
+use Rattle.std.specs.Prelude.{ℕ, ◌+◌, ◌%◌, ◌<◌, ◌≤◌, Bool, not, List, [], map, take, length, get_or, Float}
 use Rattle.std.proofs.Math.Bool.{cond}
 use Rattle.std.proofs.Math.Dec.{ltb}
 use Rattle.masks.specs.Mask.{in_set, every, subset, gather}
@@ -9,19 +9,14 @@ use Rattle.lists.specs.Written.{tab}
 use Rattle.geometry.specs.declared.point.Point.{Point}
 use Rattle.geometry.specs.declared.circle.Circle.{Circle}
 use Rattle.intersections.specs.declared.points.IntersectionPoint.{IntersectionPoint}
-use Rattle.intersections.specs.Members.{circle_at, points_held}
+use Rattle.intersections.specs.Members.{circle_at, has_parent, points_held}
 use Rattle.boundary.specs.declared.sort.Mark.{Mark}
-use Rattle.boundary.specs.Outline.{angle_about, lets, gap, collapsed, probe}
+use Rattle.boundary.specs.Outline.{angle_about, lets, gap, collapsed, midpoint, probe}
 use Rattle.boundary.specs.Sort.{sorted_by}
 use Rattle.boundary.specs.Marks.{mark, no_mark}
 use Rattle.gaps.specs.declared.marks.HeadMarks.{HeadMarks}
-use Rattle.gaps.specs.Gaps.{midpoint}
 
 -- ---- the marks of a head
-
--- head j is a parent of the point
-unfoldable pub has_parent : ℕ → IntersectionPoint → Bool
-has_parent j q = eqb q.first j || eqb q.second j
 
 -- a point as its angle about a circle, and its adopters
 unfoldable pub mark_of : Circle → IntersectionPoint → Mark
@@ -74,23 +69,33 @@ unfolding gap_letters
 lets_at circles j marks i =
     cond (ltb i (length marks)) (gap_letters circles j (phi_at marks i) (phi_at marks ((i + 1) % length marks))) 0
 
+-- the i-th mark, with those heads
+unfoldable pub let_at : List Circle → ℕ → List Mark → ℕ → Mark
+unfolding lets_at
+let_at circles j marks i =
+    let m = get_or marks i no_mark in
+    record { phi = m.phi; adopters = m.adopters; lets = lets_at circles j marks i }
+
+-- each mark with those heads
+unfoldable pub marks_let : List Circle → ℕ → List Mark → List Mark
+unfolding let_at
+marks_let circles j marks = tab (let_at circles j marks) (length marks)
+
 -- ---- what is held of the heads
 
 -- of head j
 unfoldable pub head_marked : List Circle → List IntersectionPoint → ℕ → HeadMarks
-unfolding marks_at lets_at letters
+unfolding marks_at marks_let letters
 head_marked circles points j =
     let c = circle_at circles j in
-    let marks : List Mark = marks_at c j points in
     record {
-      marks = record { items = marks };
-      lets = tab (lets_at circles j marks) points_held;
+      marks = record { items = marks_let circles j (marks_at c j points) };
       owners = letters circles j (probe c);
     }
 
 -- of a head that no set needs
 abbrev pub unmarked : HeadMarks
-unmarked = record { marks = record { items = [] }; lets = tab (λ i. 0) points_held; owners = 0 }
+unmarked = record { marks = record { items = [] }; owners = 0 }
 
 -- of every head: nothing where `needed` does not have it
 unfoldable pub heads_marked : List Circle → List IntersectionPoint → ℕ → List HeadMarks

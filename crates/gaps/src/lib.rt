@@ -2,6 +2,7 @@
 // whether a gap is an arc of a set, and the number of that arc.
 #![tactic(auto)]
 
+mod head;
 pub mod marks;
 pub mod numbers;
 pub mod places;

@@ -1,43 +1,86 @@
-// The number of the arc that a gap between two angles of a head is in a set.
+// Which arc a number stands for, and the number of the arc that a gap between two angles of a head is in a set.
 // Rests on specs/Gaps.antt and specs/Numbers.antt.
-ghost use Rattle.std.specs.Prelude.{◌≡◌, ◌<◌, length};
-ghost use Rattle.gaps.specs.Gaps.{owned_in, is_arc};
-ghost use Rattle.gaps.specs.Numbers.{gap_number};
+ghost use Rattle.std.specs.Prelude.{◌≡◌, ◌+◌, ◌*◌, ◌%◌, ◌^◌};
+ghost use Rattle.gaps.specs.Numbers.{Names, number_of, gap_number};
 
+use crate::head::HeadOf;
 use crate::marks::HeadMarks;
 use crate::places::next;
-use boundary::angles::{collapsed, gap, point_at};
-use boundary::ownership::lets;
 use geometry::circle::Circles;
-use geometry::point::Point;
+use masks::is_subset;
 
-// Every head of the set lets head j have the point p.
-#[tactic(auto, using(crate::proofs::Owning::owning))]
-fn owned_in(circles: &Circles, mask: usize, j: usize, p: Point) -> bool
-    ensures { result ≡ owned_in circles.now.items mask j p }
-{
-    for (l, circle) in circles.iter().enumerate() {
-        if mask >> l & 1 == 1 && !lets(j, p, l, *circle) {
-            return false;
-        }
-    }
-    true
+// How many marks a head has room for, as `Marks` of `boundary` has.
+pub const MARKS: usize = 32;
+
+// A number below this is of the gap from a mark to the next, by the mark's place among those of ten heads.
+pub const GAPS: usize = 10 * MARKS;
+
+// A number from GAPS on and below this is of a head's whole circle, and one from this on of any other gap. What an arc
+// adds to a sum is held for the numbers below this.
+pub const HELD: usize = GAPS + 10;
+
+// An arc by its head and the places of its ends among the head's marks.
+#[derive(Clone, Copy)]
+pub enum ArcNumber {
+    // the gap from a mark to the next
+    Next { head: usize, from: usize },
+    // the whole circle
+    Whole { head: usize },
+    // the gap from a mark to one that is not the next
+    Far { head: usize, from: usize, to: usize },
 }
 
-// The gap from one angle to another of head j is an arc of the set: worked out.
-#[tactic(auto, unfolding(crate::specs::Gaps::is_arc, crate::specs::Gaps::midpoint))]
-fn is_arc(circles: &Circles, mask: usize, j: usize, phi_a: f64, phi_b: f64) -> bool
-    requires { j < length circles.now.items }
-    ensures { result ≡ is_arc circles.now.items mask j phi_a phi_b }
+impl ArcNumber {
+    // The arc of a number.
+    #[inline(always)]
+    pub fn of(place: usize) -> ArcNumber
+        ensures { Names place result }
+    {
+        if place < GAPS {
+            return ArcNumber::Next {
+                head: place / MARKS,
+                from: place % MARKS,
+            };
+        }
+        if place < HELD {
+            return ArcNumber::Whole { head: place - GAPS };
+        }
+        let (from, to) = ((place - HELD) / GAPS, (place - HELD) % GAPS);
+        ArcNumber::Far {
+            head: from / MARKS,
+            from: from % MARKS,
+            to: to % MARKS,
+        }
+    }
+
+    // The number of an arc. By wrapping operations: that of a head or a mark far past the last, which have no arc, may
+    // have more than 64 bits.
+    #[inline(always)]
+    pub fn number(self) -> usize
+        ensures { result ≡ number_of self % 2 ^ 64 }
+    {
+        match self {
+            ArcNumber::Next { head, from } => mark_place(head, from),
+            ArcNumber::Whole { head } => GAPS.wrapping_add(head),
+            ArcNumber::Far { head, from, to } => mark_place(head, from)
+                .wrapping_mul(GAPS)
+                .wrapping_add(mark_place(head, to))
+                .wrapping_add(HELD),
+        }
+    }
+}
+
+// The place of a mark among those of ten heads.
+fn mark_place(head: usize, mark: usize) -> usize
+    ensures { result ≡ (head * 32 + mark) % 2 ^ 64 }
 {
-    let delta = gap(phi_a, phi_b);
-    !collapsed(delta) && owned_in(circles, mask, j, point_at(circles[j], phi_a + delta * 0.5))
+    head.wrapping_mul(MARKS).wrapping_add(mark)
 }
 
 // The number of the arc from the a-th angle of head j to the b-th, if that gap is an arc of the set: between neighbours
-// by who lets the head have it. From or to one that the head has not there is no arc, nor of a head past the last
-// circle. One number says which arc it is, neighbours or others, since what is held of the arcs stands in arrays by
-// that number.
+// by who lets the head have it. No arc from or to an angle that the head does not have, and none of a head past the
+// last circle. One number says which arc it is, neighbours or others: what is held of the arcs stands in arrays by the
+// numbers below HELD, and a list of arcs is a list of numbers.
 #[tactic(auto, using(crate::proofs::Numbering::numbering), unfolding(crate::specs::Numbers::gap_number))]
 pub fn gap_number(
     mask: usize,
@@ -49,13 +92,21 @@ pub fn gap_number(
 ) -> Option<usize>
     ensures { result ≡ gap_number circles.now.items head.now mask j a b }
 {
-    let marks = head.marks.as_slice();
-    if j >= circles.len() || a >= marks.len() || b >= marks.len() {
+    if j >= circles.len() {
         return None;
     }
-    let at = j * 32 + a;
-    if b == next(a, marks.len()) {
-        return (mask & head.lets[a] == mask).then_some(at);
+    let from = head.marks.get(a)?;
+    let to = head.marks.get(b)?;
+    if b == next(a, head.marks.len()) {
+        let arc = ArcNumber::Next { head: j, from: a };
+        return is_subset(mask, from.lets).then_some(arc.number());
     }
-    is_arc(circles, mask, j, marks[a].phi, marks[b].phi).then_some(330 + at * 320 + (j * 32 + b))
+    let arc = ArcNumber::Far {
+        head: j,
+        from: a,
+        to: b,
+    };
+    HeadOf { circles, j }
+        .is_arc(mask, from.phi, to.phi)
+        .then_some(arc.number())
 }

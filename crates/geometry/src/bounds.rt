@@ -11,6 +11,7 @@ pub struct Bounds {
 }
 
 impl Bounds {
+    // The box from x_min to x_max and from y_min to y_max; whether these are in order is not asked.
     pub fn new(x_min: f64, x_max: f64, y_min: f64, y_max: f64) -> Self
         ensures { result ≡ spec.extents x_min x_max y_min y_max }
     {

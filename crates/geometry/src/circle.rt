@@ -7,7 +7,6 @@ ghost use Rattle.elementary.specs.Root.{root};
 ghost use Rattle.geometry.specs.Moderate.{two_to_the64, Above};
 ghost use Rattle.geometry.specs.Circle as spec;
 ghost use Rattle.geometry.specs.Meeting.{points};
-ghost use Rattle.geometry.specs.Point.{distance};
 
 use crate::meeting::Meeting;
 use crate::point::Point;
@@ -15,6 +14,12 @@ use arrayvec::ArrayVec;
 use binary64::{abs, smaller};
 use elementary::arctangent::acos;
 use elementary::root::root;
+
+// 2^64.
+pub const TWO_TO_THE_64: f64 = 18446744073709551616.0;
+
+// 1 + 2^-10.
+pub const JUST_ABOVE_ONE: f64 = 1.0009765625;
 
 #[derive(Clone, Copy, PartialEq, Debug, Default)]
 pub struct Circle {
@@ -45,7 +50,7 @@ impl Circle {
     pub const EPSILON: f64 = 1e-10;
 
     // The f64 PI.
-    pub const PI: f64 = 3.14159265358979323846264338327950288;
+    pub const PI: f64 = std::f64::consts::PI;
 
     // No radius is refused: the checks of a plan refuse more than the Rust's maker does.
     pub fn new(center: Point, radius: f64) -> Self
@@ -54,6 +59,7 @@ impl Circle {
         Self { center, radius }
     }
 
+    // PI times the square of the radius.
     pub fn area(self) -> f64
         ensures { result ≡ spec.area self }
     {
@@ -64,7 +70,7 @@ impl Circle {
     pub fn contains(self, other: Circle) -> bool
         ensures { result ≡ spec.contains self other }
     {
-        let squared = squared_distance(self.center, other.center);
+        let squared = self.center.squared_distance(other.center);
         // a sum with a radius that is not below zero is no less, as rounded too
         if moderate(other.radius) && root_above(squared, self.radius) {
             return false;
@@ -76,7 +82,7 @@ impl Circle {
     pub fn contains_point(self, point: Point) -> bool
         ensures { result ≡ spec.contains_point self point }
     {
-        root_at_most(squared_distance(self.center, point), self.radius)
+        root_at_most(self.center.squared_distance(point), self.radius)
     }
 
     // Whether the outlines cross; circles that touch do not, as in the Rust.
@@ -140,7 +146,7 @@ impl Circle {
         if self == other {
             return Meeting::None;
         }
-        let squared = squared_distance(self.center, other.center);
+        let squared = self.center.squared_distance(other.center);
         if root_above(squared, self.radius + other.radius) {
             return Meeting::None;
         }
@@ -152,21 +158,12 @@ impl Circle {
     }
 }
 
-// The square of the distance of two points, whose root it is.
-#[tactic(auto, unfolding(elementary::specs::Root::hypot))]
-fn squared_distance(p: Point, q: Point) -> f64
-    ensures { root result ≡ distance p q }
-{
-    let dx = p.x - q.x;
-    let dy = p.y - q.y;
-    dx * dx + dy * dy
-}
-
 // Whether a number is not below zero and below 2^64, so that its square is finite.
-fn moderate(x: f64) -> bool
+#[tactic(auto, using(binary64::proofs::Ranges::ranges))]
+pub fn moderate(x: f64) -> bool
     ensures { result ≡ ((zero64 ≤ᶠ x) && (x <ᶠ two_to_the64)) }
 {
-    0.0 <= x && x < 18446744073709551616.0
+    (0.0..TWO_TO_THE_64).contains(&x)
 }
 
 // Whether the root of s is seen to be above t without being worked out: s is above the square, as rounded, of a number
@@ -174,7 +171,7 @@ fn moderate(x: f64) -> bool
 fn root_above(s: f64, t: f64) -> bool
     ensures { result ≡ true → Above t (root s) }
 {
-    let more = t * 1.0009765625;
+    let more = t * JUST_ABOVE_ONE;
     moderate(s) && moderate(t) && t < more && more * more < s
 }
 
@@ -190,7 +187,7 @@ fn root_at_most(s: f64, t: f64) -> bool
 }
 
 // The area between two arcs: a sector of each circle, less the kite between the centres and the
-// points.
+// points. Both sectors written out, as the Rust has them and the definition.
 fn lens(r1: f64, r2: f64, d: f64) -> f64
     ensures { result ≡ spec.lens r1 r2 d }
 {

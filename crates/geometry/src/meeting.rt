@@ -1,5 +1,5 @@
-// Where two outlines meet: nowhere, in one point or in two. The Rust has a Vec<Point> here; a library without a heap has
-// a value with the coordinates.
+// Where two outlines meet: nowhere, in one point or in two. The Rust has a Vec<Point> here, which needs a heap.
+// Cases with coordinates, and no ArrayVec of Points: the form that document 01 names (docs/DECISIONS.md).
 ghost use Rattle.std.specs.Prelude.{◌≡◌};
 ghost use Rattle.geometry.specs.Meeting as spec;
 

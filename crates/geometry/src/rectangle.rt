@@ -14,6 +14,7 @@ pub struct Rectangle {
 }
 
 impl Rectangle {
+    // The box of these sides about the centre.
     pub fn new(center: Point, width: f64, height: f64) -> Self
         ensures { result ≡ spec.around center width height }
     {
@@ -24,6 +25,7 @@ impl Rectangle {
         }
     }
 
+    // Width times height.
     pub fn area(self) -> f64
         ensures { result ≡ spec.area self }
     {

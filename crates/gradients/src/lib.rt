@@ -1,5 +1,7 @@
 // The exclusives of a plan with their gradients, in lent slices, with the box and without it: checks first, then the
 // rows. Rests on specs/Step.antt.
+// Two bodies: they share the checks alone, which are one call. One body over a box or none would need the rows of a
+// plan stated a third time, for either. Three slices, as the C interface lends them.
 #![tactic(auto)]
 
 ghost use Rattle.std.specs.Prelude.{◌≡◌, [], ◌∷◌};

@@ -11,12 +11,14 @@ ghost use Rattle.heads.specs.Pair.{above_zero, squared_distance, greatest, relat
 use std::cmp::Ordering;
 
 // A head: a circle about (x, y), in centimetres.
-#[derive(Clone, Copy, PartialEq, Eq, Debug)]
+#[derive(Clone, Copy, Default, PartialEq, Eq, Debug)]
 pub struct Head {
     pub x: i32,
     pub y: i32,
     pub radius: i32,
 }
+
+// Numbers and no ranges: each range is asked at one place.
 
 // A centre lies at most this far from zero, in x and in y.
 pub const POSITION_LIMIT: i32 = 20000;
@@ -88,6 +90,7 @@ pub fn relation_at(d: u64, r1: u32, r2: u32) -> Relation
 }
 
 // Each case's place in the list apart, touching outside, crossing, touching inside, holding, identical.
+// A function and no `From`: docs/CLAIMS.md names its contract, and nothing here converts.
 pub fn relation_number(r: Relation) -> usize
     ensures { result ≡ number r }
 {

@@ -28,6 +28,7 @@ use Rattle.binary64.proofs.Whole.{of_int_finite, of_int_mag, of_int_sign, of_int
 use Rattle.elementary.specs.Sine.{sine, cosine}
 use Rattle.elementary.specs.SinePromise.{Domain}
 use Rattle.elementary.proofs.sine.Promise.{sine_promise, cosine_promise}
+use Rattle.geometry.specs.Point.{squared_distance}
 use Rattle.geometry.specs.Tolerances.{coincidence, coincidence_share}
 use Rattle.boundary.specs.Identical.{whole_circle}
 use Rattle.boundary.specs.Outline.{implicit_value, tolerance, point_at}
@@ -279,7 +280,7 @@ module _ (x y : ℤ) (r : ℕ) (hx : nat_abs x ≤ 20000) (hy : nat_abs y ≤ 20
             (rounded_below (one - mag v) (below one fine r (mag sum) (mag v) least most sum_within v_near (one - mag v) (omega arith)))
 
     value_is : implicit_value (point_at (whole_circle x y r) phi) (whole_circle x y r) ≡ v
-    unfolding implicit_value point_at
+    unfolding implicit_value squared_distance point_at
     value_is = ap (λ (q : Float). sum /ᶠ q) (square_of_int (pos r) (omega arith))
 
     pub on_edge : (absolute (implicit_value (point_at (whole_circle x y r) phi) (whole_circle x y r) -ᶠ one64) ≤ᶠ tolerance (whole_circle x y r)) ≡ true

@@ -11,6 +11,8 @@ use Rattle.binary64.specs.Functions.{absolute}
 use Rattle.binary64.specs.Floats.{◌+ᶠ◌, ◌-ᶠ◌, ◌*ᶠ◌, ◌/ᶠ◌, ◌<ᶠ◌, ◌≤ᶠ◌}
 use Rattle.boundary.specs.Sort.{sort_onto, sorted, sorted_by}
 use Rattle.boundary.specs.declared.arcs.BoundaryArc.{BoundaryArc}
+use Rattle.inside.specs.declared.edges.BoxEdge.{BoxEdge}
+use Rattle.inside.specs.Edges.{is_upright, line_of}
 use Rattle.inside.specs.declared.breaks.Breaks.{Breaks}
 
 -- strictly inside the arc from a to b: further than 1e-12 from either end
@@ -40,6 +42,23 @@ horizontal_crossings y c a b =
     let q = (y -ᶠ c.center.y) /ᶠ c.radius in
     cond (absolute q ≤ᶠ one64) (periodic_in_range (asin q) a b ++ periodic_in_range (pi -ᶠ asin q) a b) []
 
+-- the offset of an edge's line from the centre, over the radius
+abbrev pub offset_of : Bounds → Circle → BoxEdge → Float
+offset_of box c edge = (line_of box edge -ᶠ cond (is_upright edge) c.center.x c.center.y) /ᶠ c.radius
+
+-- the angle at which a line at this offset crosses the circle, and its mirror, which is the other one
+abbrev pub crossing_of : BoxEdge → Float → Float
+crossing_of edge q = cond (is_upright edge) (acos q) (asin q)
+
+abbrev pub mirror_of : BoxEdge → Float → Float
+mirror_of edge phi = cond (is_upright edge) (neg phi) (pi -ᶠ phi)
+
+-- where the arc crosses the line of an edge
+unfoldable pub edge_crossings : Bounds → Circle → Float → Float → BoxEdge → List Float
+unfolding vertical_crossings horizontal_crossings
+edge_crossings box c a b edge =
+    cond (is_upright edge) (vertical_crossings (line_of box edge) c a b) (horizontal_crossings (line_of box edge) c a b)
+
 -- the crossings with the box, in the Rust's order
 unfoldable pub crossings : Bounds → Circle → Float → Float → List Float
 unfolding vertical_crossings horizontal_crossings
@@ -62,9 +81,11 @@ breaks box c arc = breaks_between box c arc.phi_start (arc.phi_start +ᶠ arc.de
 -- ---- the breaks that the code has found so far
 
 -- The new ones, of which there are at most so many, are put in: the list is those that were there with them, sorted.
--- The ends stay.
+-- The arc and the box stay.
 pub record Put (most : ℕ) (new : List Float) (before after : Breaks) : Type 0 where
   pub few : length after.found.items ≤ length before.found.items + most
   pub found : after.found.items ≡ sort_onto before.found.items new
+  pub bounds : after.bounds ≡ before.bounds
+  pub circle : after.circle ≡ before.circle
   pub phi_a : after.phi_a ≡ before.phi_a
   pub phi_b : after.phi_b ≡ before.phi_b

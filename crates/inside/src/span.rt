@@ -1,12 +1,15 @@
 // The span of an edge of the box: the part of it that every head of a set waters.
 // Rests on specs/Span.antt.
-ghost use Rattle.std.specs.Prelude.{◌≡◌, map};
+ghost use Rattle.std.specs.Prelude.{◌≡◌};
 ghost use Rattle.intersections.specs.Heads.{circle_list};
 ghost use Rattle.inside.specs.Span.{misses, half_chord, raised, lowered, open-between, seen};
+ghost use Rattle.inside.specs.Edges.{edge_span};
 ghost use Rattle.inside.specs.Span.{spans, horizontal_span, vertical_span};
 
+use crate::edges::BoxEdge;
 use binary64::larger;
 use elementary::root::root;
+use geometry::bounds::Bounds;
 use geometry::circle::Circle;
 use geometry::point::Point;
 use intersections::members::HeadCircle;
@@ -37,7 +40,7 @@ pub fn half_chord(y: f64, c: Circle) -> f64
     root(larger(c.radius * c.radius - dy * dy, 0.0))
 }
 
-// Not `larger`: an end that is a NaN stays one.
+// The greater of both; a low end that is a NaN stays one, where `larger` would give the other.
 #[tactic(auto, unfolding(crate::specs::Span::raised))]
 pub fn raised(lo: f64, end: f64) -> f64
     ensures { result ≡ raised lo end }
@@ -45,6 +48,7 @@ pub fn raised(lo: f64, end: f64) -> f64
     if end > lo { end } else { lo }
 }
 
+// The lesser of both, in the same way.
 #[tactic(auto, unfolding(crate::specs::Span::lowered))]
 pub fn lowered(hi: f64, end: f64) -> f64
     ensures { result ≡ lowered hi end }
@@ -77,14 +81,16 @@ pub fn seen(upright: bool, c: Circle) -> Circle
     }
 }
 
-// The span of the edge at `at` from `from` to `to`. The Rust also stops as soon as the ends have met: the answers are
-// the same, since the low end only rises and the high end only falls.
+// The span of an edge. The Rust also stops as soon as the ends have met: the answers are the same, since the low end
+// only rises and the high end only falls.
 #[tactic(auto, using(crate::proofs::Spanning::heads_in_turn))]
-fn edge_inside_interval(upright: bool, at: f64, from: f64, to: f64, set: &[HeadCircle]) -> Span
-    ensures { spans result ≡ horizontal_span at from to (map (seen upright) (circle_list set.now)) }
+pub fn edge_inside_interval(edge: BoxEdge, bounds: Bounds, set: &[HeadCircle]) -> Span
+    ensures { spans result ≡ edge_span bounds edge (circle_list set.now) }
 {
-    let mut lo = from;
-    let mut hi = to;
+    let upright = edge.is_upright();
+    let at = edge.line(bounds);
+    let mut lo = edge.from(bounds);
+    let mut hi = edge.to(bounds);
     for member in set {
         let c = seen(upright, member.circle);
         if misses(at, c) {
@@ -97,18 +103,17 @@ fn edge_inside_interval(upright: bool, at: f64, from: f64, to: f64, set: &[HeadC
     open_between(lo, hi)
 }
 
-// The span of the edge at y from x_min to x_max.
-#[tactic(auto, using(crate::proofs::Spanning::seen_level))]
+// The span of the edge at y from x_min to x_max: the bottom of a box that ends there. This and the next are the Rust's
+// two names, for the one body.
 pub fn horizontal_edge_inside_interval(y: f64, x_min: f64, x_max: f64, set: &[HeadCircle]) -> Span
     ensures { spans result ≡ horizontal_span y x_min x_max (circle_list set.now) }
 {
-    edge_inside_interval(false, y, x_min, x_max, set)
+    edge_inside_interval(BoxEdge::Bottom, Bounds::new(x_min, x_max, y, y), set)
 }
 
-// The span of the edge at x from y_min to y_max.
-#[tactic(auto, using(crate::proofs::Spanning::seen_upright))]
+// The span of the edge at x from y_min to y_max: the left edge of a box that ends there.
 pub fn vertical_edge_inside_interval(x: f64, y_min: f64, y_max: f64, set: &[HeadCircle]) -> Span
     ensures { spans result ≡ vertical_span x y_min y_max (circle_list set.now) }
 {
-    edge_inside_interval(true, x, y_min, y_max, set)
+    edge_inside_interval(BoxEdge::Left, Bounds::new(x, x, y_min, y_max), set)
 }

@@ -19,7 +19,7 @@ use Rattle.geometry.specs.Point.{distance}
 use Rattle.geometry.specs.declared.point.Point.{Point}
 use Rattle.geometry.specs.declared.circle.Circle.{Circle}
 use Rattle.intersections.specs.declared.points.IntersectionPoint.{IntersectionPoint}
-use Rattle.intersections.specs.Members.{heads_of, counted_for, points_for, points_held}
+use Rattle.intersections.specs.Members.{heads_of, has_parent, counted_for, points_for, points_held}
 use Rattle.intersections.specs.Points.{with_adopters, pair_points, later_points, collected}
 
 -- ---- meeting points
@@ -73,7 +73,7 @@ module _ (cs : List Circle) (S j : ℕ) where
 
   -- a pair without j has none
   many_other : (i k : ℕ) → (i ≡ j → ⊥) → (k ≡ j → ⊥) → many (pair_points cs i k) ≡ 0
-  unfolding many pair_points with_adopters counted_for
+  unfolding many pair_points with_adopters counted_for has_parent
   many_other i k h g =
       ap length (keep_none (counted_for S j) (pair_points cs i k)
       (every_mapped _ (with_adopters cs i k) (intersection_points _ _) (every_all _ (intersection_points _ _) (λ p. rw (ne_eqb i j h, ne_eqb k j g)))))

@@ -11,7 +11,8 @@ use geometry::meeting::Meeting;
 use geometry::pair::Pair;
 use geometry::point::Point;
 
-// Whether the circle c adopts the point p of the circles a and b.
+// Whether the circle c adopts the point p of the circles a and b, which are not read: this is the one predicate of who
+// adopts a point, where a change of it goes (ARCHITECTURE.md).
 #[tactic(auto, unfolding(crate::specs::Points::adopts_point))]
 fn adopts_point(a: Circle, b: Circle, c: Circle, p: Point) -> bool
     ensures { result ≡ spec.adopts_point a b c p }
@@ -43,6 +44,7 @@ impl Parents<'_> {
     }
 
     // The adopters of their point p, as a mask.
+    // A loop and not one function that is handed the test: the closure and its contract would be longer at each place.
     #[tactic(auto, using(crate::proofs::Adopting::gathered))]
     fn adopters(&self, p: Point) -> usize
         ensures { result ≡
@@ -94,6 +96,7 @@ pub fn collect_intersections(circles: &Circles) -> Intersections
     let heads = circles.as_slice();
     let mut found = Intersections::new();
     for (i, first) in heads.iter().enumerate() {
+        // By a range: `heads.iter().enumerate().skip(i + 1)` is no shorter.
         for j in i + 1..heads.len() {
             let pair = Pair::new(i, j, *first, heads[j]);
             let parents = Parents {

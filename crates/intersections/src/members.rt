@@ -7,6 +7,7 @@ ghost use Rattle.intersections.specs.Heads.{heads_with, circle_list};
 use crate::points::IntersectionPoint;
 use arrayvec::ArrayVec;
 use geometry::circle::{Circle, Circles};
+use masks::is_subset;
 
 // A head of a set: its number and its circle.
 #[derive(Clone, Copy, PartialEq, Debug, Default)]
@@ -18,7 +19,8 @@ pub struct HeadCircle {
 // The heads of a set, in order.
 pub type Members = ArrayVec<HeadCircle, 10>;
 
-// The heads of a set among these circles, one after another.
+// The heads of a set among these circles, one after another. Pushed one by one: `collect` would answer a `Result`,
+// whose error cannot come here.
 fn gathered_members(mask: usize, circles: &Circles) -> Members
     ensures { result.items ≡ heads_with circles.now.items mask }
 {
@@ -56,7 +58,7 @@ pub fn members_of(mask: usize, circles: &Circles) -> Members
     }
 }
 
-// The circles of a set's heads, in order.
+// The circles of a set's heads, in order. Pushed one by one, as above.
 pub fn circles_of(set: &Members) -> Circles
     ensures { result.items ≡ circle_list set.now.items }
 {
@@ -68,9 +70,9 @@ pub fn circles_of(set: &Members) -> Circles
 }
 
 // Whether a meeting point is counted for a set at head j.
-#[tactic(auto, using(masks::specs::Subset::and_test), unfolding(crate::specs::Members::counted_for))]
+#[tactic(auto, unfolding(crate::specs::Members::counted_for))]
 pub fn counted_for(mask: usize, j: usize, q: IntersectionPoint) -> bool
     ensures { result ≡ counted_for mask j q }
 {
-    (q.first == j || q.second == j) && mask & q.adopters == mask
+    q.has_parent(j) && is_subset(mask, q.adopters)
 }

@@ -1,5 +1,6 @@
-// Sets of heads as masks: a mask has bit i set if head i is in the set. A usize has 64 bits, so a head of 64 or more is in no mask.
-// Code elsewhere writes its shifts and masks itself and cites the laws of specs/, which hold for every width.
+// Sets of heads as masks: a mask has bit i set if head i is in the set. A usize has 64 bits, so a head of 64 or more is
+// in no mask. All but the test for a subset is written where it is used, by shifts and masks; the laws of specs/, which
+// hold for every width, are cited there.
 #![tactic(auto)]
 
 ghost use Rattle.std.specs.Prelude.{◌≡◌};

@@ -25,7 +25,7 @@ gap_few cs k c phis i = search one_or_none
 
 module _ (b : ℕ) (some : 1 ≤ b) where
   -- a member has at most an arc for each angle, and one where it has no angle
-  arcs_few : (cs : List Circle) (k : ℕ) (c : Circle) (phis : List Float) → length phis ≤ b
+  pub arcs_few : (cs : List Circle) (k : ℕ) (c : Circle) (phis : List Float) → length phis ≤ b
       → length (arcs_at cs k c phis) ≤ b
   unfolding arcs_at
   arcs_few cs k c [] h = omega (arith, one_or_none (owned k (probe c) cs) (full_circle k c))
@@ -49,11 +49,12 @@ module _ (b : ℕ) (some : 1 ≤ b) where
         members_arcs cs (suc k) ms h.1,
       )
 
-  outline_le : (ms : List Member) → Every (λ m. length m.points ≤ b) ms → length (outline ms) ≤ length ms * b
+  outline_le : (ms : List Member) → length (outline_from (circles_of ms) 0 ms) ≤ length ms * b
+      → length (outline ms) ≤ length ms * b
   unfolding outline
   outline_le [] h = omega arith
   outline_le (m ∷ []) h = omega arith
-  outline_le (m ∷ (m' ∷ ms)) h = members_arcs (circles_of (m ∷ (m' ∷ ms))) 0 (m ∷ (m' ∷ ms)) h
+  outline_le (m ∷ (m' ∷ ms)) h = h
 
 -- ---- the arcs of a set
 
@@ -67,9 +68,11 @@ outline_few cs S h =
     let js = heads_of (length cs) S in
     let each = every_map js (λ j g. held cs S j h g) (heads_below (length cs) S) in
     let member = member_at cs (collected cs) S in
+    let ms : List Member = map member js in
+    let all = members_arcs 18 (omega arith) (circles_of ms) 0 ms (every_mapped (λ m. length m.points ≤ 18) member js each) in
     omega (
       arith,
-      outline_le 18 (omega arith) (map member js) (every_mapped (λ m. length m.points ≤ 18) member js each),
+      outline_le 18 (omega arith) ms all,
       length-map js member,
       heads_few (length cs) S,
     )

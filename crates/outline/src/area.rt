@@ -3,7 +3,7 @@ ghost use Rattle.std.specs.Prelude.{◌≡◌};
 ghost use Rattle.outline.specs.Area.{arc_terms, add_arc, area_of, open_area};
 ghost use Rattle.intersections.specs.Members.{members_of};
 
-use crate::terms::{add_three, term_r, term_x, term_y};
+use crate::terms::{add_three, terms_of};
 use boundary::arcs::BoundaryArc;
 use boundary::walk::outline_of;
 use geometry::circle::{Circle, Circles};
@@ -11,11 +11,11 @@ use intersections::members::{circles_of, members_of};
 use intersections::points::IntersectionPoint;
 
 // The three terms of an arc of a circle, added to a sum.
-#[tactic(auto, using(crate::specs::Terms::arc_terms_are))]
+#[tactic(auto, using(crate::specs::Terms::arc_terms_are), unfolding(crate::specs::Terms::terms_of))]
 fn arc_terms(total: f64, c: Circle, arc: BoundaryArc) -> f64
     ensures { result ≡ arc_terms total c arc }
 {
-    add_three(total, term_x(c, arc), term_y(c, arc), term_r(c, arc))
+    add_three(total, terms_of(c, arc))
 }
 
 // An arc added to a sum; one of no circle adds nothing.
@@ -40,7 +40,8 @@ pub fn area_from_boundary_arcs(arcs: &[BoundaryArc], circles: &[Circle]) -> f64
     0.5 * sum
 }
 
-// The area that the heads of a set water together.
+// The area that the heads of a set water together. Set, circles and points one by one, here and in `clip`, as the
+// Rust's functions have them.
 #[tactic(auto, using(crate::proofs::Walking::open_area_is))]
 pub fn region_area(mask: usize, circles: &Circles, points: &[IntersectionPoint]) -> f64
     ensures { result ≡ open_area (members_of circles.now.items points.now mask) }

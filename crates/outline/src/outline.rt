@@ -9,7 +9,8 @@ use geometry::circle::Circles;
 use intersections::members::{HeadCircle, members_of};
 use intersections::points::IntersectionPoint;
 
-// The arc of a member as the arc of its head.
+// The arc of a member as the arc of its head: 0 for an arc of no member, as the definition has it, and the walk makes
+// none.
 #[tactic(auto, unfolding(boundary::specs::Set::numbered))]
 fn numbered(arc: BoundaryArc, set: &[HeadCircle]) -> BoundaryArc
     ensures { result ≡ numbered (map (λ m. m.head) set.now) arc }
@@ -18,16 +19,13 @@ fn numbered(arc: BoundaryArc, set: &[HeadCircle]) -> BoundaryArc
     BoundaryArc { circle, ..arc }
 }
 
-// Arcs under head numbers, while there is room.
-#[tactic(auto, using(crate::proofs::Walking::arcs_listed, std::proofs::lemmas::Grind::common_steps))]
+// Arcs under head numbers, while there is room. Pushed one by one: `collect` would answer a `Result`, whose error
+// cannot come here.
 fn numbered_arcs(arcs: &[BoundaryArc], set: &[HeadCircle]) -> Arcs
     ensures { result.items ≡ take arcs_held (map (numbered (map (λ m. m.head) set.now)) arcs.now) }
 {
     let mut all = Arcs::new();
-    for arc in arcs {
-        if all.is_full() {
-            break;
-        }
+    for arc in arcs.iter().take(all.capacity()) {
         all.push(numbered(*arc, set));
     }
     all

@@ -14,7 +14,8 @@ use Rattle.plan.specs.declared.Plan.{Plan}
 use Rattle.plan.specs.Table.{Answered}
 use Rattle.plan.specs.Checks.{edit_answer}
 use Rattle.plan.specs.Limits.{HeadWithin, no_head, Acceptable}
-use Rattle.plan.specs.Book.{head_of, applied, leaves, book_step, Keeps, AppliedHeads, BookKeeps, AppliedAcceptable, BookAcceptable}
+use Rattle.plan.specs.Book.{head_of, applied, leaves, book_step, Keeps, AppliedHeads, BookKeeps, AppliedAcceptable}
+use Rattle.plan.specs.Book.{BookAcceptable}
 use Rattle.plan.proofs.Exactly.{edit_taken}
 
 entered_keeps : (p : Plan) (e : Edit) (a : Answered) → Keeps p (leaves a p (applied p e))
@@ -52,7 +53,8 @@ applied_acceptable p e long ok edit =
           ];
     }
 
-entered_acceptable : (p : Plan) (e : Edit) (lent : Lent) (a : Answered) → edit_answer p e lent ≡ a → length p.heads ≡ 10 → Acceptable p → Acceptable (leaves a p (applied p e))
+entered_acceptable : (p : Plan) (e : Edit) (lent : Lent) (a : Answered) → edit_answer p e lent ≡ a → length p.heads ≡ 10
+    → Acceptable p → Acceptable (leaves a p (applied p e))
 entered_acceptable p e lent (Ok done) taken long ok =
     applied_acceptable p e long ok ((edit_taken p e lent long).0 taken).1
 entered_acceptable p e lent (Err r) refused long ok = ok

@@ -1,5 +1,6 @@
 -- The book (document 01, "Edits in a list"): a plan and nothing more. Where the checks refuse an edit the book stays;
--- otherwise head k takes the three values and all else stays. What a list of edits keeps is proved in `proofs/Keeps.antt`.
+-- otherwise head k takes the three values and all else stays. What a list of edits keeps is proved in
+-- `proofs/Keeps.antt`.
 use Rattle.std.specs.Prelude.{ℕ, ◌≡◌, List, [], ◌∷◌, length, set, Ok, Err}
 use Rattle.lists.specs.Run as Run
 use Rattle.lists.specs.Run.{Step}
@@ -72,7 +73,8 @@ BookKeeps = (p : Plan) (es : List Entry) → Keeps p (book p es)
 
 -- a taken edit of a plan within the limits leaves a plan within the limits
 abbrev pub AppliedAcceptable : Type 0
-AppliedAcceptable = (p : Plan) (e : Edit) → length p.heads ≡ 10 → Acceptable p → AcceptableEdit p.n e → Acceptable (applied p e)
+AppliedAcceptable =
+    (p : Plan) (e : Edit) → length p.heads ≡ 10 → Acceptable p → AcceptableEdit p.n e → Acceptable (applied p e)
 
 -- a list of edits of a plan within the limits leaves a plan within the limits
 abbrev pub BookAcceptable : Type 0

@@ -18,7 +18,8 @@ use Rattle.exclusive.proofs.Places.{few_rows, masks_le, level_next, rows_next}
 use Rattle.exclusive.proofs.RowOrder.{row}
 use Rattle.printing.specs.declared.text.Cursor.{Cursor}
 use Rattle.printing.specs.Text.{digits, decimal, line_end, Advances}
-use Rattle.printing.specs.Rows.{line_of, row_line, row_lines, level_lines, table_lines, LinesFew, LinesSame, refused_word, at_word, refusal_line, RefusalFew}
+use Rattle.printing.specs.Rows.{line_of, row_line, row_lines, level_lines, table_lines, LinesFew, LinesSame}
+use Rattle.printing.specs.Rows.{refused_word, at_word, refusal_line, RefusalFew}
 use Rattle.printing.proofs.Putting.{advance_then}
 use Rattle.printing.proofs.Digits.{length_digits, decimal_few}
 
@@ -69,7 +70,8 @@ refusal_few number offset =
 pub flat_append : {A B : Type 0} (f : A → List B) (s t : List A) → flat_map f (s ++ t) ≡ flat_map f s ++ flat_map f t
 unfolding flat_map
 flat_append f [] t = refl
-flat_append f (x ∷ s) t = ap (λ l. f x ++ l) (flat_append f s t) ∙ sym (append_assoc (f x) (flat_map f s) (flat_map f t))
+flat_append f (x ∷ s) t =
+    ap (λ l. f x ++ l) (flat_append f s t) ∙ sym (append_assoc (f x) (flat_map f s) (flat_map f t))
 
 flat_one : {A B : Type 0} (f : A → List B) (x : A) → flat_map f (x ∷ []) ≡ f x
 unfolding flat_map
@@ -114,7 +116,8 @@ module _ (n : ℕ) (bytes : List ℕ) (numbers : List Float) where
   abbrev pub levels_below : ℕ → List ℕ
   levels_below c = lines_below (stands bytes) (row_line (λ S. get_or numbers S nan)) (2 ^ n) c
 
-  pub level_put : (c m : ℕ) {a b d : Cursor} → m ≡ 2 ^ n → Advances (levels_below c) a b → Advances (level_lines bytes numbers c m) b d
+  pub level_put : (c m : ℕ) {a b d : Cursor} → m ≡ 2 ^ n → Advances (levels_below c) a b
+      → Advances (level_lines bytes numbers c m) b d
       → Advances (levels_below (c + 1)) a d
   level_put c m e before level =
       let next = lines_next (stands bytes) (row_line (λ S. get_or numbers S nan)) (2 ^ n) c in
@@ -143,8 +146,10 @@ flat_length number (S ∷ l) =
     )
 
 pub level_few : (bytes : List ℕ) (numbers : List Float) (c s : ℕ) → length (level_lines bytes numbers c s) ≤ 21 * s
-level_few bytes numbers c zero = omega (arith, ap length (no_level (stands bytes) (row_line (λ S. get_or numbers S nan)) c))
-level_few bytes numbers c (suc s) = rw (← add-one s) (by (stands bytes s && eqb (ones s) c) refl (level_few bytes numbers c s))
+level_few bytes numbers c zero =
+    omega (arith, ap length (no_level (stands bytes) (row_line (λ S. get_or numbers S nan)) c))
+level_few bytes numbers c (suc s) =
+    rw (← add-one s) (by (stands bytes s && eqb (ones s) c) refl (level_few bytes numbers c s))
   where
     line : ℕ → List ℕ
     line = row_line (λ S. get_or numbers S nan)
@@ -160,7 +165,8 @@ level_few bytes numbers c (suc s) = rw (← add-one s) (by (stands bytes s && eq
         )
     by false e few = omega (arith, ap length (level_skip (stands bytes) line c s e))
 
-pub levels_few : (n : ℕ) (bytes : List ℕ) (numbers : List Float) (c : ℕ) → length (levels_below n bytes numbers c) ≤ 21 * 2 ^ n
+pub levels_few : (n : ℕ) (bytes : List ℕ) (numbers : List Float) (c : ℕ)
+    → length (levels_below n bytes numbers c) ≤ 21 * 2 ^ n
 levels_few n bytes numbers c =
     omega (arith, flat_length (λ S. get_or numbers S nan) (up_to (λ d. rows_of (stands bytes) d (2 ^ n)) c), few_rows (stands bytes) (2 ^ n) c)
 
@@ -194,11 +200,14 @@ lines_same n present present' number number' e =
     (λ c h. up_to_cong (line_at n present number c) (line_at n present' number' c) (2 ^ n) (λ S k. same c S (e S k).0 (e S k).1))
     ∙ sym (by_mask n present' number')
   where
-    one : (b : Bool) (S : ℕ) → number S ≡ number' S → flat_map (row_line number) (cond b (S ∷ []) []) ≡ flat_map (row_line number') (cond b (S ∷ []) [])
-    one true S q = flat_one (row_line number) S ∙ ap (λ v. line_of S (to_bits binary64 v)) q ∙ sym (flat_one (row_line number') S)
+    one : (b : Bool) (S : ℕ) → number S ≡ number' S
+        → flat_map (row_line number) (cond b (S ∷ []) []) ≡ flat_map (row_line number') (cond b (S ∷ []) [])
+    one true S q =
+        flat_one (row_line number) S ∙ ap (λ v. line_of S (to_bits binary64 v)) q ∙ sym (flat_one (row_line number') S)
     one false S q = flat_none (row_line number) ∙ sym (flat_none (row_line number'))
 
-    same : (c S : ℕ) → present S ≡ present' S → number S ≡ number' S → line_at n present number c S ≡ line_at n present' number' c S
+    same : (c S : ℕ) → present S ≡ present' S → number S ≡ number' S
+        → line_at n present number c S ≡ line_at n present' number' c S
     same c S p q =
         one (present S && eqb (ones S) c) S q
         ∙ ap (λ b. flat_map (row_line number') (cond (b && eqb (ones S) c) (S ∷ []) [])) p

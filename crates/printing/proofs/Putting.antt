@@ -89,7 +89,8 @@ pub advance_none : (c : Cursor) → Advances [] c c
 advance_none c = record { bytes = sym (put_nothing c.out.now c.at); place = omega arith; same_slice = refl }
 
 -- a byte is put, or there is no place for it
-pub byte_put : (b : ℕ) {c d : Cursor} → d.out.now ≡ set c.out.now c.at b → d.at ≡ c.at + 1 → d.out.ghost_name ≡ c.out.ghost_name → Advances (b ∷ []) c d
+pub byte_put : (b : ℕ) {c d : Cursor} → d.out.now ≡ set c.out.now c.at b → d.at ≡ c.at + 1
+    → d.out.ghost_name ≡ c.out.ghost_name → Advances (b ∷ []) c d
 byte_put b {c = c} bytes place same = record { bytes = bytes ∙ put_one c.out.now c.at b; place = place; same_slice = same }
 
 -- one text and then another
@@ -101,5 +102,6 @@ advance_then s t {a = a} first second = record {
 }
 
 -- all that was put at the front of the slice
-pub printed_by : (text : List ℕ) {left : List ℕ} {a b : Cursor} → a.at ≡ 0 → left ≡ b.out.now → Advances text a b → Printed text a.out.now left b.at
+pub printed_by : (text : List ℕ) {left : List ℕ} {a b : Cursor} → a.at ≡ 0 → left ≡ b.out.now → Advances text a b
+    → Printed text a.out.now left b.at
 printed_by text {a = a} e f all = record { counted = omega (arith, all.place, e); bytes = f ∙ all.bytes ∙ ap (λ n. put a.out.now n text) e }

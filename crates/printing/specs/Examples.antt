@@ -17,7 +17,8 @@ bits64 b = of_bits binary64 b
 abbrev pub zeros : List ℕ
 zeros = 32 ∷ (replicate 16 48 ++ (10 ∷ []))
 
--- document 01's example, a box of 200 square centimetres of which a head waters all: "000 4069000000000000" and "001 0000000000000000"
+-- document 01's example, a box of 200 square centimetres of which a head waters all: "000 4069000000000000" and "001
+-- 0000000000000000"
 pub example_lines :
     table_lines 1 (1 ∷ 1 ∷ []) (bits64 0x4069000000000000 ∷ bits64 0 ∷ [])
     ≡ (48 ∷ 48 ∷ 48 ∷ 32 ∷ 52 ∷ 48 ∷ 54 ∷ 57 ∷ (replicate 12 48 ++ (10 ∷ []))) ++ (48 ∷ 48 ∷ 49 ∷ zeros)

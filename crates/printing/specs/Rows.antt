@@ -1,4 +1,5 @@
--- What the program prints: the lines of a table, and the line of a refusal. Over any presence and any numbers: no plan and no geometry.
+-- What the program prints: the lines of a table, and the line of a refusal. Over any presence and any numbers: no plan
+-- and no geometry.
 use Rattle.std.specs.Prelude.{ℕ, ◌<◌, ◌≤◌, ◌^◌, ◌≡◌, Bool, cond, ltb, Float, length, get_or}
 use mathlib.Core.List.{List, [], ◌∷◌, ◌++◌, flat_map}
 use Rattle.std.specs.Float.{nan, binary64}
@@ -14,7 +15,8 @@ unfoldable pub line_of : ℕ → ℕ → List ℕ
 unfolding digits
 line_of mask bits = digits 16 3 mask ++ (32 ∷ (digits 16 16 bits ++ line_end))
 
--- A NaN has no bits of its own: it is printed as 7FF8000000000000, which is what `to_bits` has for it. An exclusive area is none: it is clamped.
+-- A NaN has no bits of its own: it is printed as 7FF8000000000000, which is what `to_bits` has for it. An exclusive
+-- area is none: it is clamped.
 abbrev pub row_line : (ℕ → Float) → ℕ → List ℕ
 row_line number S = line_of S (to_bits binary64 (number S))
 
@@ -22,8 +24,8 @@ row_line number S = line_of S (to_bits binary64 (number S))
 unfoldable pub row_lines : ℕ → (ℕ → Bool) → (ℕ → Float) → List ℕ
 row_lines n present number = flat_map (row_line number) (row_order present n)
 
--- The lines of two lent slices. A row past the end of the presence bytes is absent, a number past the end of the numbers is a NaN, and more than ten
--- heads have no table.
+-- The lines of two lent slices. A row past the end of the presence bytes is absent, a number past the end of the
+-- numbers is a NaN, and more than ten heads have no table.
 unfoldable pub table_lines : ℕ → List ℕ → List Float → List ℕ
 unfolding row_lines
 table_lines n bytes numbers = cond (ltb 10 n) [] (row_lines n (stands bytes) (λ S. get_or numbers S nan))
@@ -32,7 +34,8 @@ table_lines n bytes numbers = cond (ltb 10 n) [] (row_lines n (stands bytes) (λ
 abbrev pub level_lines : List ℕ → List Float → ℕ → ℕ → List ℕ
 level_lines bytes numbers c m = flat_map (row_line (λ S. get_or numbers S nan)) (rows_of (stands bytes) c m)
 
--- A line has 21 bytes and there are at most 2^n rows: 21504 bytes are enough for every table. Proved as `lines_few`, proofs/Lines.antt.
+-- A line has 21 bytes and there are at most 2^n rows: 21504 bytes are enough for every table. Proved as `lines_few`,
+-- proofs/Lines.antt.
 abbrev pub LinesFew : Type 0
 LinesFew = (n : ℕ) (bytes : List ℕ) (numbers : List Float) → length (table_lines n bytes numbers) ≤ 21504
 

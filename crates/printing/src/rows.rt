@@ -9,24 +9,23 @@ ghost use Rattle.printing.specs.Rows.{line_of, level_lines, table_lines};
 
 use crate::text::Cursor;
 
-// The bits of a NaN, of which there is one to us.
+// Every NaN is printed with these bits.
 const NAN_BITS: u64 = 0x7FF8_0000_0000_0000;
 
 // Whether row s is present and has c heads.
 fn is_row(presence: &[u8], c: u32, s: usize) -> bool
     ensures { result ≡ (stands presence.now s && eqb (ones s) c) }
 {
-    s < presence.len() && presence[s] == 1 && s.count_ones() == c
+    presence.get(s) == Some(&1) && s.count_ones() == c
 }
 
 // The bits of number s.
 fn bits_at(numbers: &[f64], s: usize) -> u64
     ensures { result ≡ to_bits binary64 (get_or numbers.now s nan) }
 {
-    if s < numbers.len() && !numbers[s].is_nan() {
-        numbers[s].to_bits()
-    } else {
-        NAN_BITS
+    match numbers.get(s) {
+        Some(number) if !number.is_nan() => number.to_bits(),
+        _ => NAN_BITS,
     }
 }
 
@@ -43,6 +42,7 @@ fn put_line(text: &mut Cursor<'_>, mask: usize, bits: u64)
 }
 
 // The lines of the rows of c heads below row `masks`.
+// Not `rows_in_order` of `exclusive`: here the presence bytes may be fewer than the rows.
 fn put_level(text: &mut Cursor<'_>, presence: &[u8], numbers: &[f64], c: u32, masks: usize)
     requires { text.old.at + 21 * masks < 2 ^ 64 }
     ensures { Advances (level_lines presence.now numbers.now c masks) text.old text.new }
@@ -54,7 +54,8 @@ fn put_level(text: &mut Cursor<'_>, presence: &[u8], numbers: &[f64], c: u32, ma
     }
 }
 
-// The lines of a table of n heads, at the front of `out`; gives how many bytes they have.
+// The lines of a table of n heads, at the front of `out`; gives how many bytes they have. Above ten heads there is no
+// table, which has 0 bytes.
 pub fn print_rows(presence: &[u8], numbers: &[f64], n: usize, out: &mut [u8]) -> usize
     ensures { Printed (table_lines n presence.now numbers.now) out.old out.new result }
 {

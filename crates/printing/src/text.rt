@@ -1,10 +1,11 @@
-// A text put into a lent slice, byte by byte: `put`, specs/Text.antt. What the slice has no place for is dropped, so no function here
-// asks anything of its length. Not by `write!`: where that gives an error, no clause says what was written, and these calls cannot fail.
+// A text put into a lent slice, byte by byte: `put`, specs/Text.antt. What the slice has no place for is dropped, so no
+// function here asks anything of its length. Not by `write!`: where that gives an error, no clause says what was
+// written, and these calls cannot fail.
 ghost use Rattle.std.specs.Prelude.{◌≡◌, [], ◌∷◌, ◌+◌, ◌-◌, ◌^◌, ◌≤◌, ◌<◌, length};
 ghost use Rattle.printing.specs.Text.{digits, decimal, Advances};
 ghost use Rattle.printing.specs.Text.{glyph as spec·glyph};
 
-// The byte of a digit.
+// The byte of a digit. No `char::from_digit`: it gives small letters, and capitals are wanted.
 fn glyph(d: u64) -> u8
     requires { d < 16 }
     ensures { result ≡ spec·glyph d }
@@ -17,6 +18,7 @@ fn glyph(d: u64) -> u8
 }
 
 // A lent slice, and the index of the next byte, which may be past the slice's end.
+// That `at` does not wrap is asked by each function: by how many bytes differs, so no field holds it.
 #[derive(Drop)]
 pub(crate) struct Cursor<'a> {
     pub out: &'a mut [u8],
@@ -29,6 +31,7 @@ impl Cursor<'_> {
         requires { self.old.at + 1 < 2 ^ 64 }
         ensures { Advances (b ∷ []) self.old self.new }
     {
+        // No `get_mut`: its contract does not say how the slice ends, so the proof would not close.
         if self.at < self.out.len() {
             self.out[self.at] = b;
         }

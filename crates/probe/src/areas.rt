@@ -1,5 +1,5 @@
 // Exports of crates `sets`, `exclusive` and `overlaps`: the sets of the first n_sets circles, exclusive areas of lent
-// tables, and the area that circles water together.
+// tables, and the area that circles water together. One for each function compared, with C's numbers (lib.rt).
 ghost use Rattle.std.specs.Prelude.{◌≡◌};
 ghost use Rattle.sets.specs.Regions.{set_bytes};
 ghost use Rattle.exclusive.specs.Exclusive.{exclusive_answer, exclusive_table};

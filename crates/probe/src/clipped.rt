@@ -1,5 +1,5 @@
 // Exports of crates `inside` and `clip`: spans of edges, areas and gradients in the box of a set of the first n_sets
-// circles. Each works the meeting points out anew.
+// circles. Each works the meeting points out anew. One for each function compared, with C's numbers (lib.rt).
 ghost use Rattle.std.specs.Prelude.{◌≡◌};
 ghost use Rattle.clip.specs.Area.{clipped_area_of, clipped_area};
 ghost use Rattle.clip.specs.Arc.{named_arc_integral_with_gradient};
@@ -8,16 +8,17 @@ ghost use Rattle.inside.specs.Span.{horizontal_span, vertical_span};
 ghost use Rattle.probe.specs.Handed as spec;
 
 use crate::Extents;
-use crate::given::{Arc, Circles, Ends, boundary_arc, bounds_of, circles_of, ends_of};
+use crate::given::{Arc, Circles, Ends, circles_of};
 use crate::outlines::{arcs_of, points_of};
+use boundary::arcs::BoundaryArc;
 use clip::area::{area_from_clipped_arcs, clipped_region_area};
 use clip::gradient::{area_and_gradient_from_clipped_arcs, clipped_region_area_and_gradient};
 use clip::slopes::clipped_arc_integral_with_gradient;
+use geometry::bounds::Bounds;
 use inside::span::{horizontal_edge_inside_interval, vertical_edge_inside_interval};
 use intersections::members::members_of;
 
-// The span of the edge at y from x_min to x_max. (This and the next are C names of the differential run, one for each
-// function that it compares.)
+// The span of the edge at y from x_min to x_max.
 #[unsafe(no_mangle)]
 #[tactic(auto, using(intersections::specs::Heads::circles_with_heads))]
 pub extern "C" fn probe_horizontal_span(
@@ -31,7 +32,7 @@ pub extern "C" fn probe_horizontal_span(
     ensures { result ≡ spec.ends_of (horizontal_span y x_min x_max (spec.own circles.numbers n_sets mask)) }
 {
     let set = members_of(mask, &circles_of(circles, n_sets));
-    ends_of(horizontal_edge_inside_interval(y, x_min, x_max, &set))
+    Ends::from(horizontal_edge_inside_interval(y, x_min, x_max, &set))
 }
 
 // The span of the edge at x from y_min to y_max.
@@ -48,7 +49,7 @@ pub extern "C" fn probe_vertical_span(
     ensures { result ≡ spec.ends_of (vertical_span x y_min y_max (spec.own circles.numbers n_sets mask)) }
 {
     let set = members_of(mask, &circles_of(circles, n_sets));
-    ends_of(vertical_edge_inside_interval(x, y_min, y_max, &set))
+    Ends::from(vertical_edge_inside_interval(x, y_min, y_max, &set))
 }
 
 // The integral along the parts in the box of an arc, and its gradient by head numbers, added to grad.
@@ -65,9 +66,9 @@ pub extern "C" fn probe_clipped_arc_integral_with_gradient(
         (spec.boundary_arc arc) grad.old }
 {
     clipped_arc_integral_with_gradient(
-        boundary_arc(arc),
+        BoundaryArc::from(arc),
         &circles_of(circles, n_sets),
-        bounds_of(sides),
+        Bounds::from(sides),
         grad,
     )
 }
@@ -85,7 +86,12 @@ pub extern "C" fn probe_area_from_clipped_arcs(
         (spec.own circles.numbers n_sets mask) (spec.arcs circles.numbers n_sets mask) }
 {
     let arcs = arcs_of(circles, n_sets, mask);
-    area_from_clipped_arcs(&arcs, &circles_of(circles, n_sets), bounds_of(sides), mask)
+    area_from_clipped_arcs(
+        &arcs,
+        &circles_of(circles, n_sets),
+        Bounds::from(sides),
+        mask,
+    )
 }
 
 // The same straight from the members of the set.
@@ -103,7 +109,7 @@ pub extern "C" fn probe_clipped_region_area(
         mask,
         &circles_of(circles, n_sets),
         &points,
-        bounds_of(sides),
+        Bounds::from(sides),
     )
 }
 
@@ -124,7 +130,7 @@ pub extern "C" fn probe_area_and_gradient_from_clipped_arcs(
     area_and_gradient_from_clipped_arcs(
         &arcs,
         &circles_of(circles, n_sets),
-        bounds_of(sides),
+        Bounds::from(sides),
         mask,
         grad,
     )
@@ -147,7 +153,7 @@ pub extern "C" fn probe_clipped_region_area_and_gradient(
         mask,
         &circles_of(circles, n_sets),
         &points,
-        bounds_of(sides),
+        Bounds::from(sides),
         grad,
     )
 }

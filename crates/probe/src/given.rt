@@ -1,5 +1,5 @@
-// Circles, meeting points, arcs and spans as the differential run hands them over and gets them. Rests on
-// specs/Handed.antt.
+// Circles, meeting points, arcs and spans as the differential run hands them over and gets them, as C lays them out.
+// Rests on specs/Handed.antt.
 ghost use Rattle.std.specs.Prelude.{◌≡◌, ◌<◌};
 ghost use Rattle.inside.specs.Span.{spans};
 ghost use Rattle.probe.specs.Handed as spec;
@@ -22,7 +22,7 @@ pub struct Circles {
 
 // A meeting point.
 #[repr(C)]
-#[derive(Clone, Copy)]
+#[derive(Clone, Copy, Default)]
 pub struct Met {
     pub x: f64,
     pub y: f64,
@@ -33,7 +33,7 @@ pub struct Met {
 
 // An arc.
 #[repr(C)]
-#[derive(Clone, Copy)]
+#[derive(Clone, Copy, Default)]
 pub struct Arc {
     pub head: usize,
     pub start: f64,
@@ -43,13 +43,16 @@ pub struct Arc {
 
 // How many spans, and the ends of the one; without one both are +0.
 #[repr(C)]
-#[derive(Clone, Copy)]
+#[derive(Clone, Copy, Default)]
 pub struct Ends {
     pub number: usize,
     pub low: f64,
     pub high: f64,
 }
 
+// Circle i of them.
+// By place and not by `as_chunks`: the definition has number k of circle i at 3 i + k, and that speaks of lists of
+// lists.
 #[tactic(auto, unfolding(crate::specs::Handed::circle_of))]
 fn circle_of(c: Circles, i: usize) -> Circle
     requires { i < 10 }
@@ -71,79 +74,87 @@ pub(crate) fn circles_of(c: Circles, n: usize) -> circle::Circles
     circles
 }
 
-pub(crate) fn bounds_of(s: Extents) -> Bounds
-    ensures { result ≡ spec.bounds_of s }
-{
-    Bounds::new(s.x_min, s.x_max, s.y_min, s.y_max)
+// The same four numbers.
+impl From<Extents> for Bounds {
+    ghost from_gives = { λ sides bounds. bounds ≡ spec.bounds_of sides };
+
+    fn from(sides: Extents) -> Bounds {
+        Bounds::new(sides.x_min, sides.x_max, sides.y_min, sides.y_max)
+    }
 }
 
+// A meeting point, as it is handed out.
+impl From<IntersectionPoint> for Met {
+    ghost from_gives = { λ point met. met ≡ spec.met point };
+
+    fn from(point: IntersectionPoint) -> Met {
+        Met {
+            x: point.point.x,
+            y: point.point.y,
+            first: point.first,
+            second: point.second,
+            adopters: point.adopters,
+        }
+    }
+}
+
+// An arc, as it is handed out, and as it is handed over.
+impl From<BoundaryArc> for Arc {
+    ghost from_gives = { λ arc told. told ≡ spec.arc arc };
+
+    fn from(arc: BoundaryArc) -> Arc {
+        Arc {
+            head: arc.circle,
+            start: arc.phi_start,
+            end: arc.phi_end,
+            delta: arc.delta_phi,
+        }
+    }
+}
+
+impl From<Arc> for BoundaryArc {
+    ghost from_gives = { λ told arc. arc ≡ spec.boundary_arc told };
+
+    fn from(told: Arc) -> BoundaryArc {
+        BoundaryArc {
+            circle: told.head,
+            phi_start: told.start,
+            phi_end: told.end,
+            delta_phi: told.delta,
+        }
+    }
+}
+
+// The one span, or none.
+impl From<Span> for Ends {
+    ghost from_gives = { λ span ends. ends ≡ spec.ends_of (spans span) };
+
+    fn from(span: Span) -> Ends {
+        match span {
+            Span::None => Ends::default(),
+            Span::Ends(low, high) => Ends {
+                number: 1,
+                low,
+                high,
+            },
+        }
+    }
+}
+
+// The k-th meeting point; zeros where there is none.
+// This and the next are two and not one over the types: its contract would hand on those of `From` and `Default`, and
+// be longer than both.
 #[tactic(auto, unfolding(crate::specs::Handed::met_at))]
 pub(crate) fn point_at(list: &[IntersectionPoint], k: usize) -> Met
     ensures { result ≡ spec.met_at list.now k }
 {
-    match list.get(k) {
-        Some(q) => Met {
-            x: q.point.x,
-            y: q.point.y,
-            first: q.first,
-            second: q.second,
-            adopters: q.adopters,
-        },
-        None => Met {
-            x: 0.0,
-            y: 0.0,
-            first: 0,
-            second: 0,
-            adopters: 0,
-        },
-    }
+    list.get(k).copied().map(Met::from).unwrap_or_default()
 }
 
+// The k-th arc; zeros where there is none.
 #[tactic(auto, unfolding(crate::specs::Handed::arc_at))]
 pub(crate) fn arc_at(list: &[BoundaryArc], k: usize) -> Arc
     ensures { result ≡ spec.arc_at list.now k }
 {
-    match list.get(k) {
-        Some(a) => Arc {
-            head: a.circle,
-            start: a.phi_start,
-            end: a.phi_end,
-            delta: a.delta_phi,
-        },
-        None => Arc {
-            head: 0,
-            start: 0.0,
-            end: 0.0,
-            delta: 0.0,
-        },
-    }
-}
-
-// The same head and angles.
-pub(crate) fn boundary_arc(a: Arc) -> BoundaryArc
-    ensures { result ≡ spec.boundary_arc a }
-{
-    BoundaryArc {
-        circle: a.head,
-        phi_start: a.start,
-        phi_end: a.end,
-        delta_phi: a.delta,
-    }
-}
-
-pub(crate) fn ends_of(span: Span) -> Ends
-    ensures { result ≡ spec.ends_of (spans span) }
-{
-    match span {
-        Span::None => Ends {
-            number: 0,
-            low: 0.0,
-            high: 0.0,
-        },
-        Span::Ends(low, high) => Ends {
-            number: 1,
-            low,
-            high,
-        },
-    }
+    list.get(k).copied().map(Arc::from).unwrap_or_default()
 }

@@ -1,5 +1,6 @@
 // Exports of crates `boundary` and `outline`: wrapped angles; meeting points, arcs, open areas and gradients of a set
-// of the first n_sets circles. Each works the meeting points out anew.
+// of the first n_sets circles. Each works the meeting points out anew. One for each function compared, with C's numbers
+// (lib.rt): a list is handed out by its length and the item at a place.
 ghost use Rattle.std.specs.Prelude.{◌≡◌, length};
 ghost use Rattle.outline.specs.Area.{area_of, open_area, add_gradient};
 ghost use Rattle.boundary.specs.Outline.{wrap_angle};
@@ -14,6 +15,7 @@ use outline::area::{area_from_boundary_arcs, region_area};
 use outline::gradient::accumulate_region_overlap_gradient;
 use outline::outline::region_boundary_arcs;
 
+// An angle wrapped into one turn.
 #[unsafe(no_mangle)]
 pub extern "C" fn probe_wrap_angle(x: f64) -> f64
     ensures { result ≡ wrap_angle x }
@@ -21,12 +23,14 @@ pub extern "C" fn probe_wrap_angle(x: f64) -> f64
     wrap_angle(x)
 }
 
+// The meeting points of the circles.
 pub(crate) fn points_of(circles: Circles, n_sets: usize) -> Intersections
     ensures { result.items ≡ spec.points circles.numbers n_sets }
 {
     collect_intersections(&circles_of(circles, n_sets))
 }
 
+// The arcs of the outline of a set of them.
 pub(crate) fn arcs_of(circles: Circles, n_sets: usize, mask: usize) -> Arcs
     ensures { result.items ≡ spec.arcs circles.numbers n_sets mask }
 {

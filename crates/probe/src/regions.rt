@@ -1,5 +1,6 @@
 // Exports of crates `diagram` and `exclusive_gradients`: the exclusive areas of the first n_sets circles, in a box by
-// its centre and sides or without one, with gradients or without.
+// its centre and sides or without one, with gradients or without. One for each function compared, with the parameters
+// that C hands over (lib.rt).
 ghost use Rattle.std.specs.Prelude.{◌≡◌, ◌<◌, MatchOption, length};
 ghost use Rattle.diagram.specs.Diagram as left;
 ghost use Rattle.exclusive_gradients.specs.Gradient.{gradient_answer, exclusive_areas, exclusive_gradients};
@@ -7,6 +8,7 @@ ghost use Rattle.geometry.specs.Point.{at};
 ghost use Rattle.geometry.specs.Rectangle.{around};
 ghost use Rattle.probe.specs.Handed as spec;
 
+use crate::container;
 use crate::given::{Circles, circles_of};
 use diagram::exclusives::{compute_exclusive_regions, compute_exclusive_regions_clipped};
 use diagram::gradients::{
@@ -16,25 +18,14 @@ use diagram::gradients::{
 use exclusive::areas::{RowsError, rows_number};
 use exclusive_gradients::gradients::to_exclusive_areas_and_gradients;
 use geometry::circle;
-use geometry::point::Point;
-use geometry::rectangle::Rectangle;
-
-// The box around (x, y).
-fn container(x: f64, y: f64, width: f64, height: f64) -> Rectangle
-    ensures { result ≡ around (at x y) width height }
-{
-    Rectangle::new(Point::new(x, y), width, height)
-}
 
 // The first n_sets circles: there are ten, and of more the calls are refused.
+// An Option, and the refusal at each call: an export gives a number, so that `?` has no Result to leave.
 fn first_circles(circles: Circles, n_sets: usize) -> Option<circle::Circles>
     ensures { MatchOption result (10 < n_sets)
         (λ first. (first.items ≡ spec.circles circles.numbers n_sets) × (length first.items ≡ n_sets)) }
 {
-    if 10 < n_sets {
-        return None;
-    }
-    Some(circles_of(circles, n_sets))
+    (n_sets <= 10).then(|| circles_of(circles, n_sets))
 }
 
 // Exclusive areas and their gradients from presence bytes, areas and gradients, in place.
@@ -71,7 +62,7 @@ pub extern "C" fn probe_compute_exclusive_regions(
         presence.old exclusives.old }
 {
     let Some(first) = first_circles(circles, n_sets) else {
-        return RowsError::TooManyHeads as u8;
+        return rows_number(Err(RowsError::TooManyHeads));
     };
     rows_number(compute_exclusive_regions(&first, presence, exclusives))
 }
@@ -99,7 +90,7 @@ pub extern "C" fn probe_compute_exclusive_regions_clipped(
         (spec.circles circles.numbers n_sets)) presence.old exclusives.old }
 {
     let Some(first) = first_circles(circles, n_sets) else {
-        return RowsError::TooManyHeads as u8;
+        return rows_number(Err(RowsError::TooManyHeads));
     };
     rows_number(compute_exclusive_regions_clipped(
         &first,
@@ -132,14 +123,14 @@ pub extern "C" fn probe_compute_exclusive_regions_with_gradient_circles(
         presence.old exclusives.old gradients.old }
 {
     let Some(first) = first_circles(circles, n_sets) else {
-        return RowsError::TooManyHeads as u8;
+        return rows_number(Err(RowsError::TooManyHeads));
     };
     rows_number(compute_exclusive_regions_with_gradient_circles(
         &first, presence, exclusives, gradients,
     ))
 }
 
-// Those in the box. (A C name of the differential run, with the parameters that it hands over: nine.)
+// Those in the box.
 #[unsafe(no_mangle)]
 pub extern "C" fn probe_compute_exclusive_regions_clipped_with_gradient(
     circles: Circles,
@@ -166,7 +157,7 @@ pub extern "C" fn probe_compute_exclusive_regions_clipped_with_gradient(
         (spec.circles circles.numbers n_sets)) presence.old exclusives.old gradients.old }
 {
     let Some(first) = first_circles(circles, n_sets) else {
-        return RowsError::TooManyHeads as u8;
+        return rows_number(Err(RowsError::TooManyHeads));
     };
     rows_number(compute_exclusive_regions_clipped_with_gradient(
         &first,

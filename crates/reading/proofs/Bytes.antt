@@ -1,4 +1,5 @@
--- The state after the bytes of a file is what the whole file says, as specs/Reading.antt states it; and one byte more, as the code takes it.
+-- The state after the bytes of a file is what the whole file says, as specs/Reading.antt states it; and one byte more,
+-- as the code takes it.
 use Prim.Native.Nat.{ℕ, ◌+◌, ◌≤◌, ◌<◌}
 use mathlib.Core.Path.{◌≡◌, refl, sym, ap, ap₂, ◌∙◌, subst}
 use mathlib.Core.List.{List, [], ◌∷◌, ◌++◌, append-nil, append_assoc, foldl}
@@ -25,20 +26,23 @@ use Rattle.printing.specs.Text.{Printed}
 use Rattle.printing.proofs.Lines.{lines_few, refusal_few}
 use Rattle.reading.specs.Whole.{over, no_plan, file_left, file_answer, plan_lines, printed_for}
 use Rattle.reading.specs.Reading.{State, state_of, begun, handed_to, read_byte, read_bytes, answer_at}
-use Rattle.reading.specs.Reading.{printed_at, AfterBytes, BegunReads, PieceReads, FileAnswers, FilePrints, joined, PiecesRead, PiecesPrint}
+use Rattle.reading.specs.Reading.{printed_at, AfterBytes, BegunReads, PieceReads, FileAnswers, FilePrints, joined}
+use Rattle.reading.specs.Reading.{PiecesRead, PiecesPrint}
 use Rattle.reading.proofs.Fresh.{left_over}
 use Rattle.reading.proofs.Whole.{file-left, file_answers, file_lines, printed_same}
 
 module _ (m : Method) where
   -- ---- the tables are what the file says
 
-  handed-over : (h : Option Completed) (p : Plan) (f : File) (d : PlanSlices) → left_over m (handing h p f) d ≡ left_over m f (handed_to m h p d)
+  handed-over : (h : Option Completed) (p : Plan) (f : File) (d : PlanSlices)
+      → left_over m (handing h p f) d ≡ left_over m f (handed_to m h p d)
   unfolding left_over handed_to
   handed-over None p f d = refl
   handed-over (Some ThePlan) p f d = refl
   handed-over (Some (AnEdit e)) p f d = refl
 
-  bytes_left : (s : List ℕ) (r : Reader) (d : PlanSlices) (a : Answered) → (read_bytes m (state_of r d) s).left ≡ left_over m (handed_over r s (ends a)) d
+  bytes_left : (s : List ℕ) (r : Reader) (d : PlanSlices) (a : Answered)
+      → (read_bytes m (state_of r d) s).left ≡ left_over m (handed_over r s (ends a)) d
   unfolding read_bytes handed_over left_over
   bytes_left [] r d a = refl
   bytes_left (b ∷ s) r d a =
@@ -53,7 +57,8 @@ module _ (m : Method) where
   bytes_whole : (t : LentTables) (s : List ℕ) → AfterBytes m t s (read_bytes m (begun t) s)
   bytes_whole t s =
       ap₂ state_of (bytes_read s start (over t no_plan))
-      (bytes_left s start (over t no_plan) (finish (feed start s)) ∙ ap (λ g. left_over m g (over t no_plan)) (reader_reads s) ∙ file-left m t s)
+      (bytes_left s start (over t no_plan) (finish (feed start s))
+      ∙ ap (λ g. left_over m g (over t no_plan)) (reader_reads s) ∙ file-left m t s)
 
   -- ---- however it is cut
 
@@ -68,7 +73,8 @@ module _ (m : Method) where
 
   pub piece_reads : PieceReads m
   piece_reads t s piece now e =
-      ap (λ x. read_bytes m x piece) (e ∙ sym (bytes_whole t s)) ∙ sym (bytes_append (begun t) s piece) ∙ bytes_whole t (s ++ piece)
+      ap (λ x. read_bytes m x piece) (e ∙ sym (bytes_whole t s)) ∙ sym (bytes_append (begun t) s piece)
+      ∙ bytes_whole t (s ++ piece)
 
   pub answers_file : FileAnswers m
   answers_file t s now e = ap answer_at e ∙ file_answers m t s
@@ -84,7 +90,8 @@ module _ (m : Method) where
       → AfterBytes m t (s ++ joined pieces) (foldl (read_bytes m) now pieces)
   pieces_after t [] s now e = rw (append-nil s) e
   pieces_after t (piece ∷ pieces) s now e =
-      rw (← append_assoc s piece (joined pieces)) (pieces_after t pieces (s ++ piece) (read_bytes m now piece) (piece_reads t s piece now e))
+      rw (← append_assoc s piece (joined pieces))
+      (pieces_after t pieces (s ++ piece) (read_bytes m now piece) (piece_reads t s piece now e))
 
   pub pieces_read : PiecesRead m
   pieces_read t pieces = pieces_after t pieces [] (begun t) (begun_reads t)
@@ -114,12 +121,14 @@ module _ (m : Method) where
   unfolding handed_to
   handed_nothing h p d e = rw e
 
-  pub handed_plan : (h : Option Completed) (p : Plan) (d left : PlanSlices) (a : Answered) → h ≡ Some ThePlan → step_of left a ≡ afresh_slices m (over d.tables p)
+  pub handed_plan : (h : Option Completed) (p : Plan) (d left : PlanSlices) (a : Answered) → h ≡ Some ThePlan
+      → step_of left a ≡ afresh_slices m (over d.tables p)
       → left ≡ handed_to m h p d
   unfolding handed_to
   handed_plan h p d left a e q = rw e (ap (λ x. x.left) q)
 
-  pub handed_edit : (h : Option Completed) (p : Plan) (d left : PlanSlices) (e : Edit) (a : Answered) → h ≡ Some (AnEdit e) → step_of left a ≡ edit_slices m d e
+  pub handed_edit : (h : Option Completed) (p : Plan) (d left : PlanSlices) (e : Edit) (a : Answered)
+      → h ≡ Some (AnEdit e) → step_of left a ≡ edit_slices m d e
       → left ≡ handed_to m h p d
   unfolding handed_to
   handed_edit h p d left e a q s = rw q (ap (λ x. x.left) s)
@@ -129,16 +138,20 @@ module _ (m : Method) where
 pub taken_printed : (a : Answered) (lines : List ℕ) → a ≡ Table.taken → lines ≡ printed_for a lines
 taken_printed a lines e = rw e
 
-pub refused_printed : {r : Refused} (a : Answered) (lines : List ℕ) (k : ℕ) → a ≡ Err r → k ≡ number_of r.refusal → refusal_line k r.at ≡ printed_for a lines
+pub refused_printed : {r : Refused} (a : Answered) (lines : List ℕ) (k : ℕ) → a ≡ Err r → k ≡ number_of r.refusal
+    → refusal_line k r.at ≡ printed_for a lines
 refused_printed {r = r} a lines k e q = rw e (ap (λ n. refusal_line n r.at) q)
 
-pub printed_as : {text text' out left : List ℕ} {count : ℕ} → text ≡ text' → Printed text out left count → Printed text' out left count
+pub printed_as : {text text' out left : List ℕ} {count : ℕ} → text ≡ text' → Printed text out left count
+    → Printed text' out left count
 printed_as {out = out} {left = left} {count = count} e p = subst (λ text. Printed text out left count) e p
 
 -- it fits in 21504 bytes
-pub printed_few : (a : Answered) (n : ℕ) (bytes : List ℕ) (numbers : List Float) → length (printed_for a (table_lines n bytes numbers)) ≤ 21504
+pub printed_few : (a : Answered) (n : ℕ) (bytes : List ℕ) (numbers : List Float)
+    → length (printed_for a (table_lines n bytes numbers)) ≤ 21504
 printed_few (Ok done) n bytes numbers = lines_few n bytes numbers
 printed_few (Err r) n bytes numbers = omega (arith, refusal_few (number_of r.refusal) r.at)
 
-pub printed_fits : {text out left : List ℕ} {count : ℕ} → length text ≤ 21504 → Printed text out left count → count ≤ 21504
+pub printed_fits : {text out left : List ℕ} {count : ℕ} → length text ≤ 21504 → Printed text out left count
+    → count ≤ 21504
 printed_fits few p = omega (arith, p.counted)

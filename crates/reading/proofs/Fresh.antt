@@ -1,5 +1,5 @@
--- The edits of a file on the tables of its plan: after each of them the tables are those of the plan that the edits so far leave, worked out
--- afresh over the tables that were lent.
+-- The edits of a file on the tables of its plan: after each of them the tables are those of the plan that the edits so
+-- far leave, worked out afresh over the tables that were lent.
 use Prim.Native.Nat.{ℕ, ◌^◌, ◌≤◌, ◌<◌}
 use mathlib.Core.Path.{◌≡◌, refl, sym, ap, ap₂, ◌∙◌, subst}
 use mathlib.Core.List.{List, [], ◌∷◌}
@@ -29,7 +29,8 @@ use Rattle.file.specs.Sound.{EditsWithin}
 use Rattle.regions.specs.Demand.{Fresh}
 use Rattle.regions.specs.Edit.{Row}
 use Rattle.regions.specs.Slices.{Slices, slices_of, row_at, with_rows, LentTables, lent_of, PlanSlices, settled_tables}
-use Rattle.regions.specs.Slices.{afresh_answer, afresh_left, afresh_slices, slice_answer, edited_left, edit_slices, plan_table, entry_of}
+use Rattle.regions.specs.Slices.{afresh_answer, afresh_left, afresh_slices, slice_answer, edited_left, edit_slices}
+use Rattle.regions.specs.Slices.{plan_table, entry_of}
 use Rattle.regions.specs.Table.{Method, afresh, edited}
 use Rattle.regions.proofs.Run.{run_ends}
 use Rattle.regions.proofs.Slices.{afresh_room, row_written, settled_lengths, edited-left, slices-of}
@@ -50,14 +51,17 @@ slices_over : {a a' : List ℕ} {b b' : List Float} → a ≡ a' → b ≡ b' �
 slices_over e f = ap₂ slices_of e f
 
 -- the second stands, by a rule that agrees on these rows
-rows_again : (F G H : ℕ → Row) (count : ℕ) (u : Slices) → ((S : ℕ) → S < count → F S ≡ G S) → with_rows F count (with_rows H count u) ≡ with_rows G count u
+rows_again : (F G H : ℕ → Row) (count : ℕ) (u : Slices) → ((S : ℕ) → S < count → F S ≡ G S)
+    → with_rows F count (with_rows H count u) ≡ with_rows G count u
 rows_again F G H count u e =
     slices_over
-    (written_cong (λ S. (F S).byte) (λ S. (G S).byte) count _ u.bytes (λ S h. ap (λ r. r.byte) (e S h)) (drop_rest (λ S. (H S).byte) count u.bytes))
+    (written_cong (λ S. (F S).byte) (λ S. (G S).byte) count _ u.bytes (λ S h. ap (λ r. r.byte) (e S h))
+    (drop_rest (λ S. (H S).byte) count u.bytes))
     (written_cong (λ S. (F S).number) (λ S. (G S).number) count _ u.numbers (λ S h. ap (λ r. r.number) (e S h))
     (drop_rest (λ S. (H S).number) count u.numbers))
 
-tables_over : {a a' b b' : Slices} → a ≡ a' → b ≡ b' → ◌≡◌ {A = LentTables} (record { rows = a; exclusives = b }) (record { rows = a'; exclusives = b' })
+tables_over : {a a' b b' : Slices} → a ≡ a' → b ≡ b'
+    → ◌≡◌ {A = LentTables} (record { rows = a; exclusives = b }) (record { rows = a'; exclusives = b' })
 tables_over e f = rw (e, f)
 
 settled_again : (m : Method) (n : ℕ) (F G H : ℕ → Row) (t : LentTables) → ((S : ℕ) → S < 2 ^ n → F S ≡ G S)
@@ -66,7 +70,8 @@ settled_again m n F G H t e =
     let rows = rows_again F G H (2 ^ n) t.rows e in
     tables_over rows
     (ap (λ u. with_rows (m.exclusives.of n (row_at u)) (2 ^ n) (settled_tables m (2 ^ n) n H t).exclusives) rows
-    ∙ rows_again (m.exclusives.of n (row_at (with_rows G (2 ^ n) t.rows))) (m.exclusives.of n (row_at (with_rows G (2 ^ n) t.rows)))
+    ∙ rows_again (m.exclusives.of n (row_at (with_rows G (2 ^ n) t.rows)))
+    (m.exclusives.of n (row_at (with_rows G (2 ^ n) t.rows)))
     (m.exclusives.of n (row_at (with_rows H (2 ^ n) t.rows))) (2 ^ n) t.exclusives (λ S h. refl))
 
 -- a row that is written
@@ -83,7 +88,8 @@ module _ (t : LentTables) (q : Plan) (ten : length q.heads ≡ 10) where
   afresh_needs e = ((call_taken q None (lent_of t) ten).0 e).1.0
 
 -- what the afresh call leaves
-pub afresh_leaves : (m : Method) (d : PlanSlices) → afresh_answer d ≡ Table.taken → (afresh_slices m d).left ≡ afresh_left m d
+pub afresh_leaves : (m : Method) (d : PlanSlices) → afresh_answer d ≡ Table.taken
+    → (afresh_slices m d).left ≡ afresh_left m d
 unfolding afresh_slices
 afresh_leaves m d e = ap (λ a. leaves a d (afresh_left m d)) e
 
@@ -97,7 +103,8 @@ afresh_stays m d n = go (afresh_answer d) n
 
 -- ---- one edit on fresh tables
 
-module _ (m : Method) (t : LentTables) (q : Plan) (e : Edit) (ten : length q.heads ≡ 10) (ok : Acceptable q) (within : AcceptableEdit q.n e)
+module _ (m : Method) (t : LentTables) (q : Plan) (e : Edit) (ten : length q.heads ≡ 10) (ok : Acceptable q)
+    (within : AcceptableEdit q.n e)
     (enough : 2 ^ q.n ≤ (lent_of t).rows) where
   fresh : PlanSlices
   fresh = afresh_left m (over t q)
@@ -115,13 +122,18 @@ module _ (m : Method) (t : LentTables) (q : Plan) (e : Edit) (ten : length q.hea
   unfolding fresh
   rows = edited m q e (row_at fresh.tables.rows)
 
-  left_is : (edit_slices m fresh e).left ≡ record { plan = applied q e; tables = settled_tables m (2 ^ q.n) q.n rows fresh.tables }
+  left_is : (edit_slices m fresh e).left
+      ≡ record { plan = applied q e; tables = settled_tables m (2 ^ q.n) q.n rows fresh.tables }
   unfolding edit_slices fresh rows
   left_is = ap (λ a. leaves a fresh (edited_left m fresh e)) taken ∙ edited-left m fresh e
 
   begin : Fresh m (plan_table fresh)
   unfolding fresh
-  begin = record { room = ten; taken = (plan_taken q ten).1 ok; fresh = λ S h. row_below (afresh m q) (2 ^ q.n) t.rows S h }
+  begin = record {
+    room = ten;
+    taken = (plan_taken q ten).1 ok;
+    fresh = λ S h. row_below (afresh m q) (2 ^ q.n) t.rows S h;
+  }
 
   -- they are the afresh rows of the plan after it
   rows_fresh : (S : ℕ) → S < 2 ^ q.n → rows S ≡ afresh m (applied q e) S
@@ -140,14 +152,16 @@ module _ (m : Method) (t : LentTables) (q : Plan) (e : Edit) (ten : length q.hea
 
 -- ---- a file's edits on fresh tables
 
-pub fresh_edits : (m : Method) (t : LentTables) (f : File) (q : Plan) → length q.heads ≡ 10 → Acceptable q → EditsWithin q f → 2 ^ q.n ≤ (lent_of t).rows
+pub fresh_edits : (m : Method) (t : LentTables) (f : File) (q : Plan) → length q.heads ≡ 10 → Acceptable q
+    → EditsWithin q f → 2 ^ q.n ≤ (lent_of t).rows
     → left_over m f (afresh_left m (over t q)) ≡ afresh_left m (over t (plan_after q f))
 unfolding left_over plan_after
 fresh_edits m t (ends a) q ten ok within enough = refl
 fresh_edits m t (gives_plan p f) q ten ok within enough = absurd within
 fresh_edits m t (gives_edit e f) q ten ok within enough =
     ap (left_over m f) (fresh_edit m t q e ten ok within.0 enough)
-    ∙ fresh_edits m t f (applied q e) (length-set q.heads e.head (head_of e) ∙ ten) (applied_acceptable q e ten ok within.0) within.1 enough
+    ∙ fresh_edits m t f (applied q e) (length-set q.heads e.head (head_of e) ∙ ten)
+    (applied_acceptable q e ten ok within.0) within.1 enough
 
 -- ---- on tables that are too short
 
@@ -168,10 +182,12 @@ module _ (p : Plan) (lent : Lent) (ten : length p.heads ≡ 10) (short : lent.ro
   short_book (gives_plan q f) = short_book f
   short_book (gives_edit e f) = ap (λ q. book q (entries lent f)) (stays e p (applied p e)) ∙ short_book f
 
-pub short_edits : (m : Method) (t : LentTables) (p : Plan) → length p.heads ≡ 10 → (lent_of t).rows < 2 ^ p.n → (f : File) (q : Plan) → EditsWithin q f
+pub short_edits : (m : Method) (t : LentTables) (p : Plan) → length p.heads ≡ 10 → (lent_of t).rows < 2 ^ p.n
+    → (f : File) (q : Plan) → EditsWithin q f
     → left_over m f (over t p) ≡ over t p
 unfolding left_over edit_slices
 short_edits m t p ten short (ends a) q within = refl
 short_edits m t p ten short (gives_plan r f) q within = absurd within
 short_edits m t p ten short (gives_edit e f) q within =
-    ap (left_over m f) (stays p (lent_of t) ten short e (over t p) (edited_left m (over t p) e)) ∙ short_edits m t p ten short f (applied q e) within.1
+    ap (left_over m f) (stays p (lent_of t) ten short e (over t p) (edited_left m (over t p) e))
+    ∙ short_edits m t p ten short f (applied q e) within.1

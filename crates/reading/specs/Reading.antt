@@ -1,5 +1,5 @@
--- A plan file fed in pieces to the reader and the tables: a step on one byte, its fold over the bytes, and that the state after a file's bytes is
--- what the whole file says, however it is cut.
+-- A plan file fed in pieces to the reader and the tables: a step on one byte, its fold over the bytes, and that the
+-- state after a file's bytes is what the whole file says, however it is cut.
 use Rattle.std.specs.Prelude.{ℕ, ◌≡◌, Option, None, Some}
 use mathlib.Core.List.{List, [], ◌∷◌, ◌++◌, foldl}
 use Rattle.plan.specs.declared.Plan.{Plan}
@@ -13,7 +13,6 @@ use Rattle.file.specs.Reader.{start, step, finish, feed}
 use Rattle.regions.specs.Slices.{LentTables, PlanSlices, afresh_answer, afresh_slices, edit_slices}
 use Rattle.regions.specs.Table.{Method}
 use Rattle.printing.specs.Rows.{table_lines}
-use Rattle.table.specs.declared.tables.Tables.{Tables}
 use Rattle.table.specs.Tables.{plan_tables}
 use Rattle.reading.specs.declared.feeding.Reading.{Reading}
 use Rattle.reading.specs.Whole.{over, no_plan, file_left, file_answer, printed_for, file_printed}
@@ -28,9 +27,9 @@ pub record State : Type 0 where
 abbrev pub state_of : Reader → PlanSlices → State
 state_of r d = record { reader = r; left = d }
 
--- that of the code, with the tables lent to it
-abbrev pub state_in : Reading → Tables → State
-state_in r t = state_of r.reader (plan_tables r.plan t)
+-- that of the code
+abbrev pub state_in : Reading → State
+state_in r = state_of r.reader (plan_tables r.plan r.tables)
 
 -- before the first byte
 abbrev pub begun : LentTables → State
@@ -58,7 +57,8 @@ answer_at s = first_of (finish s.reader) (afresh_answer s.left)
 
 -- what is printed where the file ends here
 abbrev pub printed_at : State → List ℕ
-printed_at s = printed_for (answer_at s) (table_lines s.left.plan.n s.left.tables.exclusives.bytes s.left.tables.exclusives.numbers)
+printed_at s = printed_for (answer_at s)
+    (table_lines s.left.plan.n s.left.tables.exclusives.bytes s.left.tables.exclusives.numbers)
 
 -- ---- the whole file
 
@@ -71,24 +71,29 @@ joined (piece ∷ pieces) = piece ++ joined pieces
 abbrev pub AfterBytes : Method → LentTables → List ℕ → State → Type 0
 AfterBytes m t s now = now ≡ state_of (feed start s) (file_left m t (read_file s))
 
--- Before the first byte, and after a piece more: however a file is cut into pieces, the state is what the bytes read so far say as a file. Proved
--- under the names in lower case, `proofs/Bytes.antt`.
+-- Before the first byte, and after a piece more: however a file is cut into pieces, the state is what the bytes read so
+-- far say as a file. Proved under the names in lower case, `proofs/Bytes.antt`.
 abbrev pub BegunReads : Method → Type 0
 BegunReads m = (t : LentTables) → AfterBytes m t [] (begun t)
 
 abbrev pub PieceReads : Method → Type 0
-PieceReads m = (t : LentTables) (s piece : List ℕ) (now : State) → AfterBytes m t s now → AfterBytes m t (s ++ piece) (read_bytes m now piece)
+PieceReads m = (t : LentTables) (s piece : List ℕ) (now : State) → AfterBytes m t s now
+    → AfterBytes m t (s ++ piece) (read_bytes m now piece)
 
 -- the answer and what is printed are the whole file's
 abbrev pub FileAnswers : Method → Type 0
-FileAnswers m = (t : LentTables) (s : List ℕ) (now : State) → AfterBytes m t s now → answer_at now ≡ file_answer t (read_file s)
+FileAnswers m = (t : LentTables) (s : List ℕ) (now : State) → AfterBytes m t s now
+    → answer_at now ≡ file_answer t (read_file s)
 
 abbrev pub FilePrints : Method → Type 0
-FilePrints m = (t : LentTables) (s : List ℕ) (now : State) → AfterBytes m t s now → printed_at now ≡ file_printed m t (read_file s)
+FilePrints m = (t : LentTables) (s : List ℕ) (now : State) → AfterBytes m t s now
+    → printed_at now ≡ file_printed m t (read_file s)
 
 -- Both at once, of a file in any pieces: what is left, and what is printed.
 abbrev pub PiecesRead : Method → Type 0
-PiecesRead m = (t : LentTables) (pieces : List (List ℕ)) → AfterBytes m t (joined pieces) (foldl (read_bytes m) (begun t) pieces)
+PiecesRead m = (t : LentTables) (pieces : List (List ℕ))
+    → AfterBytes m t (joined pieces) (foldl (read_bytes m) (begun t) pieces)
 
 abbrev pub PiecesPrint : Method → Type 0
-PiecesPrint m = (t : LentTables) (pieces : List (List ℕ)) → printed_at (foldl (read_bytes m) (begun t) pieces) ≡ file_printed m t (read_file (joined pieces))
+PiecesPrint m = (t : LentTables) (pieces : List (List ℕ))
+    → printed_at (foldl (read_bytes m) (begun t) pieces) ≡ file_printed m t (read_file (joined pieces))

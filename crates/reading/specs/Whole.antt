@@ -1,5 +1,5 @@
--- A plan file read over lent tables, said of the whole file: the plan and the tables that it leaves, its answer, and what the program prints. Nothing here
--- speaks of reading byte by byte; `Reading.antt` does, and says that both agree.
+-- A plan file read over lent tables, said of the whole file: the plan and the tables that it leaves, its answer, and
+-- what the program prints. Nothing here speaks of reading byte by byte; `Reading.antt` does, and says that both agree.
 use Rattle.std.specs.Prelude.{ℕ, ◌<◌, ◌^◌, ◌≡◌, List, [], eqb, Ok, Err}
 use Rattle.plan.specs.declared.Plan.{Plan}
 use Rattle.plan.specs.Book.{book}
@@ -27,9 +27,10 @@ no_plan = no_heads missing_ground 0
 abbrev pub last_plan : LentTables → Plan → File → Plan
 last_plan t p f = book p (entries (lent_of t) f)
 
--- A file that gives no plan leaves the tables as they are. Any other leaves what one afresh call on the book's last plan leaves: rows and
--- exclusives of that plan, what stands beyond them as it was; and nothing is written where the tables have fewer than 2^n rows. So a file that is
--- refused at an edit leaves the tables as the edit before it left them. No file gives an edit first.
+-- A file that gives no plan leaves the tables as they are. Any other leaves what one afresh call on the book's last
+-- plan leaves: rows and exclusives of that plan, what stands beyond them as it was; and nothing is written where the
+-- tables have fewer than 2^n rows. So a file that is refused at an edit leaves the tables as the edit before it left
+-- them. No file gives an edit first.
 unfoldable pub file_left : Method → LentTables → File → PlanSlices
 file_left m t (ends a) = over t no_plan
 file_left m t (gives_plan p f) = (afresh_slices m (over t (last_plan t p f))).left
@@ -68,13 +69,15 @@ abbrev pub printed_for : Answered → List ℕ → List ℕ
 printed_for (Ok done) lines = lines
 printed_for (Err r) lines = refusal_line (number_of r.refusal) r.at
 
--- "It prints for each present row .. its exclusive area .. after the last edit"; "One refused edit refuses the whole file for the program"
+-- "It prints for each present row .. its exclusive area .. after the last edit"; "One refused edit refuses the whole
+-- file for the program"
 abbrev pub file_printed : Method → LentTables → File → List ℕ
 file_printed m t f = printed_for (file_answer t f) (plan_lines m t f)
 
--- Tables too short for a file that is taken otherwise: refusal 7 at offset 0 is printed, and nothing is written. Proved as `short_tables`,
--- proofs/Whole.antt.
+-- Tables too short for a file that is taken otherwise: refusal 7 at offset 0 is printed, and nothing is written. Proved
+-- as `short_tables`, proofs/Whole.antt.
 abbrev pub ShortTables : Method → Type 0
 ShortTables m =
-    (t : LentTables) (s : List ℕ) (p : Plan) (f : File) → read_file s ≡ gives_plan p f → end_of f ≡ taken → (lent_of t).rows < 2 ^ p.n
+    (t : LentTables) (s : List ℕ) (p : Plan) (f : File) → read_file s ≡ gives_plan p f → end_of f ≡ taken
+    → (lent_of t).rows < 2 ^ p.n
     → (file_printed m t (read_file s) ≡ refusal_line 7 0) × ((file_left m t (read_file s)).tables ≡ t)

@@ -1,4 +1,5 @@
-// What the program prints of a plan file: the lines of the exclusives after the last edit, or a refusal's line (specs/Whole.antt).
+// What the program prints of a plan file: the lines of the exclusives after the last edit, or a refusal's line
+// (specs/Whole.antt).
 ghost use Rattle.std.specs.Prelude.{List, ℕ, ◌≤◌};
 ghost use Rattle.file.specs.File.{read_file};
 ghost use Rattle.regions.specs.Slices.{LentTables};
@@ -7,22 +8,23 @@ ghost use Rattle.printing.specs.Text.{Printed};
 ghost use Rattle.reading.specs.Whole.{file_printed};
 ghost use Rattle.reading.specs.Reading.{state_in, printed_at, AfterBytes};
 
-use crate::feeding::{Reading, finish};
+use crate::feeding::Reading;
 use printing::refusal::print_refusal;
 use printing::rows::print_rows;
-use table::tables::Tables;
 
-// At the front of `out`; gives how many bytes there are, of which `out` has the first that it has room for: 21504 are always enough.
-pub fn print_file(reading: Reading, tables: &Tables<'_>, out: &mut [u8]) -> usize
-    ensures printed { Printed (printed_at (state_in reading tables.now)) out.old out.new result }
-    ensures printed_2 { (t : LentTables) (s : List ℕ) → AfterBytes clipped_table t s (state_in reading tables.now)
+// At the front of `out`; gives how many bytes there are, of which `out` has the first that it has room for: 21504 are
+// always enough. A slice and a count, as `printing` writes; and a refusal by its number and offset, since `printing`
+// knows no plan.
+pub fn print_file(reading: &Reading<'_>, out: &mut [u8]) -> usize
+    ensures printed { Printed (printed_at (state_in reading.now)) out.old out.new result }
+    ensures printed_2 { (t : LentTables) (s : List ℕ) → AfterBytes clipped_table t s (state_in reading.now)
         → Printed (file_printed clipped_table t (read_file s)) out.old out.new result }
     ensures upper_bound { result ≤ 21504 }
 {
-    match finish(reading, tables) {
+    match reading.finish() {
         Ok(()) => print_rows(
-            tables.exclusive_presence,
-            tables.exclusives,
+            reading.tables.exclusive_presence,
+            reading.tables.exclusives,
             reading.plan.n,
             out,
         ),

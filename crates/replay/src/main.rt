@@ -17,8 +17,7 @@ mod sets;
 use boundary::angles::wrap_angle;
 use numbers::float;
 use plans::Plan;
-use std::io;
-use std::io::{BufWriter, Read, Write};
+use std::io::{self, BufWriter, Read, Write};
 use stored::counts::Counts;
 use stored::line::Line;
 use stored::numbers::same;
@@ -41,7 +40,9 @@ const LETTERS: [(u8, &str); 13] = [
 ];
 
 // The place of the last number on a line, the plan having n heads. A gradient has three numbers a
-// head, and four for the box. The letters are the list's: they are input, and any byte can stand there.
+// head, and four for the box.
+// Bytes and no enum: each letter is matched at three places at most, and an enum would want its own
+// match from bytes and an Option.
 fn last_place(letter: u8, n: usize) -> usize
     requires { n ≤ 10 }
 {
@@ -53,38 +54,39 @@ fn last_place(letter: u8, n: usize) -> usize
         b'Q' | b'T' => 6,
         b'S' => 5,
         b'L' => 6 + n * 3,
+        // N, R, K and W; a line of any other letter differs whatever stands on it
         _ => 2,
     }
 }
 
 // Whether every answer on a line that needs a plan is ours. A line that is about a set of heads has
 // its mask first.
-fn agrees_on_plan(letter: u8, words: &[u64; 40], n: usize, plan: &Plan) -> bool
-    requires { n ≤ 10 }
-{
+fn agrees_on_plan(line: &Line, plan: &Plan) -> bool {
+    let words = &line.words;
     let first = words[1] as usize;
-    match letter {
+    match line.letter() {
         b'H' => true,
         b'X' => plan.bounds.is_some(),
         b'I' => plan.points.len() == first,
         b'Q' => points::same_point(&words[2..], first, &plan.points),
-        _ => first >> n == 0 && sets::agrees(letter, words, first, plan),
+        _ => first >> plan.circles.len() == 0 && sets::agrees(line, first, plan),
     }
 }
 
 // Whether every answer on the line that was read is ours, the plan being the one after the line.
-fn agrees(line: &Line, plan: &Plan) -> bool {
-    let letter = line.letter();
+fn agrees(line: &Line, plan: Option<&Plan>) -> bool {
     let words = &line.words;
-    let n = plan.circles.len();
-    line.last == last_place(letter, n)
-        && match letter {
+    let n = plan.map_or(0, |plan| plan.circles.len());
+    line.last == last_place(line.letter(), n)
+        && match line.letter() {
             b'P' => pair::agrees(words),
             b'W' => same(wrap_angle(float(words[1])), words[2]),
-            _ => 0 < n && agrees_on_plan(letter, words, n, plan),
+            _ => plan.is_some_and(|plan| agrees_on_plan(line, plan)),
         }
 }
 
+// How many lines of each letter there are, and in all. (Here and in `replay_tables`: in `stored`, over any letters, the
+// contract would be longer than these lines.)
 fn print_counts<W: Write>(out: &mut W, counts: &Counts) -> io::Result<()> {
     for (letter, what) in LETTERS {
         counts.print_letter(out, letter, what)?;
@@ -98,7 +100,7 @@ fn print_counts<W: Write>(out: &mut W, counts: &Counts) -> io::Result<()> {
 fn replay<R: Read, W: Write>(list: &mut R, out: &mut W) -> io::Result<()> {
     let mut counts = Counts::none();
     let mut line = Line::begun();
-    let mut plan = plans::begun(&line);
+    let mut plan = None;
     let mut buffer = [0; 65536];
     // A proved loop has to end: it counts up to a number that no list uses up.
     for _ in 0..u64::MAX {
@@ -106,13 +108,13 @@ fn replay<R: Read, W: Write>(list: &mut R, out: &mut W) -> io::Result<()> {
         if n == 0 {
             break;
         }
-        for b in &buffer[..n] {
-            if *b != b'\n' {
-                line.feed(*b);
+        for &b in &buffer[..n] {
+            if b != b'\n' {
+                line.feed(b);
                 continue;
             }
             plan = plans::after(&line, plan);
-            let ours = agrees(&line, &plan);
+            let ours = agrees(&line, plan.as_ref());
             counts.count(out, line.letter(), ours)?;
             line = Line::begun();
         }
@@ -120,6 +122,7 @@ fn replay<R: Read, W: Write>(list: &mut R, out: &mut W) -> io::Result<()> {
     print_counts(out, &counts)
 }
 
+// (As in `replay_tables`: each program has its own `main`.)
 fn main(rt: HostRuntime) -> io::Result<()> {
     let mut out = BufWriter::new(rt.alloc(), rt.stdout())?;
     replay(&mut rt.stdin(), &mut out)?;

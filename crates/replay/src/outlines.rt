@@ -10,18 +10,18 @@ use outline::gradient::accumulate_region_overlap_gradient;
 
 // Whether the k-th arc has these numbers.
 pub(crate) fn same_arc(words: &[u64], k: usize, arcs: &[BoundaryArc]) -> bool {
-    if let Some(arc) = arcs.get(k) {
+    arcs.get(k).is_some_and(|arc| {
         let ours = [
             float(arc.circle as u64),
             arc.phi_start,
             arc.phi_end,
             arc.delta_phi,
         ];
-        return same_all(&ours, words);
-    }
-    false
+        same_all(&ours, words)
+    })
 }
 
+// Whether the gradient of the open area has these numbers.
 pub(crate) fn same_gradient(words: &[u64], arcs: &[BoundaryArc], circles: &Circles) -> bool {
     let mut grad = [0.0; 34];
     accumulate_region_overlap_gradient(arcs, circles, &mut grad);

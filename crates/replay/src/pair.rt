@@ -13,7 +13,7 @@ use geometry::rectangle::Rectangle;
 // The places 14 to 18.
 fn met(m: Meeting) -> [f64; 5] {
     match m {
-        Meeting::None => [0.0, 0.0, 0.0, 0.0, 0.0],
+        Meeting::None => [0.0; 5],
         Meeting::One(x, y) => [x, y, 0.0, 0.0, float(1)],
         Meeting::Two(x, y, u, v) => [x, y, u, v, float(2)],
     }
@@ -21,7 +21,7 @@ fn met(m: Meeting) -> [f64; 5] {
 
 // A test's answer as the list has it.
 fn yes(answer: bool) -> f64 {
-    if answer { float(1) } else { 0.0 }
+    float(u64::from(answer))
 }
 
 // Whether the places 7 to 13 are ours.
@@ -40,6 +40,7 @@ fn same_measures(a: Circle, b: Circle, words: &[u64]) -> bool {
     same_all(&ours, words)
 }
 
+// Whether all answers on the line are ours.
 pub(crate) fn agrees(words: &[u64; 40]) -> bool {
     let a = circle_at(words, 1);
     let b = circle_at(words, 4);

@@ -12,7 +12,7 @@ use intersections::points::Intersections;
 use std::array;
 use stored::line::Line;
 
-// The circles, their meeting points, and the box, where it is given. Of no plan there is no circle.
+// The circles, their meeting points, and the box, where it is given.
 #[derive(Drop)]
 pub struct Plan {
     pub circles: Circles,
@@ -28,24 +28,21 @@ pub(crate) fn circle_at(words: &[u64; 40], at: usize) -> Circle
     Circle::new(center, float(words[at + 2]))
 }
 
-// The plan that a line H begins, with no box: no plan, if the line is malformed. Circles that the line
-// does not have are of no plan.
-pub(crate) fn begun(line: &Line) -> Plan {
+// The plan that a line H begins, with no box: none, if the line is malformed.
+fn begun(line: &Line) -> Option<Plan> {
     let words = &line.words;
-    let given = words[1] as usize;
-    let n = if given <= 10 && line.last == 1 + given * 3 {
-        given
-    } else {
-        0
-    };
+    let n = words[1] as usize;
+    if !(1..=10).contains(&n) || line.last != 1 + n * 3 {
+        return None;
+    }
     let mut circles = Circles::from(array::from_fn(|i| circle_at(words, 2 + i * 3)));
     circles.truncate(n);
     let points = collect_intersections(&circles);
-    Plan {
+    Some(Plan {
         circles,
         points,
         bounds: None,
-    }
+    })
 }
 
 // The box of a line X: none, if the line is malformed.
@@ -55,13 +52,13 @@ fn bounds_of(line: &Line) -> Option<Bounds> {
 }
 
 // The plan after a line. One X puts it in a box.
-pub(crate) fn after(line: &Line, plan: Plan) -> Plan {
+pub(crate) fn after(line: &Line, plan: Option<Plan>) -> Option<Plan> {
     match line.letter() {
         b'H' => begun(line),
-        b'X' => Plan {
+        b'X' => plan.map(|plan| Plan {
             bounds: bounds_of(line),
             ..plan
-        },
+        }),
         _ => plan,
     }
 }

@@ -6,7 +6,7 @@ use intersections::points::IntersectionPoint;
 
 // Whether the k-th meeting point has these numbers.
 pub(crate) fn same_point(words: &[u64], k: usize, points: &[IntersectionPoint]) -> bool {
-    if let Some(q) = points.get(k) {
+    points.get(k).is_some_and(|q| {
         let ours = [
             q.point.x,
             q.point.y,
@@ -14,7 +14,6 @@ pub(crate) fn same_point(words: &[u64], k: usize, points: &[IntersectionPoint]) 
             float(q.second as u64),
             float(q.adopters as u64),
         ];
-        return same_all(&ours, words);
-    }
-    false
+        same_all(&ours, words)
+    })
 }

@@ -1,13 +1,23 @@
-// Which lines are about a set of a plan's heads, and what we hold against each.
+// Which lines are about a set of a plan's heads, and what we hold against each. A set stands as a mask.
 use crate::clipped::{same_from_arcs, same_span, same_straight};
 use crate::outlines::{same_arc, same_gradient};
 use crate::plans::Plan;
+use boundary::arcs::Arcs;
 use clip::area::{area_from_clipped_arcs, clipped_region_area};
 use geometry::bounds::Bounds;
 use intersections::members::members_of;
 use outline::area::{area_from_boundary_arcs, region_area};
 use outline::outline::region_boundary_arcs;
+use stored::line::Line;
 use stored::numbers::same;
+
+// A set of a plan's heads, with the arcs of its outline.
+#[derive(Drop)]
+pub struct Set<'a> {
+    pub plan: &'a Plan,
+    pub mask: usize,
+    pub arcs: Arcs,
+}
 
 // Whether both areas have these bits.
 fn same_areas(from_arcs: f64, straight: f64, bits: u64) -> bool {
@@ -15,34 +25,38 @@ fn same_areas(from_arcs: f64, straight: f64, bits: u64) -> bool {
 }
 
 // Whether the answers on a line about the set in the box are ours.
-fn agrees_in_box(letter: u8, words: &[u64; 40], mask: usize, plan: &Plan, b: Bounds) -> bool {
-    let circles = &plan.circles;
-    let points = &plan.points;
-    let arcs = region_boundary_arcs(mask, circles, points);
-    match letter {
-        b'S' => same_span(words, b, &members_of(mask, circles)),
+fn agrees_in_box(line: &Line, set: &Set<'_>, bounds: Bounds) -> bool {
+    let words = &line.words;
+    let Plan {
+        circles,
+        points,
+        ..
+    } = set.plan;
+    match line.letter() {
+        b'S' => same_span(words, bounds, &members_of(set.mask, circles)),
         b'K' => {
             same_areas(
-                area_from_clipped_arcs(&arcs, circles, b, mask),
-                clipped_region_area(mask, circles, points, b),
+                area_from_clipped_arcs(&set.arcs, circles, bounds, set.mask),
+                clipped_region_area(set.mask, circles, points, bounds),
                 words[2],
             )
         }
-        b'L' => {
-            same_from_arcs(words, &arcs, circles, b, mask)
-                && same_straight(words, mask, circles, points, b)
-        }
+        b'L' => same_from_arcs(words, set, bounds) && same_straight(words, set, bounds),
         _ => false,
     }
 }
 
 // Whether the answers on a line about the set are ours.
-pub(crate) fn agrees(letter: u8, words: &[u64; 40], mask: usize, plan: &Plan) -> bool {
-    let circles = &plan.circles;
-    let points = &plan.points;
+pub(crate) fn agrees(line: &Line, mask: usize, plan: &Plan) -> bool {
+    let words = &line.words;
+    let Plan {
+        circles,
+        points,
+        bounds,
+    } = plan;
     let arcs = region_boundary_arcs(mask, circles, points);
     let answer = words[2];
-    match letter {
+    match line.letter() {
         b'N' => arcs.len() == answer as usize,
         b'T' => same_arc(&words[3..], answer as usize, &arcs),
         b'R' => {
@@ -54,10 +68,8 @@ pub(crate) fn agrees(letter: u8, words: &[u64; 40], mask: usize, plan: &Plan) ->
         }
         b'G' => same_gradient(&words[2..], &arcs, circles),
         _ => {
-            match plan.bounds {
-                Some(b) => agrees_in_box(letter, words, mask, plan, b),
-                None => false,
-            }
+            let set = Set { plan, mask, arcs };
+            bounds.is_some_and(|bounds| agrees_in_box(line, &set, bounds))
         }
     }
 }

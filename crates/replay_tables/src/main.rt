@@ -10,11 +10,10 @@ mod numbers;
 mod rows;
 mod tables;
 
-use std::io;
-use std::io::{BufWriter, Read, Write};
+use std::io::{self, BufWriter, Read, Write};
 use stored::counts::Counts;
 use stored::line::Line;
-use tables::{agrees, held_of};
+use tables::Held;
 
 // What the lines of each letter hold.
 const LETTERS: [(u8, &str); 8] = [
@@ -28,6 +27,8 @@ const LETTERS: [(u8, &str); 8] = [
     (b'M', "M, overlaps of a mask"),
 ];
 
+// How many lines of each letter there are, and in all. (Here and in `replay`: in `stored`, over any letters, the
+// contract would be longer than these lines.)
 fn print_counts<W: Write>(out: &mut W, counts: &Counts) -> io::Result<()> {
     for (letter, what) in LETTERS {
         counts.print_letter(out, letter, what)?;
@@ -41,10 +42,7 @@ fn print_counts<W: Write>(out: &mut W, counts: &Counts) -> io::Result<()> {
 fn replay<R: Read, W: Write>(list: &mut R, out: &mut W) -> io::Result<()> {
     let mut counts = Counts::none();
     let mut line = Line::begun();
-    let mut held = None;
-    // The gradients of the plan held: there is room for 1024 rows of 34 numbers.
-    let mut clipped = [0.0; 34816];
-    let mut open = [0.0; 34816];
+    let mut held = Held::none();
     let mut buffer = [0; 65536];
     // A proved loop has to end: it counts up to a number that no list uses up.
     for _ in 0..u64::MAX {
@@ -52,18 +50,15 @@ fn replay<R: Read, W: Write>(list: &mut R, out: &mut W) -> io::Result<()> {
         if n == 0 {
             break;
         }
-        for b in &buffer[..n] {
-            if *b != b'\n' {
-                line.feed(*b);
+        for &b in &buffer[..n] {
+            if b != b'\n' {
+                line.feed(b);
                 continue;
             }
             if line.letter() == b'H' {
-                held = held_of(&line.words, &mut clipped, &mut open).ok();
+                held.hold(&line.words);
             }
-            let ours = match &held {
-                Some(held) => agrees(&line, held, &clipped, &open),
-                None => false,
-            };
+            let ours = held.agrees(&line);
             counts.count(out, line.letter(), ours)?;
             line = Line::begun();
         }
@@ -71,6 +66,7 @@ fn replay<R: Read, W: Write>(list: &mut R, out: &mut W) -> io::Result<()> {
     print_counts(out, &counts)
 }
 
+// (As in `replay`: each program has its own `main`.)
 fn main(rt: HostRuntime) -> io::Result<()> {
     let mut out = BufWriter::new(rt.alloc(), rt.stdout())?;
     replay(&mut rt.stdin(), &mut out)?;

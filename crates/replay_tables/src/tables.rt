@@ -13,22 +13,14 @@
 ghost use Rattle.std.specs.Prelude.{◌<◌, ◌≤◌};
 
 use crate::numbers::{listed, signed};
-use crate::rows::{Table, same_absence, same_row, same_slopes, table_of};
+use crate::rows::Table;
 use drawn::circles_of;
 use heads::Head;
 use overlaps::overlaps::{compute_overlaps_circles, compute_overlaps_of};
-use plan::{Ground, Plan, Refused, rows_needed};
+use plan::{Ground, Plan, rows_needed};
+use std::array;
 use stored::line::Line;
 use stored::numbers::same;
-
-// A plan with its tables in the box and without it, and how many masks its heads have.
-#[derive(Clone, Copy)]
-pub struct Held {
-    pub plan: Plan,
-    pub masks: usize,
-    pub clipped: Table,
-    pub open: Table,
-}
 
 // The head whose x stands at this place.
 fn head_at(words: &[u64; 40], at: usize) -> Head
@@ -41,73 +33,25 @@ fn head_at(words: &[u64; 40], at: usize) -> Head
     }
 }
 
+// The plan of a line H.
 fn plan_of(words: &[u64; 40]) -> Plan {
-    let ground = Ground {
-        x: signed(words[2]),
-        y: signed(words[3]),
-        width: signed(words[4]),
-        height: signed(words[5]),
-    };
-    let heads = [
-        head_at(words, 6),
-        head_at(words, 9),
-        head_at(words, 12),
-        head_at(words, 15),
-        head_at(words, 18),
-        head_at(words, 21),
-        head_at(words, 24),
-        head_at(words, 27),
-        head_at(words, 30),
-        head_at(words, 33),
-    ];
+    let [_, n, x, y, width, height, ..] = *words;
     Plan {
-        ground,
-        n: words[1] as usize,
-        heads,
+        ground: Ground {
+            x: signed(x),
+            y: signed(y),
+            width: signed(width),
+            height: signed(height),
+        },
+        n: n as usize,
+        heads: array::from_fn(|i| head_at(words, 6 + i * 3)),
     }
-}
-
-// The tables of the plan of a line H, where all calls take it.
-pub(crate) fn held_of(
-    words: &[u64; 40],
-    clipped_gradients: &mut [f64; 34816],
-    open_gradients: &mut [f64; 34816],
-) -> Result<Held, Refused> {
-    let plan = plan_of(words);
-    let clipped = table_of(plan, true, clipped_gradients)?;
-    let open = table_of(plan, false, open_gradients)?;
-    Ok(Held {
-        plan,
-        masks: rows_needed(plan.n),
-        clipped,
-        open,
-    })
-}
-
-// Whether the sets of a line D are the present rows, and the others +0. With the box there is row 0 too, whatever the
-// box is.
-fn same_sets(
-    sets: &[u64],
-    masks: usize,
-    t: &Table,
-    gradients: &[f64; 34816],
-    has_box: bool,
-) -> bool {
-    for s in 0..masks {
-        let presence = if has_box && s == 0 {
-            1
-        } else {
-            listed(sets, s)
-        };
-        if !same_absence(t, gradients, s, presence) {
-            return false;
-        }
-    }
-    true
 }
 
 // The place of the last number on a line, the plan having n heads. A gradient has three numbers a head, and
-// four for the box. The letters are the list's: they are input, and any byte can stand there.
+// four for the box.
+// Bytes and no enum: each letter is matched at three places at most, and an enum would want its own match from
+// bytes and an Option.
 fn last_place(letter: u8, n: usize) -> usize
     requires { n ≤ 10 }
 {
@@ -118,37 +62,71 @@ fn last_place(letter: u8, n: usize) -> usize
         b'G' => 6 + n * 3,
         b'F' => 2 + n * 3,
         b'O' => 1,
+        // M; a line of any other letter differs whatever stands on it
         _ => 2,
     }
 }
 
-// Whether the answers on a line are ours, the plan being held.
-pub(crate) fn agrees(
-    line: &Line,
-    held: &Held,
-    clipped_gradients: &[f64; 34816],
-    open_gradients: &[f64; 34816],
-) -> bool {
-    let letter = line.letter();
-    let words = line.words;
-    let n = held.plan.n.min(10);
-    let masks = held.masks;
-    let s = words[1] as usize;
-    if line.last != last_place(letter, n) {
-        return false;
-    }
-    match letter {
-        b'H' => true,
-        b'D' => {
-            same_sets(&words[1..], masks, &held.clipped, clipped_gradients, true)
-                && same_sets(&words[1..], masks, &held.open, open_gradients, false)
+// A plan, where all calls take one, and its tables in the box and without it.
+#[derive(Drop)]
+pub struct Held {
+    pub plan: Option<Plan>,
+    pub clipped: Table,
+    pub open: Table,
+}
+
+impl Held {
+    // Before the first plan.
+    pub(crate) fn none() -> Held {
+        Held {
+            plan: None,
+            clipped: Table::unwritten(0),
+            open: Table::unwritten(0),
         }
-        b'R' => s < masks && same_row(&words, s, &held.clipped),
-        b'U' => s < masks && same_row(&words, s, &held.open),
-        b'G' => same_slopes(&words, s, &held.clipped, clipped_gradients),
-        b'F' => same_slopes(&words, s, &held.open, open_gradients),
-        b'O' => same(compute_overlaps_circles(&circles_of(held.plan)), words[1]),
-        b'M' => same(compute_overlaps_of(s, &circles_of(held.plan)), words[2]),
-        _ => false,
+    }
+
+    // The plan of a line H. The tables are written over those held, since they are large.
+    pub(crate) fn hold(&mut self, words: &[u64; 40]) {
+        let plan = plan_of(words);
+        let taken = self.clipped.write_clipped(plan).is_ok() && self.open.write_open(plan).is_ok();
+        self.plan = taken.then_some(plan);
+    }
+
+    // Whether the sets of a line D are the present rows, and the others +0. With the box there is row 0 too, whatever
+    // the box is.
+    fn same_sets(&self, sets: &[u64], masks: usize) -> bool {
+        (0..masks).all(|s| {
+            let presence = listed(sets, s);
+            self.clipped
+                .same_absence(s, if s == 0 { 1 } else { presence })
+                && self.open.same_absence(s, presence)
+        })
+    }
+
+    // Whether the answers on a line are ours, the plan being held.
+    pub(crate) fn agrees(&self, line: &Line) -> bool {
+        self.plan.is_some_and(|plan| self.agrees_on(plan, line))
+    }
+
+    // The same, this plan being held.
+    fn agrees_on(&self, plan: Plan, line: &Line) -> bool {
+        let letter = line.letter();
+        let words = &line.words;
+        let masks = rows_needed(plan.n);
+        let s = words[1] as usize;
+        if line.last != last_place(letter, plan.n.min(10)) {
+            return false;
+        }
+        match letter {
+            b'H' => true,
+            b'D' => self.same_sets(&words[1..], masks),
+            b'R' => s < masks && self.clipped.same_row(words, s),
+            b'U' => s < masks && self.open.same_row(words, s),
+            b'G' => self.clipped.same_slopes(words, s),
+            b'F' => self.open.same_slopes(words, s),
+            b'O' => same(compute_overlaps_circles(&circles_of(plan)), words[1]),
+            b'M' => same(compute_overlaps_of(s, &circles_of(plan)), words[2]),
+            _ => false,
+        }
     }
 }

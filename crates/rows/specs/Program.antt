@@ -8,7 +8,8 @@ use Rattle.reading.specs.Whole.{file_printed}
 
 -- the tables that the program lends: 1,024 zeros in each slice
 abbrev pub zero_tables : LentTables
-zero_tables = tables_of (replicate 1024 0) (replicate 1024 (of_bits binary64 0)) (replicate 1024 0) (replicate 1024 (of_bits binary64 0))
+zero_tables = tables_of (replicate 1024 0) (replicate 1024 (of_bits binary64 0)) (replicate 1024 0)
+    (replicate 1024 (of_bits binary64 0))
 
 -- what the program prints for the bytes of a plan file
 abbrev pub printed : List ℕ → List ℕ

@@ -9,12 +9,12 @@ use lib.Bits.{bit_and, bit_or, or_zero_l}
 use lib.Count.{ones}
 use lib.Dec.{eqb}
 use lib.Pow.{pow_mono}
-use Rattle.masks.specs.Mask.{in_set, single, with_head, without_head, shifted, complement}
+use Rattle.masks.specs.Mask.{in_set, single, with_head, without_head, shifted, complement, subset}
 use Rattle.masks.specs.Operations.{shifted_is, shifted_lt, in_minus, in_shifted, in_of_zero, in_of_one}
 use Rattle.masks.specs.Operations.{zero_by_mask, one_by_mask, in_by_mask, one_of_in, zero_of_in}
 use Rattle.masks.specs.Operations.{with_below, without_below}
 use Rattle.masks.specs.Size.{ones_with, ones_without}
-use Rattle.masks.specs.Subset.{without_lt, with_gt}
+use Rattle.masks.specs.Subset.{without_lt, with_gt, and_test}
 use Rattle.masks.specs.Gather.{gather_unique, gather_lt, in_gather, shifted_single, or_with_head, and_without_head}
 use Rattle.sets.specs.Sets.{pair}
 
@@ -40,6 +40,10 @@ pub without_at : (n S i : ℕ) → n ≤ 10 → S < 2 ^ n → i < n
 without_at n S i h hs k =
     gather_unique n _ _ (without_below n S _ hs)
     (λ j l. grind (arith, in_minus 64 S (shifted 64 i) j (wide n S h hs) (shifted_lt 64 i), in_shifted 64 i j))
+
+-- `is_subset` of masks of at most ten heads
+pub subset_at : (n S U : ℕ) → n ≤ 10 → S < 2 ^ n → subset 64 S U ≡ subset n S U
+subset_at n S U h k = sym (and_test 64 S U (wide n S h k)) ∙ and_test n S U k
 
 -- `1 << i | 1 << j`
 pub pair_at : (n i j : ℕ) → n ≤ 10 → i < n → j < n → bit_or (shifted 64 i) (shifted 64 j) ≡ pair n i j

@@ -12,8 +12,8 @@ use intersections::points::IntersectionPoint;
 pub fn discover_regions(circles: &Circles, points: &[IntersectionPoint]) -> [u8; 1024]
     ensures { result ≡ set_bytes circles.now.items points.now }
 {
-    // The list has ten at most. `min` says so to the compiler: without it, it vectorises the loops over so few heads, and
-    // plans with many meeting points take longer.
+    // The list has ten at most. `min` says so to the compiler: without it, it vectorises the loops over so few heads,
+    // and plans with many meeting points take longer.
     let heads = Heads {
         n: circles.len().min(10),
     };
@@ -22,9 +22,9 @@ pub fn discover_regions(circles: &Circles, points: &[IntersectionPoint]) -> [u8;
     let containing = heads.containing_heads(circles);
     heads.add_pairs(&mut found, &meeting, &containing);
     heads.add_singles(&mut found);
-    let twice = heads.twice_contained(&containing);
+    let twice_contained = heads.twice_contained(&containing);
     // Then no mask joins a level.
-    if twice == 0 {
+    if twice_contained == 0 {
         return found;
     }
     let overlapping = heads.overlapping_heads(&found);
@@ -32,7 +32,7 @@ pub fn discover_regions(circles: &Circles, points: &[IntersectionPoint]) -> [u8;
         heads,
         overlapping: &overlapping,
         containing: &containing,
-        twice,
+        twice_contained,
     };
     levels.add(&mut found);
     found

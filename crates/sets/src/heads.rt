@@ -12,6 +12,7 @@ pub(crate) struct Heads {
 
 impl Heads {
     // The heads that pass the test, as a mask: if it answers as p, those for which p holds.
+    // Of this crate's heads alone: elsewhere the closure and its contract would be longer than the loop.
     #[tactic(auto, using(intersections::proofs::Adopting::gathered))]
     pub(crate) fn mask<F: Fn(usize) -> bool>(self, test: F) -> usize
         requires { (i : ℕ) → i < self.n → F.pre test i }

@@ -9,10 +9,12 @@ ghost use Rattle.sets.specs.Sets as rule;
 ghost use Rattle.sets.specs.Sets.{containing, all_pairs};
 ghost use Rattle.sets.specs.Regions.{contains_at};
 ghost use Rattle.sets.specs.Marked.{marked};
-ghost use Rattle.sets.specs.Steps.{mask_of, in_mask_of, twice_contained, joins, joining_of, joined_below};
+ghost use Rattle.sets.specs.Steps.{mask_of, in_mask_of, joins, joining_of, joined_below};
+ghost use Rattle.sets.specs.Steps.{twice_contained as twice_contained_of};
 
 use crate::heads::Heads;
 use geometry::circle::Circle;
+use masks::is_subset;
 
 // Whether the circle contains the other. A smaller one does not, and needs no distance.
 fn contains(circle: Circle, other: Circle) -> bool
@@ -45,7 +47,7 @@ impl Heads {
     // is contained in all others.
     pub(crate) fn twice_contained(self, containing: &[usize; 10]) -> usize
         requires { (i : ℕ) → i < self.n → mask_of containing.now i < 2 ^ self.n }
-        ensures { result ≡ twice_contained self.n (mask_of containing.now) }
+        ensures { result ≡ twice_contained_of self.n (mask_of containing.now) }
     {
         self.mask(|i| (containing[i] & !(1 << i)).count_ones() > 1)
     }
@@ -57,7 +59,7 @@ impl Heads {
         ensures { result ≡ (in_set mask i && subset self.n (without_head self.n mask i) heads) }
     {
         let others = mask & !(1 << i);
-        mask & 1 << i != 0 && others & heads == others
+        mask & 1 << i != 0 && is_subset(others, heads)
     }
 }
 
@@ -68,8 +70,8 @@ pub(crate) struct Levels<'a> {
     pub heads: Heads,
     pub overlapping: &'a [usize; 10],
     pub containing: &'a [usize; 10],
-    pub twice: usize,
-    ghost twice_is: { twice ≡ twice_contained heads.n (mask_of containing.now) },
+    pub twice_contained: usize,
+    ghost twice_is: { twice_contained ≡ twice_contained_of heads.n (mask_of containing.now) },
     ghost turned: { (i j : ℕ) → i < heads.n → j < heads.n
         → in_mask_of overlapping.now i j ≡ in_mask_of overlapping.now j i },
 }
@@ -133,8 +135,8 @@ impl Base<'_> {
         let levels = self.levels;
         // Most masks end at the second test, without a look at each head.
         found[more] != 1
-            && more & levels.twice != 0
-            && self.mask & levels.overlapping[i] == self.mask
+            && more & levels.twice_contained != 0
+            && is_subset(self.mask, levels.overlapping[i])
             && levels.one_in_all(more)
     }
 

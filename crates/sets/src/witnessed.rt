@@ -84,6 +84,8 @@ fn note_parents(meeting: &mut [usize; 10], q: &IntersectionPoint)
     ensures noted { MasksSay meeting.new (λ i j. in_mask_of meeting.old i j || parents i j q.now) }
 {
     let (a, b) = (q.first, q.second);
+    // Tested, since a meeting point's parents are any numbers here.
+    // No `get_mut`: its contract does not say how the array ends.
     if a < 10 && b < 10 {
         meeting[a] |= 1 << b;
         meeting[b] |= 1 << a;

@@ -25,6 +25,7 @@ fn name_differing<W: Write>(out: &mut W, line: u64) -> io::Result<()>
 
 impl Counts {
     // No line.
+    // No derived `Default`: its contract says of an array that each element is 0, and not which list it is.
     pub fn none() -> Counts
         ensures { result ≡ none }
     {
@@ -41,6 +42,7 @@ impl Counts {
         ensures told { OnOk result (Appends (W.contents out.old) (W.contents out.new) (told self.old agrees)) }
     {
         self.lines = self.lines.wrapping_add(1);
+        // No `get_mut`: tried, and the proof did not close, since its contract does not say how the array ends.
         if letter < 128 {
             let at = usize::from(letter);
             self.by_letter[at] = self.by_letter[at].wrapping_add(1);

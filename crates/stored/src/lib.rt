@@ -3,5 +3,6 @@
 #![tactic(auto)]
 
 pub mod counts;
+mod feeding;
 pub mod line;
 pub mod numbers;

@@ -1,6 +1,7 @@
 -- The meeting points that are collected are few enough for the places of a head, and any points can be tested for that.
 use mathlib.Core.Path.{◌≡◌, refl, ap}
-use mathlib.Core.Bool.{Bool, true, false, not, ◌&&◌}
+use mathlib.Core.Bool.{true, not}
+use Rattle.std.proofs.Math.Bool.{and-true}
 use mathlib.Core.List.{List, [], ◌∷◌}
 use Prim.Native.Nat.{ℕ, ◌≤◌}
 use native.Mathlib.Omega.{arith}
@@ -8,26 +9,20 @@ use borrow.Author.Tests.{ltb-false, not-true}
 use lib.Dec.{ltb}
 use lib.ListN.{length}
 use lib.Pow.{pow_pos}
-use Rattle.masks.specs.Mask.{subset}
 use Rattle.masks.specs.Operations.{bit_of_zero}
 use Rattle.masks.specs.Subset.{every_below, subset_yes}
 use Rattle.lists.specs.Lists.{keep}
 use Rattle.geometry.specs.declared.circle.Circle.{Circle}
 use Rattle.intersections.specs.declared.points.IntersectionPoint.{IntersectionPoint}
-use Rattle.intersections.specs.Members.{points_held, counted_for}
+use Rattle.intersections.specs.Members.{has_parent, points_held, counted_for}
 use Rattle.intersections.specs.Points.{collected}
 use Rattle.intersections.specs.Counts.{counted_few}
-use Rattle.gaps.specs.Marks.{has_parent}
 use Rattle.gaps.specs.Marks.{Few, few_points}
-
-and-true : (a b : Bool) → b ≡ true → (a && b) ≡ a
-and-true true b e = e
-and-true false b e = refl
 
 -- every point of a head is counted for the set of nobody
 counted_all : (j : ℕ) (q : IntersectionPoint) → counted_for 0 j q ≡ has_parent j q
-unfolding counted_for has_parent
-counted_all j q = and-true _ (subset 64 0 q.adopters) ((subset_yes 64 0 q.adopters (pow_pos 64)).1 (λ i. omega (arith, bit_of_zero i)))
+unfolding counted_for
+counted_all j q = rw ((subset_yes 64 0 q.adopters (pow_pos 64)).1 (λ i. omega (arith, bit_of_zero i))) (and-true (has_parent j q))
 
 keep_same : (j : ℕ) (l : List IntersectionPoint) → keep (counted_for 0 j) l ≡ keep (has_parent j) l
 unfolding keep

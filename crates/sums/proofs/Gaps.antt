@@ -1,6 +1,6 @@
 -- The arcs of a member, gap by gap round its circle, under head numbers.
 use mathlib.Core.Path.{◌≡◌, refl, sym, ap, ap₂, ◌∙◌}
-use mathlib.Core.Bool.{Bool, true, false, not, ◌&&◌, cond}
+use mathlib.Core.Bool.{Bool, true, not, ◌&&◌, cond}
 use mathlib.Core.List.{List, [], ◌∷◌, ◌++◌, map, map-append, append-nil, append_assoc}
 use Prim.Native.Nat.{ℕ, zero, suc, ◌+◌, ◌%◌, ◌<◌}
 use native.Mathlib.Nat.{mod-eq_of_lt, mod_self}
@@ -16,9 +16,9 @@ use Rattle.binary64.specs.Floats.{◌+ᶠ◌, ◌*ᶠ◌}
 use Rattle.geometry.specs.declared.circle.Circle.{Circle}
 use Rattle.intersections.specs.Members.{heads_of, circle_at}
 use Rattle.boundary.specs.declared.arcs.BoundaryArc.{BoundaryArc}
-use Rattle.boundary.specs.Outline.{owned, gap, collapsed, point_at, probe, between, full_circle, arc_from, arcs_at}
+use Rattle.boundary.specs.Outline.{owned, gap, collapsed, point_at, midpoint, probe, between, full_circle, arc_from, arcs_at}
 use Rattle.boundary.specs.Set.{numbered}
-use Rattle.gaps.specs.Gaps.{owned_in, midpoint, is_arc}
+use Rattle.gaps.specs.Gaps.{owned_in, is_arc}
 use Rattle.sums.specs.Walk.{rank, gap_in, whole_in, gaps_in, head_in}
 use Rattle.sums.proofs.Ranks.{head_at, owned_is}
 
@@ -69,8 +69,7 @@ numbered_whole heads k c = refl
 
 map_one : {A B : Type 0} (f : A → B) (x : A) (y : B) (b : Bool) → f x ≡ y
     → map f (cond b (x ∷ []) []) ≡ cond b (y ∷ []) []
-map_one f x y true e = ap (λ z. z ∷ []) e
-map_one f x y false e = refl
+map_one f x y b e = grind (arith, e)
 
 module _ (circles : List Circle) (S j : ℕ) (in-S : in_set S j ≡ true) (below : j < length circles) where
   heads : List ℕ

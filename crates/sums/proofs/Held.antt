@@ -1,24 +1,26 @@
 -- What is held of the heads of a pass, and which numbers stand for arcs of theirs.
 use mathlib.Core.Path.{◌≡◌, refl, sym, ap, ◌∙◌}
 use mathlib.Core.Bool.{Bool, true, false}
-use mathlib.Core.List.{List}
-use Prim.Native.Nat.{ℕ, ◌+◌, ◌-◌, ◌*◌, ◌/◌, ◌%◌, ◌≤◌, ◌<◌}
+use mathlib.Core.List.{List, [], ◌∷◌}
+use Prim.Native.Nat.{ℕ, suc, ◌+◌, ◌-◌, ◌/◌, ◌%◌, ◌≤◌, ◌<◌}
 use native.Mathlib.Omega.{arith}
 use borrow.Author.Tests.{lt-ltb, le-ltb, ltb-true, ltb-false}
 use lib.Dec.{ltb}
 use lib.ListN.{length, get_or, get_or-eq_default}
 use Rattle.std.proofs.lemmas.List.{get_or_default}
 use Rattle.masks.specs.Mask.{in_set}
-use Rattle.masks.specs.Operations.{in_by_shift}
-use Rattle.lists.specs.Every.{Every, every_map, every_at}
-use Rattle.lists.proofs.Writing.{get_d_tab}
+use Rattle.lists.specs.Every.{Every, every_map}
+use Rattle.lists.specs.Lists.{keep}
+use Rattle.lists.proofs.Writing.{length_tab, get_d_tab}
 use Rattle.geometry.specs.declared.circle.Circle.{Circle}
-use Rattle.intersections.specs.Members.{circle_at, points_held}
+use Rattle.intersections.specs.Members.{circle_at}
 use Rattle.intersections.proofs.Masks.{head_below}
 use Rattle.boundary.specs.declared.sort.Mark.{Mark}
+use Rattle.boundary.specs.Marks.{no_mark}
 use Rattle.boundary.specs.Outline.{probe}
 use Rattle.gaps.specs.declared.marks.HeadMarks.{HeadMarks}
-use Rattle.gaps.specs.Marks.{marks_at, phi_at, letters, gap_letters, lets_at, head_marked, unmarked}
+use Rattle.gaps.specs.Marks.{marks_at, adopted_by, angles_in, phi_at, letters, gap_letters, lets_at, let_at, marks_let, head_marked, unmarked}
+use Rattle.gaps.proofs.Next.{next_is, next_less}
 use Rattle.gaps.proofs.Marking as marking
 use Rattle.gaps.proofs.Marking.{heads_many, head_in, head_out}
 use Rattle.sums.specs.declared.pass.Pass.{Pass}
@@ -38,6 +40,8 @@ pub head_far : (p : ℕ) → 330 ≤ p → head_of p ≡ (p - 330) / 320 / 32
 unfolding head_of
 head_far p h = let wide : 320 ≤ p = omega arith in rw (le-ltb p 320 wide, le-ltb p 330 h)
 
+pub ruleset heads_named = (head_near, head_whole, head_far)
+
 module _ (needed : ℕ) (heads : List HeadMarks) (p : ℕ) where
   pub standing_near : p < 320 → standing needed heads p ≡ ltb (p % 32) (length (marks_of heads (p / 32)))
   unfolding standing
@@ -46,32 +50,6 @@ module _ (needed : ℕ) (heads : List HeadMarks) (p : ℕ) where
   pub standing_whole : 320 ≤ p → standing needed heads p ≡ in_set needed (p - 320)
   unfolding standing
   standing_whole h = rw (le-ltb p 320 h)
-
--- as code finds the head, or none
-module _ (needed : ℕ) (heads : List HeadMarks) (p : ℕ) (h : p < 320) {l : List HeadMarks} (el : l ≡ heads) where
-  pub standing_with : {head : HeadMarks} {n : ℕ} → head ≡ get_or l (p / 32) unmarked → n ≡ length head.marks.items
-      → ltb (p % 32) n ≡ standing needed heads p
-  standing_with eh en =
-      ap (ltb (p % 32)) (en ∙ ap (λ h. length h.marks.items) (eh ∙ ap (λ l. get_or l (p / 32) unmarked) el))
-      ∙ sym (standing_near needed heads p h)
-
-  pub standing_without : false ≡ ltb (p / 32) (length l) → false ≡ standing needed heads p
-  standing_without e =
-      let past : length heads ≤ p / 32 = omega (arith, ltb-false (p / 32) (length l) (sym e), ap length el) in
-      let none = ap (λ m. length m.marks.items) (get_or-eq_default heads unmarked past) in
-      sym (standing_near needed heads p h ∙ le-ltb (p % 32) (length (marks_of heads (p / 32))) (omega (arith, none)))
-
--- where a place is not that of an arc, no later place of the same head is
-pub standing_past : (needed : ℕ) (heads : List HeadMarks) (p : ℕ) → p < 320 → standing needed heads p ≡ false
-    → (q : ℕ) → p ≤ q → q < (p / 32 + 1) * 32 → standing needed heads q ≡ false
-standing_past needed heads p h none q l u =
-    let same : q / 32 ≡ p / 32 = omega arith in
-    let low : q < 320 = omega arith in
-    let few = ltb-false (p % 32) (length (marks_of heads (p / 32))) (sym (standing_near needed heads p h) ∙ none) in
-    standing_near needed heads q low
-    ∙ rw same (le-ltb (q % 32) (length (marks_of heads (p / 32))) (omega (arith, few, l, u)))
-
-pub ruleset standings = (standing_without, standing_whole, in_by_shift)
 
 pub placed_near : (needed : ℕ) (heads : List HeadMarks) (p : ℕ) → p < 330 → standing needed heads p ≡ true
     → Placed needed heads p
@@ -82,6 +60,59 @@ placed_near needed heads p h is =
       end = λ g. absurd (omega (arith, h, g));
       same = λ g. absurd (omega (arith, h, g));
     }
+
+-- ---- marks with who lets the head have the gaps
+
+module _ (circles : List Circle) (j : ℕ) (marks : List Mark) where
+  pub let_many : length (marks_let circles j marks) ≡ length marks
+  unfolding marks_let
+  let_many = length_tab (let_at circles j marks) (length marks)
+
+  let_read : (i : ℕ) → i < length marks → get_or (marks_let circles j marks) i no_mark ≡ let_at circles j marks i
+  unfolding marks_let
+  let_read i h = get_d_tab (let_at circles j marks) (length marks) i no_mark h
+
+  let_phi : (i : ℕ) → i < length marks → phi_at (marks_let circles j marks) i ≡ phi_at marks i
+  unfolding let_at
+  let_phi i h = ap (λ m. m.phi) (let_read i h)
+
+  let_adopters : (i : ℕ) → i < length marks
+      → (get_or (marks_let circles j marks) i no_mark).adopters ≡ (get_or marks i no_mark).adopters
+  unfolding let_at
+  let_adopters i h = ap (λ m. m.adopters) (let_read i h)
+
+  pub let_letters : (a : ℕ) → a < length marks
+      → let l = marks_let circles j marks in
+      (get_or l a no_mark).lets ≡ gap_letters circles j (phi_at l a) (phi_at l ((a + 1) % length l))
+  unfolding let_at lets_at
+  let_letters a h =
+      let next : (a + 1) % length marks < length marks = rw (sym (next_is a (length marks) h)) (next_less a (length marks) h) in
+      rw (let_many, let_phi a h, let_phi ((a + 1) % length marks) next)
+      (ap (λ m. m.lets) (let_read a h) ∙ rw (lt-ltb a (length marks) h) refl)
+
+-- the angles of a set are told by the angles and the adopters
+same_angles : (S : ℕ) (a b : List Mark) → length a ≡ length b
+    → ((i : ℕ) → i < length a → phi_at a i ≡ phi_at b i)
+    → ((i : ℕ) → i < length a → (get_or a i no_mark).adopters ≡ (get_or b i no_mark).adopters)
+    → angles_in S a ≡ angles_in S b
+unfolding angles_in keep adopted_by
+same_angles S [] [] e f g = refl
+same_angles S [] (y ∷ b) e f g = absurd (omega (arith, e))
+same_angles S (x ∷ a) [] e f g = absurd (omega (arith, e))
+same_angles S (x ∷ a) (y ∷ b) e f g =
+    grind (
+      arith,
+      f 0 (omega arith),
+      g 0 (omega arith),
+      same_angles S a b (omega (arith, e)) (λ i h. f (suc i) (omega (arith, h))) (λ i h. g (suc i) (omega (arith, h))),
+    )
+
+pub let_angles : (circles : List Circle) (S j : ℕ) (marks : List Mark)
+    → angles_in S (marks_let circles j marks) ≡ angles_in S marks
+let_angles circles S j marks =
+    let many = let_many circles j marks in
+    same_angles S (marks_let circles j marks) marks many (λ i h. let_phi circles j marks i (omega (arith, h, many)))
+    (λ i h. let_adopters circles j marks i (omega (arith, h, many)))
 
 -- ---- the heads of a pass
 
@@ -107,7 +138,8 @@ module _ (pass : Pass) where
     head_is = ap (λ l. get_or l j unmarked) pass.held
         ∙ head_in circles pass.points.now pass.needed j unmarked below in-needed
 
-    pub marks_held : marks_of pass.heads.now.items j ≡ marks_at (circle_at pass.circles.now.items j) j pass.points.now
+    pub marks_held : marks_of pass.heads.now.items j
+        ≡ marks_let pass.circles.now.items j (marks_at (circle_at pass.circles.now.items j) j pass.points.now)
     unfolding head_marked
     marks_held = ap (λ h. h.marks.items) head_is
 
@@ -119,19 +151,12 @@ module _ (pass : Pass) where
 
     pub lets_held : (a : ℕ) → a < length (marks_of pass.heads.now.items j)
         → let marks = marks_of pass.heads.now.items j in
-        get_or (get_or pass.heads.now.items j unmarked).lets a 0
+        (get_or (marks_of pass.heads.now.items j) a no_mark).lets
         ≡ gap_letters pass.circles.now.items j (phi_at marks a) (phi_at marks ((a + 1) % length marks))
-    unfolding head_marked lets_at
     lets_held a h =
-        let all : List Mark = marks_at (circle_at circles j) j pass.points.now in
-        let few = marking.marks_few (circle_at circles j) j pass.points.now in
-        let more : a < length (marks_at (circle_at circles j) j pass.points.now) =
-        omega (arith, h, ap length marks_held) in
-        ap (λ h. get_or h.lets a 0) head_is
-        ∙ get_d_tab (lets_at circles j (marks_at (circle_at circles j) j pass.points.now)) points_held a 0
-        (omega (arith, more, few))
-        ∙ rw (lt-ltb a (length (marks_at (circle_at circles j) j pass.points.now)) more)
-        (ap (λ (l : List Mark). gap_letters circles j (phi_at l a) (phi_at l ((a + 1) % length l))) (sym marks_held))
+        rw marks_held
+        (let_letters circles j (marks_at (circle_at circles j) j pass.points.now) a
+        (omega (arith, h, ap length marks_held, let_many circles j (marks_at (circle_at circles j) j pass.points.now))))
 
   -- a head with a mark is one of those of `needed`
   marked : (j : ℕ) → 0 < length (marks_of pass.heads.now.items j)
@@ -157,7 +182,12 @@ module _ (pass : Pass) where
       by : (b : Bool) → ltb 0 (length (marks_of heads j)) ≡ b → length (marks_of heads j) ≤ 32
       by true e =
           let m = marked j (ltb-true 0 (length (marks_of heads j)) e) in
-          omega (arith, ap length (marks_held j m.0 m.1), marking.marks_few (circle_at circles j) j pass.points.now)
+          omega (
+            arith,
+            ap length (marks_held j m.0 m.1),
+            let_many circles j (marks_at (circle_at circles j) j pass.points.now),
+            marking.marks_few (circle_at circles j) j pass.points.now,
+          )
       by false e = omega (arith, ltb-false 0 (length (marks_of heads j)) e)
 
   module _ (p : ℕ) (placed : Placed pass.needed pass.heads.now.items p) where
@@ -197,8 +227,3 @@ module _ (pass : Pass) where
   pub list_below : (list : List ℕ) → Every (Placed pass.needed pass.heads.now.items) list
       → Every (λ p. head_of p < length pass.circles.now.items) list
   list_below list placed = every_map list placed_below placed
-
-  pub listed_ten : (list : List ℕ) (i : ℕ) → i < length list → Every (Placed pass.needed pass.heads.now.items) list
-      → head_of (get_or list i 0) < 10
-  listed_ten list i h placed =
-      placed_ten (get_or list i 0) (every_at (Placed pass.needed pass.heads.now.items) list i 0 h placed)

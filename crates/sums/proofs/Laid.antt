@@ -1,9 +1,9 @@
 -- Rows with gradients written one after another: the next one is worked out, or stays as it stands.
 use mathlib.Core.Path.{◌≡◌, refl, sym, ap, ap₂, ◌∙◌, subst}
 use mathlib.Core.Bool.{Bool, true, false, cond}
-use mathlib.Core.List.{List, [], ◌∷◌, ◌++◌}
-use Prim.Native.Nat.{ℕ, zero, suc, ◌+◌, ◌-◌, ◌*◌, ◌/◌, ◌^◌, ◌≤◌, ◌<◌}
-use native.Mathlib.Nat.{le_trans, mul-le-mul_right, div-mul-le_self, le-div_iff_mul-le}
+use mathlib.Core.List.{List}
+use Prim.Native.Nat.{ℕ, zero, suc, ◌+◌, ◌-◌, ◌*◌, ◌/◌, ◌%◌, ◌^◌, ◌≤◌, ◌<◌}
+use native.Mathlib.Nat.{mul-le-mul_right, le-div_iff_mul-le}
 use native.Mathlib.Omega.{arith}
 use borrow.Rule.Slice.PartMut.{mid_of, put_mid, mid_len}
 use lib.Dec.{eqb-suc-zero}
@@ -12,13 +12,15 @@ use lib.Pow.{pow_mono}
 use lib.ListN.{length, get_or, set, take, drop, replicate, length-take, length-drop}
 use lib.Seq.{get_or-take, get_or-drop, ext_get_or}
 use lib.Ieee.{Float, nan}
+use Rattle.std.proofs.lemmas.List.{replicate_more}
 use Rattle.lists.specs.Written.{tab, written}
-use Rattle.lists.proofs.Writing.{written_none, length_written, written_before, write_next, written_keep, written_on}
-use Rattle.exclusive.proofs.TableRows.{by_row, row_written}
+use Rattle.lists.proofs.Writing.{written_none, length_written, written_before, write_next, written_keep, written_on, written_cong}
+use Rattle.exclusive.proofs.TableRows.{by_row, row_written, place}
+use Rattle.masks.specs.Presence.{stands}
 use Rattle.clip.specs.Gradient.{WithGradient, with_gradient}
-use Rattle.sums.specs.Rows.{rows_of, number_at}
+use Rattle.sums.specs.Rows.{number_at}
 use Rattle.sums.specs.Gradients.{rows_held, rows_in, row_at, row_after, areas_to, rows_to}
-use Rattle.sums.proofs.Counts.{rows_all}
+use Rattle.sums.proofs.Counts.{rows_all, stands_take, bytes_many}
 
 module _ (wanted : ℕ → Bool) (row : ℕ → WithGradient) (width : ℕ) (areas gradients : List Float) (S : ℕ) where
   abbrev after : ℕ → List Float
@@ -114,23 +116,6 @@ row_read width row m l S h room many =
 held_some : (w places : ℕ) → rows_held (suc w) places ≡ places / suc w
 held_some w places = ap (λ (b : Bool). cond b 1024 (places / suc w)) (eqb-suc-zero w)
 
-held_room : (width places count : ℕ) → count ≤ rows_held width places → count * width ≤ places
-held_room zero places count h = nothing count places
-  where
-    nothing : (count places : ℕ) → count * 0 ≤ places
-    nothing count places = omega arith
-held_room (suc w) places count h =
-    le_trans (mul-le-mul_right {m = count} {n = places / suc w} (suc w) (subst (λ (m : ℕ). count ≤ m) (held_some w places) h))
-    (div-mul-le_self places (suc w))
-
--- a counted row is one of 1024 and has its place in both
-pub rows_room : (n width : ℕ) (areas gradients : List Float) {count : ℕ} → count ≡ rows_in n width areas gradients
-    → (count ≤ rows_of n) × ((count ≤ length areas) × (count * width ≤ length gradients))
-rows_room n width areas gradients {count} e = (
-  omega (arith, e),
-  (omega (arith, e), held_room width (length gradients) count (omega (arith, e))),
-)
-
 -- where there is room, all rows are counted
 held_all : (width places count : ℕ) → count ≤ 1024 → count * width ≤ places → count ≤ rows_held width places
 held_all zero places count most h = most
@@ -144,13 +129,20 @@ rows_in_all n width areas gradients few ha hg =
     let held = held_all width (length gradients) (2 ^ n) (omega (arith, most)) hg in
     omega (arith, rows_all n (length areas) few ha, held)
 
+-- of as many bytes as are counted
+pub rows_counted : (bytes : List ℕ) (n : ℕ) (row : ℕ → WithGradient) (width : ℕ) (l : List Float) → n ≤ length bytes
+    → rows_to (stands (take n bytes)) row width (length (take n bytes)) l ≡ rows_to (stands bytes) row width n l
+rows_counted bytes n row width l h =
+    let before = by_row width nan (row_after (stands (take n bytes)) row width l) in
+    let after = by_row width nan (row_after (stands bytes) row width l) in
+    ap (λ (m : ℕ). rows_to (stands (take n bytes)) row width m l) (bytes_many bytes n h)
+    ∙ written_cong before after (n * width) l l
+    (λ i k. ap (λ (b : Bool). get_or (cond b (row (i / width)).grad (row_at width l (i / width))) (i % width) nan)
+    (stands_take bytes n (i / width) (place i n width k).1)) refl
+
 -- ---- numbers all alike
 
 pub tab_alike : {A : Type 0} (x : A) (m : ℕ) → tab (λ i. x) m ≡ replicate m x
 unfolding tab
 tab_alike x zero = refl
-tab_alike x (suc m) = ap (λ l. l ++ (x ∷ [])) (tab_alike x m) ∙ at_end x m
-  where
-    at_end : {A : Type 0} (x : A) (m : ℕ) → replicate m x ++ (x ∷ []) ≡ x ∷ replicate m x
-    at_end x zero = refl
-    at_end x (suc m) = ap (λ l. x ∷ l) (at_end x m)
+tab_alike x (suc m) = grind (arith, tab_alike x m, replicate_more)

@@ -1,16 +1,16 @@
 -- The arcs of a set by head numbers are those of its outline.
-use mathlib.Core.Path.{◌≡◌, refl, sym, ap, ap₂, ◌∙◌}
-use mathlib.Core.Bool.{Bool, true, false, cond}
+use mathlib.Core.Path.{◌≡◌, refl, sym, ap, ◌∙◌}
+use mathlib.Core.Bool.{true, cond}
 use mathlib.Core.List.{List, [], ◌∷◌, ◌++◌, map, map-append, append_assoc, append-nil}
 use Prim.Native.Nat.{ℕ, zero, suc, ◌+◌, ◌^◌, ◌≤◌, ◌<◌}
 use native.Mathlib.Nat.{le_trans}
 use native.Mathlib.Omega.{arith}
 use lib.Pow.{pow_mono}
-use borrow.Author.Tests.{eqb-true, eqb-false}
-use lib.Dec.{eqb, ltb}
+use borrow.Author.Tests.{tests}
+use lib.Dec.{eqb}
 use lib.Count.{ones, count_trailing_zeros}
 use lib.ListN.{length, get_or, length-append, length-map}
-use Rattle.masks.specs.Mask.{in_set, bit, size, Subset}
+use Rattle.masks.specs.Mask.{in_set, size, Subset}
 use Rattle.masks.specs.Operations.{one_of_in, zero_of_in}
 use Rattle.masks.specs.Size.{ones_size}
 use Rattle.masks.specs.Subset.{subset_head}
@@ -31,7 +31,7 @@ use Rattle.gaps.specs.Marks.{Few}
 use Rattle.sums.proofs.Sorting.{angles-in}
 use Rattle.chords.proofs.Heads.{heads_with, heads_without}
 use Rattle.sums.proofs.Gaps.{head_numbered, numbered_whole}
-use Rattle.sums.proofs.Held.{marks_held}
+use Rattle.sums.proofs.Held.{marks_held, let_angles}
 use Rattle.sums.proofs.Walking.{set_below}
 
 -- the marks of each head
@@ -120,46 +120,28 @@ module _ (circles : List Circle) (points : List IntersectionPoint) (S : ℕ) (fe
       ≡ up_to (part_in circles (marks_for circles points) S) n
   unfolding part_in members_to up_to
   heads_listed zero h = none_listed
-  heads_listed (suc n) h = by (in_set S n) refl (heads_listed n (omega arith))
-    where
-      by : (b : Bool) → in_set S n ≡ b
-          → map (numbered heads) (outline_from theirs 0 (members_to n))
-          ≡ up_to (part_in circles (marks_for circles points) S) n
-          → map (numbered heads) (outline_from theirs 0 (members_to (suc n)))
-          ≡ up_to (part_in circles (marks_for circles points) S) n ++ cond b
-          (head_in circles S n (angles_in S (marks_for circles points n))) []
-      by true e r =
-          ap (map (numbered heads)) (outline_next n e)
-          ∙ map-append (numbered heads) (outline_from theirs 0 (members_to n))
-          (arcs_at theirs (rank S n) (circle_at circles n) (angles_of (member_at circles points S n)))
-          ∙ ap₂ ◌++◌ r (next_listed n h e)
-      by false e r =
-          ap (λ t. map (numbered heads) (outline_from theirs 0 (map (member_at circles points S) t)))
-          (heads_without S n e)
-          ∙ r ∙ sym (append-nil (up_to (part_in circles (marks_for circles points) S) n))
+  heads_listed (suc n) h =
+      grind (
+        arith,
+        heads_listed n,
+        outline_next n,
+        next_listed n h,
+        heads_without S n,
+        append-nil,
+        map-append (numbered heads) (outline_from theirs 0 (members_to n))
+            (arcs_at theirs (rank S n) (circle_at circles n) (angles_of (member_at circles points S n))),
+      )
 
 heads_size : (n S : ℕ) → length (heads_of n S) ≡ size n S
 unfolding heads_of up_to size
 heads_size zero S = refl
-heads_size (suc n) S = by (in_set S n) refl (heads_size n S)
-  where
-    by : (b : Bool) → in_set S n ≡ b → length (heads_of n S) ≡ size n S
-        → length (heads_of n S ++ cond b (n ∷ []) []) ≡ size n S + bit S n
-    by true e r = omega (arith, length-append (heads_of n S) (n ∷ []), one_of_in S n e)
-    by false e r = omega (arith, ap length (append-nil (heads_of n S)), zero_of_in S n e)
+heads_size (suc n) S = grind (arith, heads_size n S, length-append (heads_of n S) (n ∷ []), append-nil (heads_of n S), one_of_in S n, zero_of_in S n)
 
 -- the head of a single is the one that it has
 pub single_head : (n S : ℕ) → n ≤ 64 → S < 2 ^ n → ones S ≡ 1 → heads_of n S ≡ count_trailing_zeros 64 S ∷ []
-single_head n S most below e = which (ltb (count_trailing_zeros 64 S) n) refl
-  where
-    wide : S < 2 ^ 64
-    wide = le_trans below (pow_mono {i = n} {j = 64} most)
-
-    which : (b : Bool) → ltb (count_trailing_zeros 64 S) n ≡ b → heads_of n S ≡ count_trailing_zeros 64 S ∷ []
-    which true h = single_heads n S wide e ∙ rw h
-    which false h =
-        let none : heads_of n S ≡ [] = single_heads n S wide e ∙ rw h in
-        absurd (omega (arith, ap length none, heads_size n S, ones_size n S below, e))
+single_head n S most below e =
+    let wide = le_trans below (pow_mono {i = n} {j = 64} most) in
+    grind (arith, single_heads n S wide e, heads_size n S, ones_size n S below, e)
 
 module _ (circles : List Circle) (points : List IntersectionPoint) (S : ℕ) (below : S < 2 ^ length circles) where
   many : length (members_of circles points S) ≡ ones S
@@ -191,28 +173,17 @@ module _ (circles : List Circle) (points : List IntersectionPoint) (S : ℕ) (be
       → arcs_by circles (marks_for circles points) S
       ≡ map (numbered (heads_of (length circles) S)) (outline (members_of circles points S))
   unfolding arcs_by
-  arcs_are few most = by (eqb (ones S) 1) refl
-    where
-      by : (b : Bool) → eqb (ones S) 1 ≡ b
-          → cond b (full_circle (count_trailing_zeros 64 S) (circle_at circles (count_trailing_zeros 64 S)) ∷ [])
-          (heads_in circles (marks_for circles points) S (length circles))
-          ≡ map (numbered (heads_of (length circles) S)) (outline (members_of circles points S))
-      by true e = single_listed most (eqb-true (ones S) 1 e)
-      by false e = others_listed few (eqb-false (ones S) 1 e)
+  arcs_are few most = grind (arith, tests, single_listed most, others_listed few)
 
--- only the marks of the heads of S are looked at
-part_same : (circles : List Circle) (f g : ℕ → List Mark) (S j : ℕ) → (in_set S j ≡ true → f j ≡ g j)
+-- only the angles of the heads of S are looked at
+part_same : (circles : List Circle) (f g : ℕ → List Mark) (S j : ℕ)
+    → (in_set S j ≡ true → angles_in S (f j) ≡ angles_in S (g j))
     → part_in circles f S j ≡ part_in circles g S j
 unfolding part_in
-part_same circles f g S j h = by (in_set S j) refl
-  where
-    by : (b : Bool) → in_set S j ≡ b
-        → cond b (head_in circles S j (angles_in S (f j))) [] ≡ cond b (head_in circles S j (angles_in S (g j))) []
-    by true e = ap (λ l. head_in circles S j (angles_in S l)) (h e)
-    by false e = refl
+part_same circles f g S j h = grind (arith, h)
 
 pub arcs_same : (circles : List Circle) (f g : ℕ → List Mark) (S : ℕ)
-    → ((j : ℕ) → j < length circles → in_set S j ≡ true → f j ≡ g j)
+    → ((j : ℕ) → j < length circles → in_set S j ≡ true → angles_in S (f j) ≡ angles_in S (g j))
     → arcs_by circles f S ≡ arcs_by circles g S
 unfolding arcs_by heads_in
 arcs_same circles f g S h =
@@ -227,5 +198,6 @@ pub marked_arcs : (pass : Pass) (S : ℕ) → Subset S pass.needed
 marked_arcs pass S within =
     arcs_same pass.circles.now.items (marks_of pass.heads.now.items)
     (marks_for pass.circles.now.items pass.points.now) S
-    (λ j h i. marks_held pass j h (subset_head S pass.needed within j i))
+    (λ j h i. ap (angles_in S) (marks_held pass j h (subset_head S pass.needed within j i))
+    ∙ let_angles pass.circles.now.items S j (marks_for pass.circles.now.items pass.points.now j))
     ∙ arcs_are pass.circles.now.items pass.points.now S (set_below pass S within) pass.few (omega (arith, pass.ten))

@@ -2,11 +2,12 @@
 use mathlib.Core.Path.{◌≡◌, refl, sym, ap, ◌∙◌}
 use mathlib.Core.Bool.{Bool, true, false, not, ◌&&◌, ◌||◌, cond}
 use mathlib.Core.List.{List, [], ◌∷◌, ◌++◌, map, map-append}
+use Rattle.std.proofs.Math.Bool.{and-true}
 use mathlib.Core.Logic.{⊎_elim}
 use Prim.Native.Nat.{ℕ, zero, suc, ◌+◌, ◌^◌, ◌≤◌, ◌<◌}
-use native.Mathlib.Nat.{le_refl, le_trans}
+use native.Mathlib.Nat.{le_refl}
 use native.Mathlib.Omega.{arith}
-use borrow.Author.Tests.{lt-ltb, le-ltb, ltb-true, ltb-false, eqb-true, eqb-false, eq-eqb, ne_eqb}
+use borrow.Author.Tests.{tests, ne_eqb}
 use lib.Dec.{eqb, ltb}
 use lib.Bits.{bit_and}
 use lib.ListN.{length, get_or, length-append, length-map, get_or-append}
@@ -20,11 +21,11 @@ use Rattle.lists.specs.Lists.{up_to}
 use Rattle.intersections.proofs.Masks.{every_cong}
 use Rattle.geometry.specs.declared.point.Point.{Point}
 use Rattle.geometry.specs.declared.circle.Circle.{Circle}
-use Rattle.boundary.specs.Outline.{lets, owned_from, gap, collapsed}
+use Rattle.boundary.specs.Outline.{lets, owned_from, gap, collapsed, midpoint}
 use Rattle.intersections.specs.Members.{heads_of, circle_at}
 use Rattle.chords.proofs.Heads.{heads_suc, heads_with, heads_without}
 use Rattle.gaps.proofs.Owning.{lt_or_eq}
-use Rattle.gaps.specs.Gaps.{owned_in, midpoint, is_arc}
+use Rattle.gaps.specs.Gaps.{owned_in, is_arc}
 use Rattle.sums.specs.Walk.{rank}
 use Rattle.gaps.specs.Marks.{letters, gap_letters}
 
@@ -35,38 +36,17 @@ rank_step : (S n : ℕ) → rank S n ≤ rank S (suc n)
 rank_step S n = omega (arith, ap length (heads_suc S n), length-append (heads_of n S) (cond (in_set S n) (n ∷ []) []))
 
 rank_up : (S i j : ℕ) → i ≤ j → rank S i ≤ rank S j
-rank_up S i zero h = by i (omega arith)
-  where
-    by : (i : ℕ) → i ≡ 0 → rank S i ≤ rank S 0
-    by i e = rw e (le_refl (rank S 0))
-rank_up S i (suc j) h = by (ltb i (suc j)) refl (λ k. rank_up S i j k)
-  where
-    by : (b : Bool) → ltb i (suc j) ≡ b → (i ≤ j → rank S i ≤ rank S j) → rank S i ≤ rank S (suc j)
-    by true e k = le_trans (k (omega (arith, ltb-true i (suc j) e))) (rank_step S j)
-    by false e k = let s : i ≡ suc j = omega (arith, ltb-false i (suc j) e) in rw s (le_refl (rank S (suc j)))
+rank_up S i zero h = let e : i ≡ 0 = omega arith in rw e (le_refl (rank S 0))
+rank_up S i (suc j) h = grind (arith, rank_up S i j, rank_step S j)
 
 pub rank_less : (S i j : ℕ) → in_set S i ≡ true → i < j → rank S i < rank S j
 rank_less S i j e h = omega (arith, rank_with S i e, rank_up S (suc i) j h)
 
 rank_ltb : (S i j : ℕ) → in_set S i ≡ true → ltb (rank S i) (rank S j) ≡ ltb i j
-rank_ltb S i j e = by (ltb i j) refl
-  where
-    by : (b : Bool) → ltb i j ≡ b → ltb (rank S i) (rank S j) ≡ b
-    by true f = lt-ltb (rank S i) (rank S j) (rank_less S i j e (ltb-true i j f))
-    by false f = le-ltb (rank S i) (rank S j) (rank_up S j i (ltb-false i j f))
+rank_ltb S i j e = grind (arith, tests, rank_less S i j e, rank_up S j i)
 
 rank_eqb : (S i j : ℕ) → in_set S i ≡ true → in_set S j ≡ true → eqb (rank S i) (rank S j) ≡ eqb i j
-rank_eqb S i j e f = by (eqb i j) refl
-  where
-    apart : (i ≡ j → ⊥) → (b : Bool) → ltb i j ≡ b → rank S i ≡ rank S j → ⊥
-    apart n true h g = omega (arith, rank_less S i j e (ltb-true i j h), g)
-    apart n false h g =
-        ⊎_elim (λ k. omega (arith, rank_less S j i f k, g)) (λ k. n (sym k))
-        (lt_or_eq j i (omega (arith, ltb-false i j h)))
-
-    by : (b : Bool) → eqb i j ≡ b → eqb (rank S i) (rank S j) ≡ b
-    by true h = eq-eqb (rank S i) (rank S j) (ap (rank S) (eqb-true i j h))
-    by false h = ne_eqb (rank S i) (rank S j) (apart (eqb-false i j h) (ltb i j) refl)
+rank_eqb S i j e f = grind (arith, tests, rank_less S i j e, rank_less S j i f)
 
 -- positions in a set are in order as head numbers are
 lets_rank : (S k l : ℕ) (p : Point) (c : Circle) → in_set S k ≡ true → in_set S l ≡ true
@@ -78,21 +58,7 @@ owned_append : (k : ℕ) (p : Point) (l : ℕ) (a b : List Circle)
     → owned_from k p l (a ++ b) ≡ (owned_from k p l a && owned_from k p (l + length a) b)
 unfolding owned_from
 owned_append k p l [] b = ap (λ n. owned_from k p n b) (omega arith)
-owned_append k p l (c ∷ a) b = by (lets k p l c) (owned_append k p (suc l) a b)
-  where
-    same : suc l + length a ≡ l + suc (length a)
-    same = omega arith
-
-    by : (t : Bool) → owned_from k p (suc l) (a ++ b)
-        ≡ (owned_from k p (suc l) a && owned_from k p (suc l + length a) b)
-        → (t && owned_from k p (suc l) (a ++ b))
-        ≡ ((t && owned_from k p (suc l) a) && owned_from k p (l + suc (length a)) b)
-    by true r = r ∙ rw same
-    by false r = refl
-
-and-true : (a : Bool) → (a && true) ≡ a
-and-true true = refl
-and-true false = refl
+owned_append k p l (c ∷ a) b = grind (arith, owned_append k p (suc l) a b)
 
 owned_one : (k : ℕ) (p : Point) (l : ℕ) (c : Circle) → owned_from k p l (c ∷ []) ≡ lets k p l c
 unfolding owned_from
@@ -120,15 +86,8 @@ owned_heads : (circ : ℕ → Circle) (S j : ℕ) (p : Point) (n : ℕ) → in_s
     → owned_from (rank S j) p 0 (map circ (heads_of n S)) ≡ every n (λ l. not (in_set S l) || lets j p l (circ l))
 unfolding every
 owned_heads circ S j p zero e = owned_none circ (rank S j) p S
-owned_heads circ S j p (suc n) e = by (in_set S n) refl (owned_heads circ S j p n e)
-  where
-    by : (b : Bool) → in_set S n ≡ b
-        → owned_from (rank S j) p 0 (map circ (heads_of n S)) ≡ every n (λ l. not (in_set S l) || lets j p l (circ l))
-        → owned_from (rank S j) p 0 (map circ (heads_of (suc n) S))
-        ≡ (every n (λ l. not (in_set S l) || lets j p l (circ l)) && (not b || lets j p n (circ n)))
-    by true f r = owned_next circ S j p n e f ∙ ap (λ b. b && lets j p n (circ n)) r
-    by false f r = ap (λ t. owned_from (rank S j) p 0 (map circ t)) (heads_without S n f) ∙ r
-        ∙ sym (and-true (every n (λ l. not (in_set S l) || lets j p l (circ l))))
+owned_heads circ S j p (suc n) e =
+    grind (arith, owned_heads circ S j p n e, owned_next circ S j p n e, heads_without S n, and-true)
 
 pub owned_is : (circles : List Circle) (S j : ℕ) (p : Point) → in_set S j ≡ true
     → owned_from (rank S j) p 0 (map (circle_at circles) (heads_of (length circles) S)) ≡ owned_in circles S j p

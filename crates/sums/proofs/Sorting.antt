@@ -1,5 +1,5 @@
 -- Law 1: the points of a head sorted once and filtered for a set are the set's points sorted.
-use mathlib.Core.Path.{◌≡◌, refl, sym, ap, ◌∙◌}
+use mathlib.Core.Path.{◌≡◌, refl, ap, ◌∙◌}
 use mathlib.Core.Bool.{Bool, true, false, ◌&&◌, cond}
 use mathlib.Core.List.{List, [], ◌∷◌, map}
 use Prim.Native.Nat.{ℕ, ◌≤◌}
@@ -16,13 +16,13 @@ use Rattle.intersections.specs.declared.points.IntersectionPoint.{IntersectionPo
 use Rattle.lists.specs.Every.{Every, every_both, every_keep}
 use Rattle.boundary.specs.Sort.{insert_by, sort_onto, sorted, sort_onto_by, sorted_by}
 use Rattle.boundary.specs.Outline.{angle_about}
-use Rattle.intersections.specs.Members.{counted_for, points_for}
+use Rattle.intersections.specs.Members.{has_parent, counted_for, points_for}
 use Rattle.elementary.proofs.arctangent.Promise.{atan2_promise}
 use Rattle.lists.proofs.Lists.{keep_length}
 use Rattle.boundary.proofs.Sorting.{map_insert}
 use Rattle.boundary.specs.declared.sort.Mark.{Mark}
 use Rattle.boundary.specs.Marks.{insert_mark}
-use Rattle.gaps.specs.Marks.{has_parent, mark_of, marks_at, adopted_by, angles_in}
+use Rattle.gaps.specs.Marks.{mark_of, marks_at, adopted_by, angles_in}
 
 -- an angle about a centre is finite, whatever the circle and the point
 pub angle_finite : (c : Circle) (q : IntersectionPoint) → Finite (angle_about c q.point)
@@ -40,11 +40,7 @@ InOrder (x ∷ l) = Every (λ y. lt y.phi x.phi ≡ false) l × InOrder l
 insert_every : (P : Mark → Type 0) (x : Mark) (l : List Mark) → P x → Every P l → Every P (insert_mark x l)
 unfolding insert_by
 insert_every P x [] h g = (h, tt)
-insert_every P x (y ∷ l) h g = by (lt x.phi y.phi) (insert_every P x l h g.1)
-  where
-    by : (b : Bool) → Every P (insert_mark x l) → Every P (cond b (x ∷ y ∷ l) (y ∷ insert_mark x l))
-    by true r = (h, g)
-    by false r = (g.0, r)
+insert_every P x (y ∷ l) h g = grind (arith, insert_every P x l h g.1, h, g)
 
 below_rest : {x y z : Float} → Finite x → Finite y → Finite z → lt x y ≡ true → lt z y ≡ false → lt z x ≡ false
 below_rest fx fy fz h g = not_lt_of_units fz fx (omega (arith, units_of_lt fx fy h, units_of_not_lt fz fy g))
@@ -78,30 +74,13 @@ module _ (p : Mark → Bool) where
       → keep p (insert_mark x l) ≡ cond (p x) (insert_mark x (keep p l)) (keep p l)
   unfolding insert_by keep
   keep_insert x [] fx fl o = refl
-  keep_insert x (y ∷ l) fx fl o = by (lt x.phi y.phi) refl (keep_insert x l fx fl.1 o.1)
+  keep_insert x (y ∷ l) fx fl o = grind (arith, keep_insert x l fx fl.1 o.1, front)
     where
       above : lt x.phi y.phi ≡ true → Every (λ z. lt x.phi z.phi ≡ true) (y ∷ l)
       above e = (e, every_both l (λ z fz h. above_rest fx fl.0 fz e h) fl.1 o.0)
 
-      first : (b : Bool) → lt x.phi y.phi ≡ true
-          → cond b (x ∷ keep p (y ∷ l)) (keep p (y ∷ l)) ≡ cond b (insert_mark x (keep p (y ∷ l))) (keep p (y ∷ l))
-      first true e = sym (insert_front x (keep p (y ∷ l)) (every_keep (λ z. lt x.phi z.phi ≡ true) p (y ∷ l) (above e)))
-      first false e = refl
-
-      rest : (b d : Bool) → lt x.phi y.phi ≡ false
-          → keep p (insert_mark x l) ≡ cond d (insert_mark x (keep p l)) (keep p l)
-          → cond b (y ∷ keep p (insert_mark x l)) (keep p (insert_mark x l))
-          ≡ cond d (insert_mark x (cond b (y ∷ keep p l) (keep p l))) (cond b (y ∷ keep p l) (keep p l))
-      rest true true e r = rw (e) (ap (λ t. y ∷ t) r)
-      rest true false e r = ap (λ t. y ∷ t) r
-      rest false true e r = r
-      rest false false e r = r
-
-      by : (b : Bool) → lt x.phi y.phi ≡ b → keep p (insert_mark x l) ≡ cond (p x) (insert_mark x (keep p l)) (keep p l)
-          → keep p (cond b (x ∷ y ∷ l) (y ∷ insert_mark x l))
-          ≡ cond (p x) (insert_mark x (keep p (y ∷ l))) (keep p (y ∷ l))
-      by true e r = first (p x) e
-      by false e r = rest (p y) (p x) e r
+      front : lt x.phi y.phi ≡ true → insert_mark x (keep p (y ∷ l)) ≡ x ∷ keep p (y ∷ l)
+      front e = insert_front x (keep p (y ∷ l)) (every_keep (λ z. lt x.phi z.phi ≡ true) p (y ∷ l) (above e))
 
   keep_sort_onto : (done l : List Mark) → Every FiniteMark done → Every FiniteMark l → InOrder done
       → keep p (sort_onto_by (λ m. m.phi) done l) ≡ sort_onto_by (λ m. m.phi) (keep p done) (keep p l)
@@ -110,12 +89,7 @@ module _ (p : Mark → Bool) where
   keep_sort_onto done (x ∷ l) fd fl o =
       keep_sort_onto (insert_mark x done) l (insert_every FiniteMark x done fl.0 fd) fl.1
       (insert_order x done fl.0 fd o)
-      ∙ rw (keep_insert x done fl.0 fd o) (by (p x))
-    where
-      by : (b : Bool) → sort_onto_by (λ m. m.phi) (cond b (insert_mark x (keep p done)) (keep p done)) (keep p l)
-          ≡ sort_onto_by (λ m. m.phi) (keep p done) (cond b (x ∷ keep p l) (keep p l))
-      by true = refl
-      by false = refl
+      ∙ rw (keep_insert x done fl.0 fd o) (grind arith)
 
   -- Law 1: filtered after the sort, or sorted after the filter.
   pub keep_sort : (l : List Mark) → Every FiniteMark l
@@ -139,24 +113,12 @@ map_sort l = map_sort_onto [] l
 keep_map : {A B : Type 0} (f : A → B) (p : B → Bool) (l : List A) → keep p (map f l) ≡ map f (keep (λ x. p (f x)) l)
 unfolding keep
 keep_map f p [] = refl
-keep_map f p (x ∷ l) = by (p (f x)) (keep_map f p l)
-  where
-    by : (b : Bool) → keep p (map f l) ≡ map f (keep (λ x. p (f x)) l)
-        → cond b (f x ∷ keep p (map f l)) (keep p (map f l))
-        ≡ map f (cond b (x ∷ keep (λ x. p (f x)) l) (keep (λ x. p (f x)) l))
-    by true r = ap (λ t. f x ∷ t) r
-    by false r = r
+keep_map f p (x ∷ l) = grind (arith, keep_map f p l)
 
 keep_keep : {A : Type 0} (p q : A → Bool) (l : List A) → keep p (keep q l) ≡ keep (λ x. q x && p x) l
 unfolding keep
 keep_keep p q [] = refl
-keep_keep p q (x ∷ l) = by (q x) (keep_keep p q l)
-  where
-    by : (b : Bool) → keep p (keep q l) ≡ keep (λ x. q x && p x) l
-        → keep p (cond b (x ∷ keep q l) (keep q l))
-        ≡ cond (b && p x) (x ∷ keep (λ x. q x && p x) l) (keep (λ x. q x && p x) l)
-    by true r = rw r
-    by false r = r
+keep_keep p q (x ∷ l) = grind (arith, keep_keep p q l)
 
 marks_finite : (c : Circle) (l : List IntersectionPoint) → Every FiniteMark (map (mark_of c) l)
 unfolding mark_of

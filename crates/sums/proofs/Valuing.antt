@@ -1,11 +1,10 @@
 -- What an arc adds to a sum, by its number.
 use mathlib.Core.Path.{◌≡◌, refl, sym, ap, ◌∙◌}
-use mathlib.Core.Bool.{Bool, true, false, cond}
+use mathlib.Core.Bool.{true, false}
 use mathlib.Core.List.{List, map, foldl}
 use Prim.Native.Nat.{ℕ, ◌+◌, ◌-◌, ◌*◌, ◌/◌, ◌%◌, ◌≤◌, ◌<◌}
 use native.Mathlib.Omega.{arith}
 use borrow.Author.Tests.{lt-ltb, le-ltb}
-use lib.Dec.{ltb}
 use lib.ListN.{length}
 use lib.Ieee.{Float}
 use Rattle.lists.specs.Every.{Every}
@@ -22,7 +21,7 @@ use Rattle.boundary.specs.declared.sort.Mark.{Mark}
 use Rattle.boundary.specs.Outline.{gap, between, full_circle, outline}
 use Rattle.inside.specs.Parts.{clipped_arc_integral}
 use Rattle.outline.specs.Area.{arc_terms, add_arc, add_arcs, area_of, open_area}
-use Rattle.outline.specs.Terms.{term_x, term_y, term_r}
+use Rattle.outline.specs.Terms.{terms_of, term_x, term_y, term_r}
 use Rattle.outline.proofs.Walking.{circles_of_members, members_many}
 use Rattle.clip.specs.Area.{empty_box, add_clipped_arc, add_clipped_arcs, add_edges, clipped_area_of, clipped_area}
 use Rattle.clip.proofs.Naming.{Below, outline_named}
@@ -32,8 +31,8 @@ use Rattle.gaps.specs.Gaps.{next_of}
 use Rattle.gaps.specs.Marks.{phi_at}
 use Rattle.gaps.proofs.Next.{next_is, next_less}
 use Rattle.sums.specs.declared.pass.Pass.{Pass}
-use Rattle.sums.specs.Walk.{marks_of, next_place, gap_arc, arc_at, head_of, Placed, arcs_listed, outline_arcs, Listing}
-use Rattle.sums.specs.Values.{term_of, terms_of, add_one, add_terms}
+use Rattle.sums.specs.Walk.{marks_of, gap_arc, arc_at, head_of, Placed, arcs_listed, outline_arcs, Listing}
+use Rattle.sums.specs.Values.{term_of, add_one, add_terms}
 use Rattle.sums.proofs.Held.{head_near, head_whole, head_far, marks_few, near_read, start_read, end_read, list_below}
 use Rattle.sums.proofs.Walking.{neighbour_arc}
 
@@ -120,16 +119,7 @@ module _ (pass : Pass) (p : ℕ) (placed : Placed pass.needed pass.heads.now.ite
 -- its circle is that of its head
 pub arc_head : (circles : List Circle) (heads : List HeadMarks) (p : ℕ) → (arc_at circles heads p).circle ≡ head_of p
 unfolding arc_at gap_arc between full_circle head_of
-arc_head circles heads p = by (ltb p 320) (ltb p 330)
-  where
-    by : (s t : Bool)
-        → (cond s (gap_arc circles heads p (next_place heads p))
-        (cond t (full_circle (p - 320) (circle_at circles (p - 320)))
-        (gap_arc circles heads ((p - 330) / 320) ((p - 330) % 320)))).circle
-        ≡ cond s (p / 32) (cond t (p - 320) ((p - 330) / 320 / 32))
-    by true t = refl
-    by false true = refl
-    by false false = refl
+arc_head circles heads p = grind arith
 
 -- ---- a sum over numbers is the sum over their arcs
 

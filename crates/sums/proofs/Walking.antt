@@ -1,14 +1,15 @@
 -- Laws of the walk round the heads of a set.
 use mathlib.Core.Path.{◌≡◌, refl, sym, ap, subst, ◌∙◌}
 use mathlib.Core.Bool.{Bool, true, false, cond}
-use mathlib.Core.List.{List, [], ◌∷◌, ◌++◌, map-append, append-nil, append_assoc}
-use mathlib.Core.Logic.{⊎_elim}
+use mathlib.Core.List.{List, [], ◌∷◌, ◌++◌, map, map-append, append-nil, append_assoc}
 use Prim.Native.Nat.{ℕ, zero, suc, ◌+◌, ◌-◌, ◌*◌, ◌/◌, ◌%◌, ◌^◌, ◌≤◌, ◌<◌}
-use native.Mathlib.Nat.{le_trans, eq-or-lt_of_le, le_of_suc-le-suc}
+use native.Mathlib.Nat.{le_trans}
 use native.Mathlib.Numerals.{add-one}
 use native.Mathlib.Omega.{arith}
 use borrow.Author.Tests.{ltb-true, ltb-false, lt-ltb, le-ltb, eq-eqb, ne_eqb}
 use Rattle.std.specs.Prelude.{Option, None, Some}
+use Rattle.std.specs.List.{position, position_or_len}
+use Rattle.std.proofs.lemmas.List.Sums.{fails_before_first, passes_at_first}
 use lib.Bits.{bit_and}
 use lib.Count.{ones, count_trailing_zeros}
 use lib.Dec.{eqb, ltb}
@@ -21,7 +22,7 @@ use Rattle.masks.specs.Lowest.{trailing_in, trailing_lt}
 use Rattle.masks.specs.Operations.{in_of_one, bit_beyond}
 use Rattle.masks.specs.Size.{ones_of_zero}
 use Rattle.masks.specs.Subset.{and_test, subset_head, subset_le}
-use Rattle.lists.specs.Every.{Every, every_append}
+use Rattle.lists.specs.Every.{every_append}
 use Rattle.lists.specs.Lists.{up_to, keep}
 use Rattle.geometry.specs.declared.circle.Circle.{Circle}
 use Rattle.intersections.specs.Members.{circle_at}
@@ -36,10 +37,10 @@ use Rattle.gaps.specs.Marks.{adopted_by, angles_in, phi_at, unmarked}
 use Rattle.gaps.proofs.Next.{next_is}
 use Rattle.gaps.proofs.Numbering.{by_cases}
 use Rattle.sums.specs.declared.pass.Pass.{Pass}
-use Rattle.sums.specs.Walk.{marks_of, gap_in, whole_in, gaps_in, head_in, part_in, heads_in, arcs_by, FirstIn}
-use Rattle.sums.specs.Walk.{Angled, next_place, gap_arc, arc_at, standing, Placed, arcs_listed}
+use Rattle.sums.specs.Walk.{marks_of, gap_in, whole_in, gaps_in, head_in, part_in, heads_in, arcs_by}
+use Rattle.sums.specs.Walk.{Angled, next_place, gap_arc, arc_at, Placed, arcs_listed, Added}
 use Rattle.sums.proofs.Ranks.{owned_by_mask, arc_by_mask}
-use Rattle.sums.proofs.Held.{lets_held, owners_held, marks_few}
+use Rattle.sums.proofs.Held.{standing_near, standing_whole, placed_near, lets_held, owners_held, marks_few}
 
 -- ---- the arc of a place
 
@@ -79,15 +80,10 @@ module _ (circles : List Circle) (heads : List HeadMarks) (j a : ℕ) (small : a
         (gap-arc ((a + 1) % length (marks_of heads j)) k)
 
     pub neighbour_placed : (needed : ℕ) → a < length (marks_of heads j) → Placed needed heads (j * 32 + a)
-    unfolding standing
     neighbour_placed needed h =
         let less : j * 32 + a < 320 = omega (arith, low, small) in
-        record {
-          near = λ _. rw (lt-ltb (j * 32 + a) 320 less, head_of, index_of) (lt-ltb a (length (marks_of heads j)) h);
-          start = λ g. absurd (omega (arith, less, g));
-          end = λ g. absurd (omega (arith, less, g));
-          same = λ g. absurd (omega (arith, less, g));
-        }
+        placed_near needed heads (j * 32 + a) (omega (arith, less))
+        (standing_near needed heads (j * 32 + a) less ∙ rw (head_of, index_of) (lt-ltb a (length (marks_of heads j)) h))
 
     module _ (b : ℕ) (k : b < 32) where
       abbrev far : ℕ
@@ -126,26 +122,9 @@ whole_arc circles heads j h =
 
 pub whole_placed : (heads : List HeadMarks) (needed j : ℕ) → j < 10 → in_set needed j ≡ true
     → Placed needed heads (320 + j)
-unfolding standing
 whole_placed heads needed j h e =
     let same : 320 + j - 320 ≡ j = omega arith in
-    record {
-      near = λ _. rw (le-ltb (320 + j) 320 (omega arith), same) e;
-      start = λ g. absurd (omega (arith, h, g));
-      end = λ g. absurd (omega (arith, h, g));
-      same = λ g. absurd (omega (arith, h, g));
-    }
-
--- ---- the search for the first mark of a set
-
-pub none_on : (S : ℕ) (marks : List Mark) (i : ℕ) → ((k : ℕ) → k < i → adopted_by S (get_or marks k no_mark) ≡ false)
-    → adopted_by S (get_or marks i no_mark) ≡ false → (k : ℕ) → k < i + 1
-    → adopted_by S (get_or marks k no_mark) ≡ false
-none_on S marks i h e k l =
-    ⊎_elim (λ q. ap (λ t. adopted_by S (get_or marks t no_mark)) q ∙ e) (λ q. h k q)
-    (eq-or-lt_of_le (le_of_suc-le-suc (rw (add-one i) at l)))
-
-pub ruleset searching = (none_on, and_test)
+    placed_near needed heads (320 + j) (omega (arith, h)) (standing_whole needed heads (320 + j) (omega arith) ∙ rw same e)
 
 -- ---- the marks of a head that a set adopts
 
@@ -176,13 +155,55 @@ module _ (S : ℕ) (marks : List Mark) where
       skip_to r (omega arith) (λ i k. g i (omega arith)) ∙ no_next r (omega arith) (g r (omega arith))
       ∙ ap angles_beyond (add-one r)
 
-  module _ (first : ℕ) (x : FirstIn S marks first) where
-    pub no_angle : length marks ≤ first → angles_in S marks ≡ []
-    no_angle h = skip_to first x.within x.none ∙ none_left first h
+  pub no_angle : None ≡ position (adopted_by S) marks → angles_in S marks ≡ []
+  no_angle e = by (ltb (position_or_len (adopted_by S) marks) (length marks)) refl
+    where
+      by : (b : Bool) → ltb (position_or_len (adopted_by S) marks) (length marks) ≡ b → angles_in S marks ≡ []
+      by true q = absurd (grind (arith, rw q at e))
+      by false q =
+          skip_to (length marks) (omega arith)
+          (λ i h. fails_before_first (adopted_by S) marks i no_mark (omega (arith, h, ltb-false _ _ q)))
+          ∙ none_left (length marks) (omega arith)
 
-    -- the first angle, with those after it
-    first_is : first < length marks → angles_in S marks ≡ phi_at marks first ∷ angles_beyond (first + 1)
-    first_is h = skip_to first x.within x.none ∙ next_angle first h (x.here h)
+  -- it is a place, and the first angle stands there, with those after it
+  pub first_angle : {first : ℕ} → Some first ≡ position (adopted_by S) marks
+      → (first < length marks) × (angles_in S marks ≡ phi_at marks first ∷ angles_beyond (first + 1))
+  first_angle {first = first} e = by (ltb (position_or_len (adopted_by S) marks) (length marks)) refl
+    where
+      by : (b : Bool) → ltb (position_or_len (adopted_by S) marks) (length marks) ≡ b
+          → (first < length marks) × (angles_in S marks ≡ phi_at marks first ∷ angles_beyond (first + 1))
+      by true q =
+          let is : first ≡ position_or_len (adopted_by S) marks = grind (arith, rw q at e) in
+          let less = ltb-true (position_or_len (adopted_by S) marks) (length marks) q in
+          rw is (
+            less,
+            skip_to (position_or_len (adopted_by S) marks) (omega (arith, less))
+                (λ i h. fails_before_first (adopted_by S) marks i no_mark h)
+                ∙ next_angle (position_or_len (adopted_by S) marks) less (passes_at_first (adopted_by S) marks no_mark less),
+          )
+      by false q = absurd (grind (arith, rw q at e))
+
+-- ---- numbers put on the list
+
+module _ (pass : Pass) (list : List ℕ) where
+  pub added_one : (p : ℕ) {more : List BoundaryArc}
+      → more ≡ arc_at pass.circles.now.items pass.heads.now.items p ∷ [] → Placed pass.needed pass.heads.now.items p
+      → Added pass more list (list ++ (p ∷ []))
+  added_one p e one =
+      let arc = arc_at pass.circles.now.items pass.heads.now.items in
+      record {
+        said = map-append arc list (p ∷ []) ∙ ap (λ t. map arc list ++ t) (sym e);
+        placed = λ all. every_append (Placed pass.needed pass.heads.now.items) list (p ∷ []) all (one, tt);
+      }
+
+  pub added_none : {more : List BoundaryArc} → more ≡ [] → Added pass more list list
+  added_none e =
+      record { said = sym (rw e (append-nil (arcs_listed pass.circles.now.items pass.heads.now.items list))); placed = λ all. all }
+
+pub added_on : {pass : Pass} {a b c : List ℕ} {x y : List BoundaryArc} → Added pass x a b → Added pass y b c
+    → Added pass (x ++ y) a c
+added_on {x = x} {y = y} f g =
+    record { said = g.said ∙ ap (λ t. t ++ y) f.said ∙ append_assoc _ x y; placed = λ all. g.placed (f.placed all) }
 
 -- ---- a set of heads of the pass
 
@@ -195,6 +216,9 @@ module _ (pass : Pass) (S : ℕ) (within : Subset S pass.needed) where
 
   pub set_below : S < 2 ^ length pass.circles.now.items
   set_below = omega (arith, subset_le S pass.needed within, pass.below)
+
+  set_wide : S < 2 ^ 64
+  set_wide = le_trans set_below (pow_mono {i = length pass.circles.now.items} {j = 64} (omega (arith, pass.ten)))
 
   module _ (j : ℕ) (head : j < length pass.circles.now.items) (in-S : in_set S j ≡ true) where
     in-needed : in_set pass.needed j ≡ true
@@ -242,16 +266,15 @@ module _ (pass : Pass) (S : ℕ) (within : Subset S pass.needed) where
         after : b ≡ (a + 1) % length (marks_of pass.heads.now.items j)
         after = next ∙ next_is a (length (marks_of pass.heads.now.items j)) ha
 
-        by_mask : subset 64 S (get_or (get_or pass.heads.now.items j unmarked).lets a 0)
+        by_mask : subset 64 S (get_or (marks_of pass.heads.now.items j) a no_mark).lets
             ≡ is_arc circles S j phi_a phi_b
         by_mask =
-            sym (and_test 64 S (get_or (get_or pass.heads.now.items j unmarked).lets a 0)
-            (le_trans set_below (pow_mono {i = length circles} {j = 64} (omega (arith, pass.ten)))))
+            sym (and_test 64 S (get_or (marks_of pass.heads.now.items j) a no_mark).lets set_wide)
             ∙ ap (λ m. eqb (bit_and S m) S) (lets_held pass j head in-needed a ha)
             ∙ arc_by_mask circles S j set_below in-S phi_a (phi_at marks ((a + 1) % length marks))
             ∙ ap (λ m. is_arc circles S j phi_a (phi_at marks m)) (sym after)
 
-        neighbour : (s : Bool) → subset 64 S (get_or (get_or pass.heads.now.items j unmarked).lets a 0) ≡ s
+        neighbour : (s : Bool) → subset 64 S (get_or (marks_of pass.heads.now.items j) a no_mark).lets ≡ s
             → Numbered (cond s (Some (j * 32 + a)) None)
         neighbour s e =
             by_arc (j * 32 + a)
@@ -275,170 +298,148 @@ module _ (pass : Pass) (S : ℕ) (within : Subset S pass.needed) where
 
     -- ---- no angle: the whole circle, by the mask of those that let the head have its probe
 
-    whole_by : eqb (bit_and S (get_or pass.heads.now.items j unmarked).owners) S
+    whole_by : subset 64 S (get_or pass.heads.now.items j unmarked).owners
         ≡ owned_in circles S j (probe (circle_at circles j))
     whole_by =
-        ap (λ k. eqb (bit_and S k) S) (owners_held pass j head in-needed)
+        sym (and_test 64 S (get_or pass.heads.now.items j unmarked).owners set_wide)
+        ∙ ap (λ k. eqb (bit_and S k) S) (owners_held pass j head in-needed)
         ∙ owned_by_mask circles S j (probe (circle_at circles j)) set_below
 
-    module _ (first : ℕ) (x : FirstIn S (marks_of pass.heads.now.items j) first)
-        (h : length (marks_of pass.heads.now.items j) ≤ first) where
-      pub whole_yes : bit_and S (get_or pass.heads.now.items j unmarked).owners ≡ S
-          → (head_in pass.circles.now.items S j (angles_in S (marks_of pass.heads.now.items j))
-          ≡ arc_at pass.circles.now.items pass.heads.now.items (320 + j) ∷ [])
-          × Placed pass.needed pass.heads.now.items (320 + j)
+    module _ (none : angles_in S (marks_of pass.heads.now.items j) ≡ []) (list : List ℕ) where
+      pub whole_yes : subset 64 S (get_or pass.heads.now.items j unmarked).owners ≡ true
+          → Added pass (head_in pass.circles.now.items S j (angles_in S (marks_of pass.heads.now.items j))) list
+          (list ++ ((320 + j) ∷ []))
       unfolding head_in whole_in
-      whole_yes e = (
-        rw (no_angle S (marks_of pass.heads.now.items j) first x h, whole_arc circles heads j low)
-            (rw (sym whole_by ∙ eq-eqb _ _ e)),
-        whole_placed pass.heads.now.items pass.needed j low in-needed,
-      )
+      whole_yes e =
+          added_one pass list (320 + j) (rw (none, whole_arc circles heads j low) (rw (sym whole_by ∙ e)))
+          (whole_placed pass.heads.now.items pass.needed j low in-needed)
 
-      pub whole_no : (bit_and S (get_or pass.heads.now.items j unmarked).owners ≡ S → ⊥)
-          → head_in pass.circles.now.items S j (angles_in S (marks_of pass.heads.now.items j)) ≡ []
+      pub whole_no : subset 64 S (get_or pass.heads.now.items j unmarked).owners ≡ false
+          → Added pass (head_in pass.circles.now.items S j (angles_in S (marks_of pass.heads.now.items j))) list list
       unfolding head_in whole_in
-      whole_no e = rw (no_angle S (marks_of pass.heads.now.items j) first x h) (rw (sym whole_by ∙ ne_eqb _ _ e))
-
--- ---- one number more on the list
-
-module _ (circles : List Circle) (needed : ℕ) (heads : List HeadMarks) (list : List ℕ) where
-  pub listed_more : (p : ℕ) {more : List BoundaryArc} → more ≡ arc_at circles heads p ∷ []
-      → arcs_listed circles heads (list ++ (p ∷ [])) ≡ arcs_listed circles heads list ++ more
-  listed_more p e =
-      map-append (arc_at circles heads) list (p ∷ []) ∙ ap (λ t. arcs_listed circles heads list ++ t) (sym e)
-
-  pub listed_same : {more : List BoundaryArc} → more ≡ []
-      → arcs_listed circles heads list ≡ arcs_listed circles heads list ++ more
-  listed_same e = sym (rw e (append-nil (arcs_listed circles heads list)))
-
-  pub placed_more : (p : ℕ) → Every (Placed needed heads) list → Placed needed heads p
-      → Every (Placed needed heads) (list ++ (p ∷ []))
-  placed_more p all one = every_append (Placed needed heads) list (p ∷ []) all (one, tt)
+      whole_no e = added_none pass list (rw none (rw (sym whole_by ∙ e)))
 
 -- ---- the walk round one head
 
--- The gaps up to the mark `last` are listed, and those from it on give the rest: S adopts no mark after it and before
--- b.
-pub record Round (circles : List Circle) (needed : ℕ) (heads : List HeadMarks) (S j first : ℕ)
-    (whole : List BoundaryArc)
-    (list : List ℕ) (last b : ℕ) : Type 0 where
-  pub first_below : first < length (marks_of heads j)
-  pub last_below : last < length (marks_of heads j)
+-- The gaps up to the mark `last` are listed, and with those from it on all of the head's arcs are: S adopts no mark
+-- after it and before b.
+pub record Round (pass : Pass) (S j first : ℕ) (initial list : List ℕ) (last b : ℕ) : Type 0 where
+  pub first_below : first < length (marks_of pass.heads.now.items j)
+  pub last_below : last < length (marks_of pass.heads.now.items j)
   pub past : last < b
   pub room : length list ≤ j * 32 + last
-  pub placed : Every (Placed needed heads) list
-  pub rest :
-      arcs_listed circles heads list
-      ++ gaps_in circles S j (phi_at (marks_of heads j) first)
-      (phi_at (marks_of heads j) last ∷ angles_beyond S (marks_of heads j) b)
-      ≡ whole
+  pub rest : (after : List ℕ)
+      → let cs = pass.circles.now.items in let marks = marks_of pass.heads.now.items j in
+      Added pass (gaps_in cs S j (phi_at marks first) (phi_at marks last ∷ angles_beyond S marks b)) list after
+      → Added pass (head_in cs S j (angles_in S marks)) initial after
 
-module _ (circles : List Circle) (needed : ℕ) (heads : List HeadMarks) (S j first : ℕ) where
+module _ (pass : Pass) (S j first : ℕ) where
   abbrev phi : ℕ → Float
-  phi = phi_at (marks_of heads j)
+  phi = phi_at (marks_of pass.heads.now.items j)
 
   abbrev beyond : ℕ → List Float
-  beyond = angles_beyond S (marks_of heads j)
+  beyond = angles_beyond S (marks_of pass.heads.now.items j)
 
-  gaps_step : (a b : Float) (l : List Float)
-      → gaps_in circles S j (phi first) (a ∷ (b ∷ l))
-      ≡ gap_in circles S j a b ++ gaps_in circles S j (phi first) (b ∷ l)
+  abbrev gaps : List Float → List BoundaryArc
+  gaps = gaps_in pass.circles.now.items S j (phi_at (marks_of pass.heads.now.items j) first)
+
+  gaps_step : (a b : Float) (l : List Float) → gaps (a ∷ (b ∷ l)) ≡ gap_in pass.circles.now.items S j a b ++ gaps (b ∷ l)
   unfolding gaps_in
   gaps_step a b l = refl
 
-  gaps_last : (a : Float) → gaps_in circles S j (phi first) (a ∷ []) ≡ gap_in circles S j a (phi first)
+  gaps_last : (a : Float) → gaps (a ∷ []) ≡ gap_in pass.circles.now.items S j a (phi first)
   unfolding gaps_in
   gaps_last a = refl
 
-  head_gaps : (l : List Float) → head_in circles S j (phi first ∷ l) ≡ gaps_in circles S j (phi first) (phi first ∷ l)
+  head_gaps : (l : List Float) → head_in pass.circles.now.items S j (phi first ∷ l) ≡ gaps (phi first ∷ l)
   unfolding head_in
   head_gaps l = refl
 
-  pub round_start : (list : List ℕ) → FirstIn S (marks_of heads j) first → first < length (marks_of heads j)
-      → length list ≤ j * 32
-      → Every (Placed needed heads) list
-      → Round circles needed heads S j first
-      (arcs_listed circles heads list ++ head_in circles S j (angles_in S (marks_of heads j))) list first (first + 1)
-  round_start list x h room placed =
+  pub round_start : (list : List ℕ) → Some first ≡ position (adopted_by S) (marks_of pass.heads.now.items j)
+      → length list ≤ j * 32 → Round pass S j first list list first (first + 1)
+  round_start list e room =
+      let x = first_angle S (marks_of pass.heads.now.items j) e in
       record {
-        first_below = h;
-        last_below = h;
+        first_below = x.0;
+        last_below = x.0;
         past = omega arith;
         room = omega (arith, room);
-        placed = placed;
-        rest =
-            ap (λ t. arcs_listed circles heads list ++ t)
-            (sym (ap (head_in circles S j) (first_is S (marks_of heads j) first x h) ∙ head_gaps (beyond (first + 1))));
+        rest = λ after h.
+            subst (λ t. Added pass t list after) (sym (ap (head_in pass.circles.now.items S j) x.1 ∙ head_gaps (beyond (first + 1)))) h;
       }
 
-  module _ {whole : List BoundaryArc} {list : List ℕ} {last b : ℕ}
-      (w : Round circles needed heads S j first whole list last b) where
-    abbrev so_far : List BoundaryArc
-    so_far = arcs_listed circles heads list
-
+  module _ {initial list : List ℕ} {last b : ℕ} (w : Round pass S j first initial list last b) where
     -- S does not adopt b
-    pub round_skips : b < length (marks_of heads j) → adopted_by S (get_or (marks_of heads j) b no_mark) ≡ false
-        → Round circles needed heads S j first whole list last (b + 1)
+    pub round_skips : b < length (marks_of pass.heads.now.items j)
+        → adopted_by S (get_or (marks_of pass.heads.now.items j) b no_mark) ≡ false
+        → Round pass S j first initial list last (b + 1)
     round_skips h none =
         record {
           first_below = w.first_below;
           last_below = w.last_below;
           past = omega (arith, w.past);
           room = w.room;
-          placed = w.placed;
-          rest =
-              ap (λ t. so_far ++ gaps_in circles S j (phi first) (phi last ∷ t))
-              (sym (no_next S (marks_of heads j) b h none))
-              ∙ w.rest;
+          rest = λ after k.
+              w.rest after
+              (subst (λ t. Added pass (gaps (phi last ∷ t)) list after) (sym (no_next S (marks_of pass.heads.now.items j) b h none)) k);
         }
 
     -- it does
-    pub round_next : {list' : List ℕ} → b < length (marks_of heads j)
-        → adopted_by S (get_or (marks_of heads j) b no_mark) ≡ true
-        → length list' ≤ length list + 1 → Every (Placed needed heads) list'
-        → arcs_listed circles heads list' ≡ so_far ++ gap_in circles S j (phi last) (phi b)
-        → Round circles needed heads S j first whole list' b (b + 1)
-    round_next h here more placed said =
+    pub round_next : {list' : List ℕ} → b < length (marks_of pass.heads.now.items j)
+        → adopted_by S (get_or (marks_of pass.heads.now.items j) b no_mark) ≡ true
+        → length list' ≤ length list + 1
+        → (let marks = marks_of pass.heads.now.items j in
+        Added pass (gap_in pass.circles.now.items S j (phi_at marks last) (phi_at marks b)) list list')
+        → Round pass S j first initial list' b (b + 1)
+    round_next h here more added =
         record {
           first_below = w.first_below;
           last_below = h;
           past = omega arith;
           room = omega (arith, w.room, w.past, more);
-          placed = placed;
-          rest =
-              ap (λ t. t ++ gaps_in circles S j (phi first) (phi b ∷ beyond (b + 1))) said
-              ∙ append_assoc so_far (gap_in circles S j (phi last) (phi b))
-              (gaps_in circles S j (phi first) (phi b ∷ beyond (b + 1)))
-              ∙ ap (λ t. so_far ++ t)
-              (sym (ap (λ t. gaps_in circles S j (phi first) (phi last ∷ t)) (next_angle S (marks_of heads j) b h here)
+          rest = λ after k.
+              w.rest after
+              (subst (λ t. Added pass t list after)
+              (sym (ap (λ t. gaps (phi last ∷ t)) (next_angle S (marks_of pass.heads.now.items j) b h here)
               ∙ gaps_step (phi last) (phi b) (beyond (b + 1))))
-              ∙ w.rest;
+              (added_on added k));
         }
 
-    pub round_end : (list' : List ℕ) → length (marks_of heads j) ≤ b
-        → arcs_listed circles heads list' ≡ so_far ++ gap_in circles S j (phi last) (phi first)
-        → arcs_listed circles heads list' ≡ whole
-    round_end list' h said =
-        said
-        ∙ ap (λ t. so_far ++ t)
-        (sym (ap (λ t. gaps_in circles S j (phi first) (phi last ∷ t)) (none_left S (marks_of heads j) b h)
-        ∙ gaps_last (phi last)))
-        ∙ w.rest
+    pub round_end : {list' : List ℕ} → length (marks_of pass.heads.now.items j) ≤ b
+        → (let marks = marks_of pass.heads.now.items j in
+        Added pass (gap_in pass.circles.now.items S j (phi_at marks last) (phi_at marks first)) list list')
+        → Added pass (head_in pass.circles.now.items S j (angles_in S (marks_of pass.heads.now.items j))) initial list'
+    round_end {list' = list'} h added =
+        w.rest list'
+        (subst (λ t. Added pass t list list')
+        (sym (ap (λ t. gaps (phi last ∷ t)) (none_left S (marks_of pass.heads.now.items j) b h) ∙ gaps_last (phi last))) added)
 
 -- ---- head by head
 
-module _ (circles : List Circle) (heads : List HeadMarks) (S j : ℕ) where
-  pub heads-in : {arcs more : List BoundaryArc} → in_set S j ≡ true → arcs ≡ heads_in circles (marks_of heads) S j
-      → more ≡ arcs ++ head_in circles S j (angles_in S (marks_of heads j))
-      → more ≡ heads_in circles (marks_of heads) S (j + 1)
-  unfolding heads_in up_to part_in
-  heads-in e said new =
-      new ∙ ap (λ t. t ++ head_in circles S j (angles_in S (marks_of heads j))) said ∙ rw (add-one j, e)
+module _ (pass : Pass) (S j : ℕ) where
+  -- the arcs of the heads below n
+  abbrev below : ℕ → List BoundaryArc
+  below n = heads_in pass.circles.now.items (marks_of pass.heads.now.items) S n
 
-  pub heads_out : {arcs : List BoundaryArc} → in_set S j ≡ false → arcs ≡ heads_in circles (marks_of heads) S j
-      → arcs ≡ heads_in circles (marks_of heads) S (j + 1)
+  head_more : in_set S j ≡ true
+      → below (j + 1) ≡ below j ++ head_in pass.circles.now.items S j (angles_in S (marks_of pass.heads.now.items j))
   unfolding heads_in up_to part_in
-  heads_out e said = said ∙ sym (append-nil (heads_in circles (marks_of heads) S j)) ∙ rw (add-one j, e)
+  head_more e = rw (add-one j, e)
+
+  head_same : in_set S j ≡ false → below (j + 1) ≡ below j
+  unfolding heads_in up_to part_in
+  head_same e = rw (add-one j, e) (append-nil (below j))
+
+  pub heads_more : {a b c : List ℕ} → in_set S j ≡ true
+      → Added pass (heads_in pass.circles.now.items (marks_of pass.heads.now.items) S j) a b
+      → Added pass (head_in pass.circles.now.items S j (angles_in S (marks_of pass.heads.now.items j))) b c
+      → Added pass (heads_in pass.circles.now.items (marks_of pass.heads.now.items) S (j + 1)) a c
+  heads_more {a = a} {c = c} e f g = subst (λ t. Added pass t a c) (sym (head_more e)) (added_on f g)
+
+  pub heads_same : {a b : List ℕ} → in_set S j ≡ false
+      → Added pass (heads_in pass.circles.now.items (marks_of pass.heads.now.items) S j) a b
+      → Added pass (heads_in pass.circles.now.items (marks_of pass.heads.now.items) S (j + 1)) a b
+  heads_same {a = a} {b = b} e f = subst (λ t. Added pass t a b) (sym (head_same e)) f
 
 module _ (circles : List Circle) (heads : List HeadMarks) (S : ℕ) where
   pub heads_none : [] ≡ heads_in circles (marks_of heads) S 0
@@ -462,12 +463,7 @@ module _ (n S : ℕ) (most : n ≤ 10) (below : S < 2 ^ n) (one : ones S ≡ 1) 
   wide = le_trans below (pow_mono {i = n} {j = 64} (omega arith))
 
   some : 0 < S
-  some = go (ltb 0 S) refl
-    where
-      go : (b : Bool) → ltb 0 S ≡ b → 0 < S
-      go true q = ltb-true 0 S q
-      go false q = let z : S ≡ 0 = omega (arith, ltb-false 0 S q) in
-          absurd (omega (arith, ap ones z, ones_of_zero, one))
+  some = grind (arith, one, ones_of_zero)
 
   there : bit S (count_trailing_zeros 64 S) ≡ 1
   there = trailing_in 64 S (trailing_lt 64 S some wide)
@@ -476,9 +472,4 @@ module _ (n S : ℕ) (most : n ≤ 10) (below : S < 2 ^ n) (one : ones S ≡ 1) 
   single_in = in_of_one S (count_trailing_zeros 64 S) there
 
   pub single_below : count_trailing_zeros 64 S < n
-  single_below = by (ltb (count_trailing_zeros 64 S) n) refl
-    where
-      by : (b : Bool) → ltb (count_trailing_zeros 64 S) n ≡ b → count_trailing_zeros 64 S < n
-      by true q = ltb-true (count_trailing_zeros 64 S) n q
-      by false q = absurd (omega
-          (arith, bit_beyond n S (count_trailing_zeros 64 S) below (ltb-false (count_trailing_zeros 64 S) n q), there))
+  single_below = grind (arith, there, bit_beyond n S (count_trailing_zeros 64 S) below)

@@ -19,14 +19,15 @@ use Rattle.boundary.specs.declared.arcs.BoundaryArc.{BoundaryArc}
 use Rattle.boundary.specs.Set.{region_arcs}
 use Rattle.inside.specs.Breaks.{breaks}
 use Rattle.inside.specs.Parts.{summed}
-use Rattle.inside.specs.Span.{Interval, horizontal_span, vertical_span}
+use Rattle.inside.specs.declared.edges.BoxEdge.{BoxEdge}
+use Rattle.inside.specs.Edges.{box_edges, factor_of, across_of, edge_span}
+use Rattle.inside.specs.Span.{Interval}
 use Rattle.outline.specs.Area.{arc_slopes, add_slopes, add_gradient}
-use Rattle.clip.specs.declared.edges.Edge.{Edge}
 use Rattle.clip.specs.Area.{empty_box}
 use Rattle.clip.specs.Gradient.{WithGradient, with_gradient, onto, clipped_with_gradient}
 use Rattle.clip.specs.Gradient.{sub_arc_with_gradient, part_slopes, add_part_with_gradient, clipped_arc_integral_with_gradient}
 use Rattle.clip.specs.Gradient.{add_clipped_arc_with_gradient, add_clipped_arcs_with_gradient}
-use Rattle.clip.specs.Gradient.{moved, edge_slopes, add_span_with_gradient, bottom_edge, right_edge, top_edge, left_edge, add_edges_with_gradient}
+use Rattle.clip.specs.Gradient.{moved, edge_slopes, add_span_with_gradient, add_edges_with_gradient}
 use Rattle.sums.specs.Gradients.{row_with}
 
 abbrev width : WithGradient → ℕ
@@ -99,29 +100,27 @@ shifted : (b : Bool) (g : List Float) (i : ℕ) (x : Float) → length (moved b 
 shifted true g i x = length-set g i _
 shifted false g i x = length-set g i _
 
-edge : (e : Edge) (at : ℕ) (l : Float) (g : List Float) → length (edge_slopes e at l g) ≡ length g
+edge : (e : BoxEdge) (across : Float) (at : ℕ) (l : Float) (g : List Float)
+    → length (edge_slopes e across at l g) ≡ length g
 unfolding edge_slopes
-edge e at l g = simp (shifted, length-set)
+edge e across at l g = simp (shifted, length-set)
 
-span : (e : Edge) (at : ℕ) (l : List Interval) (s : WithGradient) → width (add_span_with_gradient e at s l) ≡ width s
+span : (e : BoxEdge) (factor across : Float) (at : ℕ) (l : List Interval) (s : WithGradient)
+    → width (add_span_with_gradient e factor across at s l) ≡ width s
 unfolding add_span_with_gradient
-span e at [] s = refl
-span e at (i ∷ rest) s =
+span e factor across at [] s = refl
+span e factor across at (i ∷ rest) s =
     let l = i.high -ᶠ i.low in
-    span e at rest (with_gradient (s.sum +ᶠ e.factor *ᶠ l) (edge_slopes e at l s.grad)) ∙ edge e at l s.grad
+    span e factor across at rest (with_gradient (s.sum +ᶠ factor *ᶠ l) (edge_slopes e across at l s.grad))
+    ∙ edge e across at l s.grad
 
-edges : (box : Bounds) (cs : List Circle) (at : ℕ) (s : WithGradient) → width (add_edges_with_gradient box cs at s) ≡ width s
+edges : (box : Bounds) (cs : List Circle) (at : ℕ) (s : WithGradient)
+    → width (add_edges_with_gradient box cs at s) ≡ width s
 unfolding add_edges_with_gradient
-edges box cs at s =
-    let bottom = horizontal_span box.y_min box.x_min box.x_max cs in
-    let right = vertical_span box.x_max box.y_min box.y_max cs in
-    let top = horizontal_span box.y_max box.x_min box.x_max cs in
-    let left = vertical_span box.x_min box.y_min box.y_max cs in
-    let with_bottom = add_span_with_gradient (bottom_edge box) at s bottom in
-    let with_right = add_span_with_gradient (right_edge box) at with_bottom right in
-    let with_top = add_span_with_gradient (top_edge box) at with_right top in
-    span (left_edge box) at left with_top ∙ span (top_edge box) at top with_right ∙ span (right_edge box) at right with_bottom
-    ∙ span (bottom_edge box) at bottom s
+edges box cs at =
+    fold_wide width
+    (λ so e. add_span_with_gradient e (factor_of box e) (across_of box e) at so (edge_span box e cs))
+    (λ s e. span e (factor_of box e) (across_of box e) at (edge_span box e cs) s) box_edges
 
 -- ---- a row
 

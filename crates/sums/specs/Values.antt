@@ -1,14 +1,16 @@
--- What each arc adds to the sum of a set, by the arc's number: in the box one number, without it three. Those of an
--- arc between neighbours and of a whole circle are the same for every set, and are held in arrays.
-use Rattle.std.specs.Prelude.{ℕ, ◌<◌, ◌≤◌, ◌≡◌, true, false, List, get_or, Float}
-use Rattle.std.specs.Float.{nan}
+-- What each arc adds to the sum of a set, by the arc's number: in the box one number, without it three, and three to a
+-- gradient. Those of an arc between neighbours and of a whole circle are the same for every set, and are held in arrays.
+use Rattle.std.specs.Prelude.{ℕ, ◌<◌, ◌≡◌, true, List, get_or, Float}
+use Rattle.std.specs.List.{Contains}
+use mathlib.Core.List.{foldl}
+use Rattle.lists.specs.Every.{Every}
+use Rattle.binary64.specs.Constants.{zero64}
 use Rattle.binary64.specs.Floats.{◌+ᶠ◌}
 use Rattle.geometry.specs.declared.circle.Circle.{Circle}
 use Rattle.intersections.specs.Members.{circle_at}
 use Rattle.boundary.specs.declared.arcs.BoundaryArc.{BoundaryArc}
-use Rattle.outline.specs.Terms.{term_x, term_y, term_r}
+use Rattle.outline.specs.Terms.{terms_of, add_triple}
 use Rattle.gaps.specs.declared.marks.HeadMarks.{HeadMarks}
-use Rattle.sums.specs.declared.terms.Triple.{Triple}
 use Rattle.sums.specs.Walk.{head_of, arc_at, standing}
 
 -- a term of the arc of a number: the three that it adds without a box, or in the box the integral
@@ -16,39 +18,25 @@ unfoldable pub term_of : {A : Type 0} → (Circle → BoundaryArc → A) → Lis
 unfolding head_of arc_at
 term_of term circles heads p = term (circle_at circles (head_of p)) (arc_at circles heads p)
 
--- three together
-abbrev pub triple : Float → Float → Float → Triple
-triple x y r = record { x = x; y = y; r = r }
-
--- what stands for those that a list does not have
-abbrev pub no_triple : Triple
-no_triple = triple nan nan nan
-
--- the terms that an arc adds to an area without a box
-unfoldable pub terms_of : Circle → BoundaryArc → Triple
-unfolding term_x term_y term_r
-terms_of c arc = triple (term_x c arc) (term_y c arc) (term_r c arc)
-
 -- ---- the arcs of a list of numbers, added up
+
+-- what each has, added in turn to a sum that begins at +0
+abbrev pub sum_of : {A : Type 0} → (Float → A → Float) → (ℕ → A) → List ℕ → Float
+sum_of added value list = foldl (λ total p. added total (value p)) zero64 list
 
 -- in the box, and without it
 abbrev pub add_one : (ℕ → Float) → Float → ℕ → Float
 add_one f total p = total +ᶠ f p
-
-abbrev pub add_triple : Float → Triple → Float
-add_triple total t = total +ᶠ t.x +ᶠ t.y +ᶠ t.r
 
 abbrev pub add_terms : List Circle → List HeadMarks → Float → ℕ → Float
 add_terms circles heads total p = add_triple total (term_of terms_of circles heads p)
 
 -- ---- what the arrays hold
 
--- q is the first number from p on of an arc of a head of `needed`, or 330
-pub record NextStanding (needed : ℕ) (heads : List HeadMarks) (p q : ℕ) : Type 0 where
-  pub from : p ≤ q
-  pub within : q ≤ 330
-  pub none : (i : ℕ) → p ≤ i → i < q → standing needed heads i ≡ false
-  pub here : q < 330 → standing needed heads q ≡ true
+-- these are the numbers below 330 of the arcs of the heads of `needed`
+pub record Standing (needed : ℕ) (heads : List HeadMarks) (list : List ℕ) : Type 0 where
+  pub each : Every (λ p. (p < 330) × (standing needed heads p ≡ true)) list
+  pub all : (p : ℕ) → p < 330 → standing needed heads p ≡ true → Contains list p
 
 -- at the numbers of all such arcs these are their terms
 abbrev pub Valued : {A : Type 0} → ℕ → List Circle → List HeadMarks → (Circle → BoundaryArc → A) → A → List A → Type 0

@@ -1,5 +1,5 @@
 -- The arcs of a set's outline by head numbers, from the marks of its heads, and the numbers that stand for arcs.
-use Rattle.std.specs.Prelude.{ℕ, ◌+◌, ◌-◌, ◌*◌, ◌/◌, ◌%◌, ◌≤◌, ◌<◌, ◌≡◌, Bool, true, false, eqb, ltb, length, get_or}
+use Rattle.std.specs.Prelude.{ℕ, ◌+◌, ◌-◌, ◌*◌, ◌/◌, ◌%◌, ◌≤◌, ◌<◌, ◌≡◌, Bool, true, eqb, ltb, length, get_or}
 use Rattle.std.specs.Prelude.{Float}
 use Rattle.std.proofs.Math.Bool.{cond}
 use mathlib.Core.List.{List, [], ◌∷◌, ◌++◌, map}
@@ -12,12 +12,12 @@ use Rattle.intersections.specs.declared.points.IntersectionPoint.{IntersectionPo
 use Rattle.intersections.specs.Members.{heads_of, circle_at, members_of}
 use Rattle.boundary.specs.declared.arcs.BoundaryArc.{BoundaryArc}
 use Rattle.boundary.specs.declared.sort.Mark.{Mark}
-use Rattle.boundary.specs.Marks.{no_mark}
 use Rattle.boundary.specs.Outline.{gap, probe, between, full_circle, outline}
 use Rattle.boundary.specs.Set.{numbered}
 use Rattle.gaps.specs.declared.marks.HeadMarks.{HeadMarks}
 use Rattle.gaps.specs.Gaps.{owned_in, is_arc}
-use Rattle.gaps.specs.Marks.{adopted_by, angles_in, phi_at, unmarked}
+use Rattle.gaps.specs.Marks.{angles_in, phi_at, unmarked}
+use Rattle.sums.specs.declared.pass.Pass.{Pass}
 
 -- ---- marks, as they are held
 
@@ -76,12 +76,6 @@ arcs_by circles marks S =
 abbrev pub outline_arcs : List Circle → List IntersectionPoint → ℕ → List BoundaryArc
 outline_arcs circles points S = map (numbered (heads_of (length circles) S)) (outline (members_of circles points S))
 
--- r is the first of these marks whose point S adopts, or their number
-pub record FirstIn (S : ℕ) (marks : List Mark) (r : ℕ) : Type 0 where
-  pub within : r ≤ length marks
-  pub none : (i : ℕ) → i < r → adopted_by S (get_or marks i no_mark) ≡ false
-  pub here : r < length marks → adopted_by S (get_or marks r no_mark) ≡ true
-
 -- ---- arcs by their places, of which each head has 32
 
 -- the angle at a place
@@ -133,6 +127,14 @@ pub record Placed (needed : ℕ) (heads : List HeadMarks) (p : ℕ) : Type 0 whe
 -- the arcs that they stand for
 abbrev pub arcs_listed : List Circle → List HeadMarks → List ℕ → List BoundaryArc
 arcs_listed circles heads list = map (arc_at circles heads) list
+
+-- After those of `before` come numbers of these arcs, of heads of `needed`.
+pub record Added (pass : Pass) (arcs : List BoundaryArc) (before after : List ℕ) : Type 0 where
+  pub said :
+      arcs_listed pass.circles.now.items pass.heads.now.items after
+      ≡ arcs_listed pass.circles.now.items pass.heads.now.items before ++ arcs
+  pub placed : Every (Placed pass.needed pass.heads.now.items) before
+      → Every (Placed pass.needed pass.heads.now.items) after
 
 -- They are numbers of arcs of heads of `needed`, and stand for these arcs.
 pub record Listing (circles : List Circle) (needed : ℕ) (heads : List HeadMarks) (arcs : List BoundaryArc)

@@ -1,8 +1,7 @@
 // The areas of the rows that a pass works out with their gradients, in lent slices. Rests on specs/Gradients.antt.
-ghost use Rattle.std.specs.Prelude.{◌≡◌, ◌*◌, ◌^◌, ◌<◌, ◌≤◌, length, replicate};
+ghost use Rattle.std.specs.Prelude.{◌≡◌, ◌*◌, ◌^◌, ◌<◌, ◌≤◌, length};
 ghost use Rattle.masks.specs.Mask.{Subset};
 ghost use Rattle.masks.specs.Presence.{stands};
-ghost use Rattle.binary64.specs.Constants.{zero64};
 ghost use Rattle.clip.specs.Gradient.{with_gradient};
 ghost use Rattle.gaps.specs.Marks.{Few};
 ghost use Rattle.sums.specs.Fast.{OfWanted};
@@ -10,28 +9,23 @@ ghost use Rattle.sums.specs.Gradients.{open_onto, clipped_onto, set_onto, row_wi
 ghost use Rattle.sums.specs.Gradients.{areas_to, rows_to};
 
 use crate::fast::wanted_heads;
-use crate::pass::{Pass, Wanted};
-use crate::row::{BoxRowsWithGradients, Gradients, OpenRowsWithGradients};
+use crate::lookup::{Held, fill};
+use crate::pass::Pass;
+use crate::row::{BoxRowsWithGradients, Gradients};
 use crate::rows::{PlainRows, row_count};
 use crate::shares::{Parts, fill_parts};
-use crate::terms::{Slopes, Terms, Triple, fill_three};
+use crate::terms::{TermsAndSlopes, WithSlopes};
 use crate::walk::Listed;
 use chords::fill::fill_chords;
 use clip::gradient::area_and_gradient_from_clipped_arcs;
 use gaps::marks::{few, heads_marked};
+use gaps::numbers::HELD;
 use geometry::bounds::Bounds;
 use geometry::circle::Circles;
 use intersections::points::IntersectionPoint;
 use outline::area::area_from_boundary_arcs;
 use outline::gradient::accumulate_region_overlap_gradient;
 use outline::outline::region_boundary_arcs;
-
-// All numbers of a slice made +0.
-pub fn clear(numbers: &mut [f64])
-    ensures { numbers.new ≡ replicate (length numbers.old) zero64 }
-{
-    numbers.fill(0.0);
-}
 
 impl<'a> Gradients for PlainRows<'a> {
     ghost Has = { λ r S. Unit {0} };
@@ -70,77 +64,75 @@ fn write_row<R: Gradients>(rows: &R, mask: usize, grad: &mut [f64], list: &mut L
     ensures grad_len { length grad.new ≡ length grad.old }
     ensures row { with_gradient result grad.new ≡ row_anew (R.given rows.now) (length grad.old) mask }
 {
-    clear(grad);
+    grad.fill(0.0);
     rows.add(mask, grad, list)
 }
 
 // The row of each set that is wanted, at the place of its mask.
+// The width and the two slices are handed on one by one: as a struct, each contract would have to say beside what they
+// hold that they are the same slices as before.
 fn write_rows<R: Gradients>(
     rows: &R,
-    wanted: &Wanted<'_>,
+    wanted: &[u8],
     width: usize,
     areas: &mut [f64],
     gradients: &mut [f64],
 )
-    requires places { (wanted.now.count ≤ length areas.old) × (wanted.now.count * width ≤ length gradients.old) }
+    requires places { (length wanted.now ≤ length areas.old) × (length wanted.now * width ≤ length gradients.old) }
     requires has { OfWanted wanted.now (R.Has rows.now) }
     ensures areas_after { areas.new
-        ≡ areas_to (stands wanted.now.bytes.now) (row_anew (R.given rows.now) width) wanted.now.count areas.old }
+        ≡ areas_to (stands wanted.now) (row_anew (R.given rows.now) width) (length wanted.now) areas.old }
     ensures gradients_after { gradients.new
-        ≡ rows_to (stands wanted.now.bytes.now) (row_anew (R.given rows.now) width) width wanted.now.count gradients.old }
+        ≡ rows_to (stands wanted.now) (row_anew (R.given rows.now) width) width (length wanted.now) gradients.old }
 {
     let mut list = Listed::new();
-    for mask in 0..wanted.count {
-        if wanted.bytes[mask] == 1 {
+    for (mask, byte) in wanted.iter().enumerate() {
+        if *byte == 1 {
             let start = mask * width;
-            let end = start + width;
-            let area = write_row(rows, mask, &mut gradients[start..end], &mut list);
+            let area = write_row(rows, mask, &mut gradients[start..start + width], &mut list);
             areas[mask] = area;
         }
     }
 }
 
-// The same without a box and in it, where all these sets are of the heads of the pass.
-fn write_open(
-    pass: &Pass,
-    wanted: &Wanted<'_>,
-    width: usize,
-    areas: &mut [f64],
-    gradients: &mut [f64],
-)
-    requires places { (wanted.now.count ≤ length areas.old) × (wanted.now.count * width ≤ length gradients.old) }
+// The same without a box, where all these sets are of the heads of the pass. This and the next two stand beside those
+// for areas alone: they hold other things of each arc, and write two slices.
+fn write_open(pass: &Pass, wanted: &[u8], width: usize, areas: &mut [f64], gradients: &mut [f64])
+    requires places { (length wanted.now ≤ length areas.old) × (length wanted.now * width ≤ length gradients.old) }
     requires within { OfWanted wanted.now (λ S. Subset S pass.now.needed) }
-    ensures areas_after { areas.new ≡ areas_to (stands wanted.now.bytes.now)
-        (row_anew (open_onto pass.now.circles.now.items pass.now.points.now) width) wanted.now.count areas.old }
-    ensures gradients_after { gradients.new ≡ rows_to (stands wanted.now.bytes.now)
-        (row_anew (open_onto pass.now.circles.now.items pass.now.points.now) width) width wanted.now.count gradients.old }
+    ensures areas_after { areas.new ≡ areas_to (stands wanted.now)
+        (row_anew (open_onto pass.now.circles.now.items pass.now.points.now) width) (length wanted.now) areas.old }
+    ensures gradients_after { gradients.new ≡ rows_to (stands wanted.now)
+        (row_anew (open_onto pass.now.circles.now.items pass.now.points.now) width) width (length wanted.now)
+        gradients.old }
 {
-    let mut terms = [Triple::ZERO; 330];
-    fill_three::<Terms>(pass, &mut terms);
-    let mut slopes = [Triple::ZERO; 330];
-    fill_three::<Slopes>(pass, &mut slopes);
-    let rows = OpenRowsWithGradients {
+    let mut values = [TermsAndSlopes::default(); HELD];
+    fill(pass, &WithSlopes, &mut values);
+    let rows = Held {
         pass: *pass,
-        terms: &terms,
-        slopes: &slopes,
+        of: WithSlopes,
+        values: &values,
     };
     write_rows(&rows, wanted, width, areas, gradients);
 }
 
+// The same in the box.
 fn write_in_box(
     pass: &Pass,
     bounds: Bounds,
-    wanted: &Wanted<'_>,
+    wanted: &[u8],
     width: usize,
     areas: &mut [f64],
     gradients: &mut [f64],
 )
-    requires places { (wanted.now.count ≤ length areas.old) × (wanted.now.count * width ≤ length gradients.old) }
+    requires places { (length wanted.now ≤ length areas.old) × (length wanted.now * width ≤ length gradients.old) }
     requires within { OfWanted wanted.now (λ S. Subset S pass.now.needed) }
-    ensures areas_after { areas.new ≡ areas_to (stands wanted.now.bytes.now)
-        (row_anew (clipped_onto bounds pass.now.circles.now.items pass.now.points.now) width) wanted.now.count areas.old }
-    ensures gradients_after { gradients.new ≡ rows_to (stands wanted.now.bytes.now)
-        (row_anew (clipped_onto bounds pass.now.circles.now.items pass.now.points.now) width) width wanted.now.count gradients.old }
+    ensures areas_after { areas.new ≡ areas_to (stands wanted.now)
+        (row_anew (clipped_onto bounds pass.now.circles.now.items pass.now.points.now) width) (length wanted.now)
+        areas.old }
+    ensures gradients_after { gradients.new ≡ rows_to (stands wanted.now)
+        (row_anew (clipped_onto bounds pass.now.circles.now.items pass.now.points.now) width) width
+        (length wanted.now) gradients.old }
 {
     let mut parts = Parts::new();
     fill_parts(pass, bounds, &mut parts);
@@ -156,38 +148,38 @@ fn write_in_box(
 
 // The rows of the sets that are wanted, where no head has more points than there are places.
 fn write_fast(
-    bounds: Option<Bounds>,
-    circles: &Circles,
-    points: &[IntersectionPoint],
-    wanted: &Wanted<'_>,
+    rows: &PlainRows<'_>,
+    wanted: &[u8],
     width: usize,
     areas: &mut [f64],
     gradients: &mut [f64],
 )
-    requires few { (length circles.now.items ≤ 10) × Few circles.now.items points.now }
-    requires places { (wanted.now.count ≤ 2 ^ length circles.now.items) × ((wanted.now.count ≤ length areas.old) ×
-        (wanted.now.count * width ≤ length gradients.old)) }
-    ensures areas_after { areas.new ≡ areas_to (stands wanted.now.bytes.now)
-        (row_with bounds circles.now.items points.now width) wanted.now.count areas.old }
-    ensures gradients_after { gradients.new ≡ rows_to (stands wanted.now.bytes.now)
-        (row_with bounds circles.now.items points.now width) width wanted.now.count gradients.old }
+    requires few { (length rows.now.circles.now.items ≤ 10) × Few rows.now.circles.now.items rows.now.points.now }
+    requires places { (length wanted.now ≤ 2 ^ length rows.now.circles.now.items) ×
+        ((length wanted.now ≤ length areas.old) × (length wanted.now * width ≤ length gradients.old)) }
+    ensures areas_after { areas.new ≡ areas_to (stands wanted.now)
+        (row_with rows.now.bounds rows.now.circles.now.items rows.now.points.now width) (length wanted.now) areas.old }
+    ensures gradients_after { gradients.new ≡ rows_to (stands wanted.now)
+        (row_with rows.now.bounds rows.now.circles.now.items rows.now.points.now width) width (length wanted.now)
+        gradients.old }
 {
     let needed = wanted_heads(wanted);
-    let heads = heads_marked(circles, points, needed);
+    let heads = heads_marked(rows.circles, rows.points, needed);
     let pass = Pass {
-        circles,
-        points,
+        circles: rows.circles,
+        points: rows.points,
         heads: &heads,
         needed,
     };
-    match bounds {
+    match rows.bounds {
         Some(bounds) => write_in_box(&pass, bounds, wanted, width, areas, gradients),
         None => write_open(&pass, wanted, width, areas, gradients),
     }
 }
 
-// The areas of the sets whose byte in `wanted` is 1, in the box if there is one, each at the place of its mask, as they come with their
-// gradients, of which each is written onto +0 in the `width` numbers of its row. Every other number stays.
+// The areas of the sets whose byte in `wanted` is 1, in the box if there is one, each at the place of its mask, as
+// they come with their gradients, of which each is written onto +0 in the `width` numbers of its row. Every other
+// number stays.
 pub fn write_gradients(
     bounds: Option<Bounds>,
     circles: &Circles,
@@ -204,18 +196,15 @@ pub fn write_gradients(
         (row_with bounds circles.now.items points.now width) width
         (rows_in (length circles.now.items) width areas.old gradients.old) gradients.old }
 {
-    let wanted = Wanted {
-        bytes: wanted,
-        count: rows_in(circles.len(), width, areas, gradients),
-    };
-    if few(points, circles.len()) {
-        write_fast(bounds, circles, points, &wanted, width, areas, gradients);
-        return;
-    }
     let rows = PlainRows {
         bounds,
         circles,
         points,
     };
-    write_rows(&rows, &wanted, width, areas, gradients);
+    let wanted = &wanted[..rows_in(circles.len(), width, areas, gradients)];
+    if few(points, circles.len()) {
+        write_fast(&rows, wanted, width, areas, gradients);
+    } else {
+        write_rows(&rows, wanted, width, areas, gradients);
+    }
 }

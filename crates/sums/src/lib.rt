@@ -3,14 +3,15 @@
 // chords with the edges of the box (`chords`). And which rows of a table are there.
 #![tactic(auto)]
 
+mod arcs;
 mod edges;
 mod fast;
 pub mod gradients;
+mod lookup;
 mod pass;
 pub mod presence;
 mod row;
 pub mod rows;
 mod shares;
 mod terms;
-mod values;
 mod walk;

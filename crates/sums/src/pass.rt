@@ -7,14 +7,6 @@ use gaps::marks::{HeadMarks, PlanMarks};
 use geometry::circle::Circles;
 use intersections::points::IntersectionPoint;
 
-// Which of the first `count` rows are wanted: those whose byte is 1.
-#[derive(Clone, Copy)]
-pub(crate) struct Wanted<'a> {
-    pub(crate) bytes: &'a [u8; 1024],
-    pub(crate) count: usize,
-    ghost most: { count ≤ 1024 },
-}
-
 // No head has more points than there are places, and `heads` is what is worked out of those of `needed`.
 #[derive(Clone, Copy)]
 pub(crate) struct Pass<'a> {

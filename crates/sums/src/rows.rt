@@ -5,7 +5,6 @@ ghost use Rattle.intersections.specs.Members.{members_of};
 ghost use Rattle.sums.specs.Rows.{area_of, rows_of, areas_written};
 
 use crate::fast::{write_fast, write_rows};
-use crate::pass::Wanted;
 use crate::row::Areas;
 use crate::walk::Listed;
 use clip::area::clipped_region_area;
@@ -37,7 +36,8 @@ impl<'a> Areas for PlainRows<'a> {
     }
 }
 
-// How many rows of the first n_sets of ten circles a slice of so many numbers has a place for.
+// How many rows of the first n_sets of ten circles a slice of so many numbers has a place for. Not `rows_needed`: this
+// crate knows no plan, and a slice may be shorter.
 pub(crate) fn row_count(n_sets: usize, places: usize) -> usize
     ensures value { result ≡ min (rows_of n_sets) places }
     ensures most { result ≤ 1024 }
@@ -45,7 +45,9 @@ pub(crate) fn row_count(n_sets: usize, places: usize) -> usize
     (1usize << n_sets.min(10)).min(places)
 }
 
-// The areas of the sets whose byte in `wanted` is 1, in the box if there is one, each at the place of its mask. Every other number stays.
+// The areas of the sets whose byte in `wanted` is 1, in the box if there is one, each at the place of its mask. Every
+// other number stays. Box, circles and points one by one, here and with gradients: the callers hold them in structs of
+// their own.
 pub fn write_areas(
     bounds: Option<Bounds>,
     circles: &Circles,
@@ -57,18 +59,15 @@ pub fn write_areas(
         ≡ areas_written (length circles.now.items) (stands wanted.now)
         (λ S. area_of bounds (members_of circles.now.items points.now S)) areas.old }
 {
-    let wanted = Wanted {
-        bytes: wanted,
-        count: row_count(circles.len(), areas.len()),
-    };
-    if few(points, circles.len()) {
-        write_fast(bounds, circles, points, &wanted, areas);
-        return;
-    }
     let rows = PlainRows {
         bounds,
         circles,
         points,
     };
-    write_rows(&rows, &wanted, areas);
+    let wanted = &wanted[..row_count(circles.len(), areas.len())];
+    if few(points, circles.len()) {
+        write_fast(&rows, wanted, areas);
+    } else {
+        write_rows(&rows, wanted, areas);
+    }
 }

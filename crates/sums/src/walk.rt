@@ -1,90 +1,92 @@
 // The arcs of a set's outline as a list of their numbers, from what is held of its heads. Rests on specs/Walk.antt.
-ghost use Rattle.std.specs.Prelude.{◌≡◌, true, ◌++◌, ◌+◌, ◌*◌, ◌<◌, ◌≤◌, length, take};
+ghost use Rattle.std.specs.Prelude.{◌≡◌, true, ◌+◌, ◌*◌, ◌<◌, ◌≤◌, length, take};
+ghost use Rattle.std.specs.List.{position};
 ghost use Rattle.masks.specs.Mask.{in_set, Subset};
 ghost use Rattle.boundary.specs.Set.{arcs_held};
-ghost use Rattle.gaps.specs.Marks.{phi_at, angles_in};
-ghost use Rattle.lists.specs.Every.{Every};
-ghost use Rattle.sums.specs.Walk.{marks_of, gap_in, head_in, outline_arcs, FirstIn, Placed, arcs_listed, Listing};
+ghost use Rattle.gaps.specs.Marks.{adopted_by, phi_at, angles_in};
+ghost use Rattle.sums.specs.Walk.{marks_of, gap_in, head_in, outline_arcs, Added, Listing};
 
 use crate::pass::Pass;
 use arrayvec::ArrayVec;
 use boundary::sort::Mark;
-use gaps::numbers::gap_number;
+use gaps::numbers::{ArcNumber, GAPS, gap_number};
+use masks::is_subset;
 
-// The numbers of the arcs of a set.
-pub(crate) type Listed = ArrayVec<usize, 320>;
+// The numbers of the arcs of a set. A plain list, lent from row to row: a struct that keeps that all are of one pass
+// would hold the pass, which not every kind of rows has.
+pub(crate) type Listed = ArrayVec<usize, GAPS>;
 
-// The first of them: no set of collected points has more than 180 arcs.
+// The first 180 of them, as the list of arcs of `boundary` has room for: the definition of the gradient cuts there,
+// and no plan of ten heads reaches it. For areas alone nothing is cut.
 pub(crate) fn first_arcs(list: &Listed) -> &[usize]
     ensures { result.now ≡ take arcs_held list.now.items }
 {
     &list[..list.len().min(180)]
 }
 
-// The first mark whose point the set adopts, or how many there are.
-#[tactic(auto, using(crate::proofs::Walking::searching), unfolding(gaps::specs::Marks::adopted_by))]
-fn first_in(mask: usize, marks: &[Mark]) -> usize
-    ensures { FirstIn mask marks.now result }
+// The first mark whose point the set adopts.
+#[tactic(auto, unfolding(gaps::specs::Marks::adopted_by))]
+fn first_in(mask: usize, marks: &[Mark]) -> Option<usize>
+    ensures { result ≡ position (adopted_by mask) marks.now }
 {
-    for (i, mark) in marks.iter().enumerate() {
-        if mask & mark.adopters == mask {
-            return i;
-        }
-    }
-    marks.len()
+    marks.iter().position(|mark| is_subset(mask, mark.adopters))
 }
 
-// The gap from the a-th mark of head j to the b-th, listed if it is an arc of the set. It is compiled into both
-// places of its calls, as it would be if there were one.
-#[inline(always)]
-fn list_gap(pass: &Pass, mask: usize, j: usize, a: usize, b: usize, list: &mut Listed)
-    requires within { Subset mask pass.now.needed }
-    requires head { (j < length pass.now.circles.now.items) × (in_set mask j ≡ true) }
-    requires marks { let n = length (marks_of pass.now.heads.now.items j) in (a < n) × (b < n) }
-    requires room { length list.old.items < 320 }
-    requires placed { Every (Placed pass.now.needed pass.now.heads.now.items) list.old.items }
-    ensures count { length list.new.items ≤ length list.old.items + 1 }
-    ensures placed { Every (Placed pass.now.needed pass.now.heads.now.items) list.new.items }
-    ensures said { let cs = pass.now.circles.now.items in let hs = pass.now.heads.now.items in
-        let marks = marks_of hs j in
-        arcs_listed cs hs list.new.items
-        ≡ arcs_listed cs hs list.old.items ++ gap_in cs mask j (phi_at marks a) (phi_at marks b) }
-{
-    if let Some(place) = gap_number(mask, pass.circles, j, pass.head(j), a, b) {
-        list.push(place);
-    }
+// A head of a set, round which the walk goes.
+#[derive(Clone, Copy)]
+struct HeadOfSet<'a> {
+    pass: Pass<'a>,
+    mask: usize,
+    j: usize,
+    ghost within: { Subset mask pass.needed },
+    ghost head: { j < length pass.circles.now.items },
+    ghost has: { in_set mask j ≡ true },
 }
 
-// The arcs of head j in the set, listed: gap by gap round the circle, or the whole of it where no point is counted
-// for the set there.
-fn list_head(pass: &Pass, mask: usize, j: usize, list: &mut Listed)
-    requires within { Subset mask pass.now.needed }
-    requires head { (j < length pass.now.circles.now.items) × (in_set mask j ≡ true) }
-    requires room { length list.old.items ≤ j * 32 }
-    requires placed { Every (Placed pass.now.needed pass.now.heads.now.items) list.old.items }
-    ensures count { length list.new.items ≤ j * 32 + 32 }
-    ensures placed { Every (Placed pass.now.needed pass.now.heads.now.items) list.new.items }
-    ensures said { let cs = pass.now.circles.now.items in let hs = pass.now.heads.now.items in
-        arcs_listed cs hs list.new.items
-        ≡ arcs_listed cs hs list.old.items ++ head_in cs mask j (angles_in mask (marks_of hs j)) }
-{
-    let head = pass.head(j);
-    let marks = head.marks.as_slice();
-    let first = first_in(mask, marks);
-    if marks.len() <= first {
-        if mask & head.owners == mask {
-            list.push(320 + j);
-        }
-        return;
-    }
-    let mut last = first;
-    for b in first + 1..marks.len() {
-        if mask & marks[b].adopters == mask {
-            list_gap(pass, mask, j, last, b, list);
-            last = b;
+impl<'a> HeadOfSet<'a> {
+    // The gap from its a-th mark to its b-th, listed if it is an arc of the set.
+    #[inline(always)]
+    fn list_gap(&self, a: usize, b: usize, list: &mut Listed)
+        requires marks { let n = length (marks_of self.now.pass.heads.now.items self.now.j) in (a < n) × (b < n) }
+        requires room { length list.old.items < 320 }
+        ensures count { length list.new.items ≤ length list.old.items + 1 }
+        ensures added { let p = self.now.pass in let marks = marks_of p.heads.now.items self.now.j in
+            Added p (gap_in p.circles.now.items self.now.mask self.now.j (phi_at marks a) (phi_at marks b))
+            list.old.items list.new.items }
+    {
+        let head = self.pass.head(self.j);
+        if let Some(place) = gap_number(self.mask, self.pass.circles, self.j, head, a, b) {
+            list.push(place);
         }
     }
-    list_gap(pass, mask, j, last, first, list);
+
+    // Its arcs, listed: gap by gap round the circle, or the whole of it where no point is counted for the set there.
+    fn list(&self, list: &mut Listed)
+        requires room { length list.old.items ≤ self.now.j * 32 }
+        ensures count { length list.new.items ≤ self.now.j * 32 + 32 }
+        ensures added { let p = self.now.pass in
+            Added p (head_in p.circles.now.items self.now.mask self.now.j
+            (angles_in self.now.mask (marks_of p.heads.now.items self.now.j))) list.old.items list.new.items }
+    {
+        let mask = self.mask;
+        let head = self.pass.head(self.j);
+        let marks = head.marks.as_slice();
+        let Some(first) = first_in(mask, marks) else {
+            if is_subset(mask, head.owners) {
+                list.push(ArcNumber::Whole { head: self.j }.number());
+            }
+            return;
+        };
+        let mut last = first;
+        // by index, since the number of a gap is made of the places of its ends: plainer than enumerate and skip
+        for b in first + 1..marks.len() {
+            if is_subset(mask, marks[b].adopters) {
+                self.list_gap(last, b, list);
+                last = b;
+            }
+        }
+        self.list_gap(last, first, list);
+    }
 }
 
 // The arcs of a set's outline, listed. Of a single: its full circle, whatever meets it.
@@ -96,12 +98,18 @@ pub(crate) fn walk(pass: &Pass, mask: usize, list: &mut Listed)
 {
     list.clear();
     if mask.count_ones() == 1 {
-        list.push(320 + mask.trailing_zeros() as usize);
+        let head = mask.trailing_zeros() as usize;
+        list.push(ArcNumber::Whole { head }.number());
         return;
     }
     for j in 0..pass.circles.len() {
         if mask >> j & 1 == 1 {
-            list_head(pass, mask, j, list);
+            let head = HeadOfSet {
+                pass: *pass,
+                mask,
+                j,
+            };
+            head.list(list);
         }
     }
 }

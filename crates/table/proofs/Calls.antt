@@ -3,12 +3,12 @@
 -- taken call leaves. Over any list of sets.
 use Prim.Native.Nat.{ℕ, zero, suc, ◌^◌, ◌≤◌, ◌<◌}
 use mathlib.Core.Path.{◌≡◌, refl, sym, ap, ap₂, ◌∙◌, subst}
-use mathlib.Core.Bool.{Bool, true, false}
+use mathlib.Core.Bool.{Bool, true, false, true≢false}
 use mathlib.Core.List.{List}
 use native.Mathlib.Nat.{lt_of_lt_of_le}
 use native.Mathlib.Omega.{arith}
 use lib.Dec.{eqb}
-use Rattle.std.specs.Prelude.{Option, None, Some}
+use Rattle.std.specs.Prelude.{Option, None, Some, Ok, Err, is_ok}
 use Rattle.std.specs.Option.{is_some}
 use lib.Ieee.{Float, nan}
 use lib.IntN.{ℤ}
@@ -19,10 +19,11 @@ use mir.Facts.{to_z-of_z}
 use mir.Syntax.{w32}
 use mir.Val.{SFits, to_z, of_z}
 use Rattle.lists.proofs.Writing.{written_before, written_cong}
+use Rattle.lists.specs.Run.{Step}
 use Rattle.masks.specs.Presence.{byte, stands, byte_stands}
 use Rattle.plan.specs.declared.Edit.{Edit}
 use Rattle.plan.specs.declared.Plan.{Plan}
-use Rattle.plan.specs.Book.{applied}
+use Rattle.plan.specs.Book.{applied, entered, leaves}
 use Rattle.plan.specs.declared.Lent.{Lent}
 use Rattle.plan.specs.declared.Gradients.TheVariants.{None as NoGradients}
 use Rattle.plan.specs.Checks.{call_answer, edit_answer}
@@ -40,10 +41,11 @@ use Rattle.regions.specs.Slices.{slices_of, row_at, with_rows, lent_of, LentTabl
 use Rattle.regions.specs.Slices.{settled_tables, step_of, afresh_answer, afresh_slices, slice_answer, edit_slices}
 use Rattle.regions.specs.Table.{Method, area_at, met_by, afresh, edited}
 use Rattle.regions.proofs.Run.{slices_rework}
-use Rattle.regions.proofs.Slices.{Room, afresh_taken, edit_step_taken}
+use Rattle.regions.proofs.Slices.{Room, afresh_taken, edit_step_taken, edit_step_refused}
 use Rattle.table.specs.declared.ready.Ready.{Ready}
-use Rattle.table.specs.Method.{method_over}
-use Rattle.table.specs.Ready.{area_of, Of, BoxOf, sets_in}
+use Rattle.table.specs.declared.rows.Change.{Change}
+use Rattle.table.specs.Method.{method_over, clipped_table}
+use Rattle.table.specs.Ready.{heads_in, area_of, Of, plan_bounds, BoxOf, sets_in}
 use Rattle.table.specs.Rows.{rows_written}
 use Rattle.table.specs.declared.tables.Tables.{Tables}
 use Rattle.table.specs.Tables.{SameSlices, edit_of, change_of, tables_written, afresh_over, edited_over}
@@ -68,9 +70,20 @@ pub call_says : (d : PlanSlices) {lent : Lent} {a b : Answered} → a ≡ call_a
     → lent ≡ lent_of d.tables → a ≡ b → afresh_answer d ≡ b
 call_says d e l is = sym (e ∙ ap (call_answer d.plan NoGradients) l) ∙ is
 
+ok_taken : (a : Answered) → is_ok a ≡ true → a ≡ taken
+ok_taken (Ok done) e = refl
+ok_taken (Err r) e = absurd (true≢false (sym e))
+
 pub edit_says : (d : PlanSlices) (x : Edit) {lent : Lent} {a b : Answered} → a ≡ edit_answer d.plan x lent
     → lent ≡ lent_of d.tables → a ≡ b → slice_answer d x ≡ b
 edit_says d x e l is = sym (e ∙ ap (edit_answer d.plan x) l) ∙ is
+
+-- where the book takes an edit
+pub entered_taken : (p : Plan) (e : Edit) (lent : Lent) {q : Plan} {a : Answered} → q ≡ entered p e lent
+    → a ≡ edit_answer p e lent → is_ok a ≡ true → (a ≡ taken) × (q ≡ applied p e)
+entered_taken p e lent {q} {a} left same ok =
+    let is = ok_taken a ok in
+    (is, left ∙ ap (λ b. leaves b p (applied p e)) (sym same ∙ is))
 
 -- ---- a plan made ready
 
@@ -200,6 +213,16 @@ edited_written m p e r s earlier later n t =
     tables_cong n _ _ t t.rows.numbers refl
     (λ S h. row_cong (2 ^ e.head) (met_by p e) _ _ _ _ _ _ _ _ (row_at t.rows) S s.has_box (s.area S) refl refl)
 
+-- by the change of an edit, over its plan made ready in the box
+pub edited_pass : (p : Plan) (e : Edit) (r : Ready) → Of (applied p e) (Some (plan_bounds p)) r → p.n ≤ 10
+    → (change : Change) → change ≡ change_of p e → (earlier later : List ℕ) (t : LentTables) {left : LentTables}
+    → left ≡ tables_written (heads_in r) (rows_written r change earlier later t.rows.bytes t.rows.numbers) t
+    → left ≡ tables_written p.n (edited_over clipped_table p e earlier later (row_at t.rows)) t
+edited_pass p e r of few change is earlier later t written =
+    rw (written, of.n few, is)
+    (edited_written clipped_table p e r (serves (Some (plan_bounds p)) plan_sets (applied p e) r of refl) earlier later
+    p.n t)
+
 -- a taken edit, from what its pass wrote over bytes that say the sets of the plans before and after
 pub edit_step : (sets : Plan → ℕ → Bool) (d : PlanSlices) (e : Edit) (earlier later : List ℕ) (next : Plan)
     (t : LentTables) → slice_answer d e ≡ taken → ((S : ℕ) → S < 2 ^ d.plan.n → stands earlier S ≡ sets d.plan S)
@@ -218,6 +241,21 @@ edit_step sets d e earlier later next t q before after f g =
     let row : (S : ℕ) → S < 2 ^ p.n → edited_over m p e earlier later rows S ≡ edited m p e rows S =
     λ S h. row_cong (2 ^ e.head) (met_by p e) _ _ _ _ _ _ _ _ rows S refl refl (before S h) (after S h) in
     edit_step_taken m d e next t q f (g ∙ tables_cong p.n _ _ u u.rows.numbers refl row)
+
+-- a step whose answer is another's
+pub answered : {left : PlanSlices} {a b : Answered} {step : Step PlanSlices Answered} → a ≡ b → step_of left b ≡ step
+    → step_of left a ≡ step
+answered e is = rw e is
+
+-- a refused edit, as the book leaves it
+pub edit_refused : (m : Method) (d : PlanSlices) (e : Edit) (lent : Lent) (q : Plan) (a : Answered)
+    → q ≡ entered d.plan e lent → a ≡ edit_answer d.plan e lent → lent ≡ lent_of d.tables → is_ok a ≡ false
+    → step_of (record { plan = q; tables = d.tables }) a ≡ edit_slices m d e
+edit_refused m d e lent q (Ok done) left same is not = absurd (true≢false not)
+edit_refused m d e lent q (Err r) left same is not =
+    ap (λ p. step_of (record { plan = p; tables = d.tables }) (Err r))
+    (left ∙ ap (λ b. leaves b d.plan (applied d.plan e)) (sym same))
+    ∙ edit_step_refused m d e r (edit_says d e same is refl)
 
 -- an edit of signed numbers of 32 bits comes back from their bits
 pub edit_kept : (head : ℕ) (x y radius : ℤ) → SFits w32 x → SFits w32 y → SFits w32 radius

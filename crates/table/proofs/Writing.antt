@@ -1,6 +1,6 @@
 -- How many rows a pass writes, and what a row looks at: its own place, and the heads of the plan. Afresh is
 -- an edit with no sets before.
-use mathlib.Core.Path.{◌≡◌, refl, ap, ◌∙◌}
+use mathlib.Core.Path.{◌≡◌, refl, sym, subst, ap, ◌∙◌}
 use mathlib.Core.Bool.{Bool, true, false, not, ◌&&◌, cond, or-true}
 use mathlib.Core.List.{List, [], ◌∷◌}
 use Prim.Native.Nat.{ℕ, zero, suc, ◌^◌, ◌≤◌, ◌<◌}
@@ -29,6 +29,9 @@ rows_count n count h e = e ∙ rw (le-leb n 10 h)
 
 pub rows_most : (n : ℕ) → n ≤ 10 → 2 ^ n ≤ 1024
 rows_most n h = pow_mono {i = n} {j = 10} h
+
+pub rows_few : (n count : ℕ) → n ≤ 10 → count ≡ cond (leb n 10) (2 ^ n) 0 → count ≤ 1024
+rows_few n count h e = subst (λ m. m ≤ 1024) (sym (rows_count n count h e)) (rows_most n h)
 
 -- the heads met look at the first n heads
 pub met_first : (heads : List Head) (n k : ℕ) (head : Head) → n ≤ length heads → k < n

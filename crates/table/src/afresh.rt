@@ -8,8 +8,8 @@ ghost use Rattle.table.specs.Method.{method_over, clipped_table, open_table};
 ghost use Rattle.table.specs.Ready.{Of, BoxOf};
 ghost use Rattle.table.specs.Tables.{tables_in, plan_tables, SameSlices, tables_written, afresh_over};
 
-use crate::ready::{Ready, ready_of, sets_of};
-use crate::rows::Change;
+use crate::ready::Ready;
+use crate::rows::{Change, Update};
 use crate::tables::{Tables, write_tables};
 use drawn::box_of;
 use geometry::bounds::Bounds;
@@ -28,8 +28,12 @@ fn write_afresh(plan: Plan, ready: &Ready, sets: &[u8; 1024], tables: &mut Table
     ensures same_slices { SameSlices tables.old tables.new }
 {
     tables.rows[0] = box_of(plan.ground).area();
-    let change = Change { own: 0, met: 0 };
-    write_tables(ready, change, &[0; 1024], sets, tables);
+    let update = Update {
+        change: Change::default(),
+        earlier: &[0; 1024],
+        later: sets,
+    };
+    write_tables(ready, update, tables);
 }
 
 // A plan's tables in its box or without it, or a refusal that writes nothing.
@@ -40,8 +44,8 @@ fn work_out(plan: Plan, bounds: Option<Bounds>, tables: &mut Tables<'_>) -> Answ
     ensures same_slices { SameSlices tables.old tables.new }
 {
     check_call(plan, Gradients::None, tables.lent())?;
-    let ready = ready_of(plan, bounds);
-    let sets = sets_of(&ready);
+    let ready = Ready::of(plan, bounds);
+    let sets = ready.sets();
     write_afresh(plan, &ready, &sets, tables);
     Ok(())
 }

@@ -14,6 +14,7 @@ fn meets_either(one: Head, other: Head, head: Head) -> bool
 }
 
 // The heads that head k, or the one that takes its place, meets, as a mask.
+// A loop and not one function that is handed the test: the closure and its contract would be longer at each place.
 #[tactic(auto, using(intersections::proofs::Adopting::gathered), unfolding(regions::specs::Edit::met))]
 pub(crate) fn met_by(heads: &[Head], k: usize, head: Head) -> usize
     requires { (length heads.now ≤ 10) × (k < length heads.now) }

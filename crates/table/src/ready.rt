@@ -12,6 +12,7 @@ use plan::Plan;
 use sets::discover::discover_regions;
 
 // Circles and their meeting points; and the box, if the rows are those in it.
+// Not `Drawing` of diagram: that has the box, whose area goes into row 0, and this its bounds alone.
 #[derive(Drop)]
 pub struct Ready {
     pub circles: Circles,
@@ -19,22 +20,24 @@ pub struct Ready {
     pub bounds: Option<Bounds>,
 }
 
-// What the rows of a plan are worked out from, in this box or without one.
-pub(crate) fn ready_of(plan: Plan, bounds: Option<Bounds>) -> Ready
-    ensures { spec.Of plan bounds result }
-{
-    let circles = circles_of(plan);
-    let points = collect_intersections(&circles);
-    Ready {
-        circles,
-        points,
-        bounds,
+impl Ready {
+    // What the rows of a plan are worked out from, in this box or without one.
+    pub(crate) fn of(plan: Plan, bounds: Option<Bounds>) -> Self
+        ensures { spec.Of plan bounds result }
+    {
+        let circles = circles_of(plan);
+        let points = collect_intersections(&circles);
+        Self {
+            circles,
+            points,
+            bounds,
+        }
     }
-}
 
-// The presence bytes of a plan's sets, from what its rows are worked out from.
-pub(crate) fn sets_of(ready: &Ready) -> [u8; 1024]
-    ensures { result ≡ spec.sets_in ready.now }
-{
-    discover_regions(&ready.circles, &ready.points)
+    // The presence bytes of the plan's sets.
+    pub(crate) fn sets(&self) -> [u8; 1024]
+        ensures { result ≡ spec.sets_in self.now }
+    {
+        discover_regions(&self.circles, &self.points)
+    }
 }

@@ -33,6 +33,7 @@ impl Edits<'_> {
             .min(self.radius.len())
     }
 
+    // Edit number i.
     fn at(self, i: usize) -> Edit
         requires { (i < length self.head.now) × (i < length self.x.now) × (i < length self.y.now)
             × (i < length self.radius.now) }
@@ -56,7 +57,8 @@ pub struct Ran {
 }
 
 // As many edits as the shortest list allows, the list of answers included, each tried on what the one before
-// left. Answer i is the number of edit i's answer, 0 where it was taken.
+// left. Answer i is the number of edit i's answer, 0 where it was taken. Numbers and no Answers: the C interface lends
+// bytes for them.
 pub fn run(plan: Plan, edits: Edits<'_>, answers: &mut [u8], tables: &mut Tables<'_>) -> Ran
     ensures ran { list.Ran clipped_table (plan_tables plan tables.old)
         edits.entry.head.now edits.entry.x.now edits.entry.y.now edits.entry.radius.now answers.old
@@ -65,10 +67,10 @@ pub fn run(plan: Plan, edits: Edits<'_>, answers: &mut [u8], tables: &mut Tables
 {
     let count = edits.count().min(answers.len());
     let mut left = plan;
-    for i in 0..count {
+    for (i, answer) in answers[..count].iter_mut().enumerate() {
         let booked = edit(left, edits.at(i), tables);
         left = booked.plan;
-        answers[i] = answer_number(booked.answer);
+        *answer = answer_number(booked.answer);
     }
     Ran { plan: left, count }
 }

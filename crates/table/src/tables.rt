@@ -10,12 +10,14 @@ ghost use Rattle.table.specs.Tables.{tables_in, SameSlices, tables_written};
 
 use crate::exclusives::write_exclusives;
 use crate::ready::Ready;
-use crate::rows::{Change, write_rows};
-use plan::{Lent, rows_needed};
+use crate::rows::{Update, write_rows};
+use plan::Lent;
 
 // The slices that a call lends for a plan's rows and for their exclusives: of both tables the presence bytes
 // and the numbers.
 // Four slices, as the C interface lends them.
+// That a call leaves each slice in its place (`SameSlices`) stands in the contract of each: it says how the tables
+// after a call belong to those before it, which no fact of the struct can say.
 #[derive(Drop)]
 pub struct Tables<'a> {
     pub presence: &'a mut [u8],
@@ -39,28 +41,20 @@ impl Tables<'_> {
 }
 
 // Rows 0 to 2^n - 1 of both tables.
-#[tactic(auto, using(crate::proofs::Writing::rows_count))]
-pub(crate) fn write_tables(
-    ready: &Ready,
-    change: Change,
-    earlier: &[u8; 1024],
-    later: &[u8; 1024],
-    tables: &mut Tables<'_>,
-)
+pub(crate) fn write_tables(ready: &Ready, update: Update<'_>, tables: &mut Tables<'_>)
     requires { Room (heads_in ready.now) (tables_in tables.old) }
-    ensures written { tables_in tables.new
-        ≡ tables_written (heads_in ready.now)
-        (rows_written ready.now change earlier.now later.now tables.old.presence.now tables.old.rows.now)
-        (tables_in tables.old) }
+    ensures written { let u = update.entry in
+        let row_of = rows_written ready.now u.change u.earlier.now u.later.now
+        tables.old.presence.now tables.old.rows.now in
+        tables_in tables.new ≡ tables_written (heads_in ready.now) row_of (tables_in tables.old) }
     ensures same_slices { SameSlices tables.old tables.new }
 {
     let n = ready.circles.len();
-    let count = rows_needed(n);
     // One field after the other, since the borrow checker covers no two of a struct's references in one call.
     let presence = &mut *tables.presence;
     let rows = &mut *tables.rows;
     let exclusive_presence = &mut *tables.exclusive_presence;
     let exclusives = &mut *tables.exclusives;
-    write_rows(ready, change, earlier, later, count, presence, rows);
+    write_rows(ready, update, presence, rows);
     write_exclusives(n, presence, rows, exclusive_presence, exclusives);
 }

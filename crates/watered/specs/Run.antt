@@ -1,5 +1,5 @@
--- What a run of a list of edits gives and leaves, as a C program sees it: crate `regions`, specs/Run.antt, with the plan left as thirty
--- numbers. (The box and n are not written.)
+-- What a run of a list of edits gives and leaves, as a C program sees it: crate `regions`, specs/Run.antt, with the
+-- plan left as thirty numbers. (The box and n are not written.)
 use Rattle.std.specs.Prelude.{ℕ, List, ◌≡◌, ℤ}
 use Rattle.regions.specs.Demand.{Fresh}
 use Rattle.regions.specs.Run.{edit_count, edits_of, slices_after, answers_after, answers_written, SlicesEnd}
@@ -16,4 +16,5 @@ pub record Ran (m : Method) (d : PlanSlices) (heads : List ℕ) (xs ys radii : L
   -- from the plan's afresh rows: demand 3's end
   pub ends :
       Fresh m (plan_table d)
-      → SlicesEnd m d (edits_of heads xs ys radii out) (slices_after m d (edits_of heads xs ys radii out)) (answers_after m d (edits_of heads xs ys radii out))
+      → SlicesEnd m d (edits_of heads xs ys radii out) (slices_after m d (edits_of heads xs ys radii out))
+      (answers_after m d (edits_of heads xs ys radii out))

@@ -7,6 +7,9 @@ use heads::Head;
 use plan::{Answer, Ground, Plan, answer_number};
 use std::array;
 
+// Head i of ten: x, y and radius of each in turn.
+// By place, here and in `number_at`, and not by `as_chunks` and `as_flattened`: the definition has number i at i / 3
+// and i % 3, and those speak of lists of lists.
 #[tactic(auto, unfolding(crate::specs::Handed::head_of))]
 fn head_of(numbers: &[i32; 30], i: usize) -> Head
     requires { i < 10 }
@@ -20,12 +23,14 @@ fn head_of(numbers: &[i32; 30], i: usize) -> Head
     }
 }
 
+// All ten.
 fn heads_of(numbers: &[i32; 30]) -> [Head; 10]
     ensures { result ≡ spec.heads_of numbers.now }
 {
     array::from_fn(|i| head_of(numbers, i))
 }
 
+// The box: its centre, width and height.
 #[tactic(auto, unfolding(crate::specs::Handed::ground_of))]
 fn ground_of(sides: &[i32; 4]) -> Ground
     ensures { result ≡ spec.ground_of sides.now }
@@ -39,6 +44,7 @@ fn ground_of(sides: &[i32; 4]) -> Ground
     }
 }
 
+// The plan.
 #[tactic(auto, unfolding(crate::specs::Handed::plan_of))]
 pub(crate) fn plan_of(n: usize, sides: &[i32; 4], numbers: &[i32; 30]) -> Plan
     ensures { result ≡ spec.plan_of n sides.now numbers.now }
@@ -50,6 +56,7 @@ pub(crate) fn plan_of(n: usize, sides: &[i32; 4], numbers: &[i32; 30]) -> Plan
     }
 }
 
+// Number i of ten heads.
 #[tactic(auto, unfolding(crate::specs::Handed::number_at))]
 fn number_at(heads: &[Head; 10], i: usize) -> i32
     requires { i < 30 }
@@ -63,11 +70,7 @@ fn number_at(heads: &[Head; 10], i: usize) -> i32
 pub(crate) fn numbers_of(heads: [Head; 10]) -> [i32; 30]
     ensures { result ≡ spec.numbers_of heads }
 {
-    let mut numbers = [0; 30];
-    for (i, number) in numbers.iter_mut().enumerate() {
-        *number = number_at(&heads, i);
-    }
-    numbers
+    array::from_fn(|i| number_at(&heads, i))
 }
 
 // Document 01's number of an answer, 0 where it is taken.

@@ -1,4 +1,7 @@
-// The calls of the C interface, which crate `watered_c` exports by these names: thin calls of the crates below, each with its callee's definition.
+// The calls of the C interface, which crate `watered_c` exports by these names: each calls one function of the crates
+// below, and has its definition. What C hands over is numbers and lists, under the names that C has: so plans, heads
+// and edits come as the numbers that they are, answers go as `u32`, an overlap goes through a `&mut f64` beside its
+// answer, and a call has each of its lists as a parameter of its own.
 #![tactic(auto)]
 
 ghost use Rattle.std.specs.Prelude.{◌≡◌};

@@ -1,10 +1,9 @@
 // The calls of the C interface for exclusives with their gradients, and for what all heads of a plan water together.
-// Each call is thin over the crates below.
+// Each makes the plan of what C hands over, calls a crate below, and gives the answer's number. Those with and without
+// the box are two, as C has two names.
 ghost use Rattle.std.specs.Prelude.{◌≡◌};
 ghost use Rattle.areas.specs.Sets.{plan_sets};
 ghost use Rattle.gradients.specs.Step.{gradient_slices, clipped_step, open_step};
-ghost use Rattle.overlaps.specs.Overlap.{overlap as overlap_area};
-ghost use Rattle.drawn.specs.Drawn.{plan_circles};
 ghost use Rattle.plan.specs.Checks.{plan_answer};
 ghost use Rattle.plan.specs.Table.{answer_number};
 ghost use Rattle.watered.specs.Handed as spec;
@@ -13,7 +12,6 @@ ghost use Rattle.watered.specs.Overlap.{overlap_left};
 use crate::handed::{number_of, plan_of};
 use drawn::circles_of;
 use overlaps::overlaps::compute_overlaps_circles;
-use plan::Plan;
 use plan::check::check;
 
 // The exclusives of a plan in its box with their gradients: presence bytes and numbers of rows 0 to 2^n - 1, and 3n + 4
@@ -57,13 +55,6 @@ pub fn watered_open_gradients(
     number_of(gradients::open_gradients(plan, presence, exclusives, gradients))
 }
 
-// The area that all heads of a plan water together, without the box.
-fn overlap_of(plan: Plan) -> f64
-    ensures { result ≡ overlap_area (plan_circles plan) }
-{
-    compute_overlaps_circles(&circles_of(plan))
-}
-
 // What all heads of the plan water together, without the box, which is checked all the same. The answer is 0, or the
 // refusal's number (2, 4, 5), which leaves `overlap`.
 pub fn watered_overlap(n: usize, sides: &[i32; 4], heads: &[i32; 30], overlap: &mut f64) -> u32
@@ -73,7 +64,7 @@ pub fn watered_overlap(n: usize, sides: &[i32; 4], heads: &[i32; 30], overlap: &
     let plan = plan_of(n, sides, heads);
     let answer = check(plan);
     if answer.is_ok() {
-        *overlap = overlap_of(plan);
+        *overlap = compute_overlaps_circles(&circles_of(plan));
     }
     number_of(answer)
 }

@@ -1,4 +1,6 @@
-// The calls of the C interface for a plan's tables: afresh, without the box, and edited. Each call is thin over crate `table`, whose definitions it has.
+// The calls of the C interface for a plan's tables: afresh, without the box, and edited. Each makes the plan and the
+// tables of what C lends, calls `table`, whose definitions it has, and gives the answer's number. Those with and without
+// the box are two, as C has two names.
 ghost use Rattle.std.specs.Prelude.{◌≡◌};
 ghost use Rattle.plan.specs.Table.{answer_number};
 ghost use Rattle.regions.specs.Slices.{tables_of, plan_slices, afresh_slices, edit_slices};
@@ -14,19 +16,23 @@ use table::edit::edit;
 use table::run::{Edits, run};
 use table::tables::Tables;
 
-// The rows of a plan in its box and their exclusive areas, worked out afresh: presence bytes and numbers of rows 0 to 2^n - 1 of both
-// tables. The answer is 0, or document 01's number of the refusal (2, 4, 5, 7), which writes nothing.
-pub fn watered_afresh<'a>(
+// The rows of a plan in its box and their exclusive areas, worked out afresh: presence bytes and numbers of rows 0 to
+// 2^n - 1 of both tables. The answer is 0, or document 01's number of the refusal (2, 4, 5, 7), which writes nothing.
+pub fn watered_afresh(
     n: usize,
     sides: &[i32; 4],
     heads: &[i32; 30],
-    presence: &'a mut [u8],
-    rows: &'a mut [f64],
-    exclusive_presence: &'a mut [u8],
-    exclusives: &'a mut [f64],
+    presence: &mut [u8],
+    rows: &mut [f64],
+    exclusive_presence: &mut [u8],
+    exclusives: &mut [f64],
 ) -> u32
-    ensures value { result ≡ answer_number (afresh_slices clipped_table (plan_slices (spec.plan_of n sides.now heads.now) presence.old rows.old exclusive_presence.old exclusives.old)).answer }
-    ensures exclusives_after { tables_of presence.new rows.new exclusive_presence.new exclusives.new ≡ (afresh_slices clipped_table (plan_slices (spec.plan_of n sides.now heads.now) presence.old rows.old exclusive_presence.old exclusives.old)).left.tables }
+    ensures value { result
+        ≡ answer_number (afresh_slices clipped_table (plan_slices (spec.plan_of n sides.now heads.now)
+        presence.old rows.old exclusive_presence.old exclusives.old)).answer }
+    ensures exclusives_after { tables_of presence.new rows.new exclusive_presence.new exclusives.new
+        ≡ (afresh_slices clipped_table (plan_slices (spec.plan_of n sides.now heads.now)
+        presence.old rows.old exclusive_presence.old exclusives.old)).left.tables }
 {
     let plan = plan_of(n, sides, heads);
     let mut tables = Tables {
@@ -39,17 +45,21 @@ pub fn watered_afresh<'a>(
 }
 
 // The same without the box: row 0 is absent. The box is checked all the same.
-pub fn watered_open_afresh<'a>(
+pub fn watered_open_afresh(
     n: usize,
     sides: &[i32; 4],
     heads: &[i32; 30],
-    presence: &'a mut [u8],
-    rows: &'a mut [f64],
-    exclusive_presence: &'a mut [u8],
-    exclusives: &'a mut [f64],
+    presence: &mut [u8],
+    rows: &mut [f64],
+    exclusive_presence: &mut [u8],
+    exclusives: &mut [f64],
 ) -> u32
-    ensures value { result ≡ answer_number (afresh_slices open_table (plan_slices (spec.plan_of n sides.now heads.now) presence.old rows.old exclusive_presence.old exclusives.old)).answer }
-    ensures exclusives_after { tables_of presence.new rows.new exclusive_presence.new exclusives.new ≡ (afresh_slices open_table (plan_slices (spec.plan_of n sides.now heads.now) presence.old rows.old exclusive_presence.old exclusives.old)).left.tables }
+    ensures value { result
+        ≡ answer_number (afresh_slices open_table (plan_slices (spec.plan_of n sides.now heads.now)
+        presence.old rows.old exclusive_presence.old exclusives.old)).answer }
+    ensures exclusives_after { tables_of presence.new rows.new exclusive_presence.new exclusives.new
+        ≡ (afresh_slices open_table (plan_slices (spec.plan_of n sides.now heads.now)
+        presence.old rows.old exclusive_presence.old exclusives.old)).left.tables }
 {
     let plan = plan_of(n, sides, heads);
     let mut tables = Tables {
@@ -61,9 +71,9 @@ pub fn watered_open_afresh<'a>(
     number_of(open_afresh(plan, &mut tables))
 }
 
-// Head number `head` of the plan gets a new place and radius, and both tables follow; the plan left stands in `heads`. The answer is 0, or
-// the refusal's number (2, 4, 5, 6, 7), which leaves heads and tables.
-pub fn watered_edit<'a>(
+// Head number `head` of the plan gets a new place and radius, and both tables follow; the plan left stands in `heads`.
+// The answer is 0, or the refusal's number (2, 4, 5, 6, 7), which leaves heads and tables.
+pub fn watered_edit(
     n: usize,
     sides: &[i32; 4],
     heads: &mut [i32; 30],
@@ -71,14 +81,20 @@ pub fn watered_edit<'a>(
     x: i32,
     y: i32,
     radius: i32,
-    presence: &'a mut [u8],
-    rows: &'a mut [f64],
-    exclusive_presence: &'a mut [u8],
-    exclusives: &'a mut [f64],
+    presence: &mut [u8],
+    rows: &mut [f64],
+    exclusive_presence: &mut [u8],
+    exclusives: &mut [f64],
 ) -> u32
-    ensures value { result ≡ answer_number (edit_slices clipped_table (plan_slices (spec.plan_of n sides.now heads.old) presence.old rows.old exclusive_presence.old exclusives.old) (edit_of head x y radius)).answer }
-    ensures heads_after { heads.new ≡ spec.numbers_of (edit_slices clipped_table (plan_slices (spec.plan_of n sides.now heads.old) presence.old rows.old exclusive_presence.old exclusives.old) (edit_of head x y radius)).left.plan.heads }
-    ensures exclusives_after { tables_of presence.new rows.new exclusive_presence.new exclusives.new ≡ (edit_slices clipped_table (plan_slices (spec.plan_of n sides.now heads.old) presence.old rows.old exclusive_presence.old exclusives.old) (edit_of head x y radius)).left.tables }
+    ensures value { result
+        ≡ answer_number (edit_slices clipped_table (plan_slices (spec.plan_of n sides.now heads.old)
+        presence.old rows.old exclusive_presence.old exclusives.old) (edit_of head x y radius)).answer }
+    ensures heads_after { heads.new
+        ≡ spec.numbers_of (edit_slices clipped_table (plan_slices (spec.plan_of n sides.now heads.old)
+        presence.old rows.old exclusive_presence.old exclusives.old) (edit_of head x y radius)).left.plan.heads }
+    ensures exclusives_after { tables_of presence.new rows.new exclusive_presence.new exclusives.new
+        ≡ (edit_slices clipped_table (plan_slices (spec.plan_of n sides.now heads.old)
+        presence.old rows.old exclusive_presence.old exclusives.old) (edit_of head x y radius)).left.tables }
 {
     let plan = plan_of(n, sides, heads);
     let mut tables = Tables {
@@ -93,9 +109,9 @@ pub fn watered_edit<'a>(
     number_of(booked.answer)
 }
 
-// A list of edits, each tried on what the one before left: as many as the shortest of the five lists allows, which count it gives. Answer i
-// is 0 where edit i was taken, or the refusal's number. The plan left stands in `heads`.
-pub fn watered_run<'a>(
+// A list of edits, each tried on what the one before left: as many as the shortest of the five lists allows, which
+// count it gives. Answer i is 0 where edit i was taken, or the refusal's number. The plan left stands in `heads`.
+pub fn watered_run(
     n: usize,
     sides: &[i32; 4],
     heads: &mut [i32; 30],
@@ -104,10 +120,10 @@ pub fn watered_run<'a>(
     y: &[i32],
     radius: &[i32],
     answers: &mut [u8],
-    presence: &'a mut [u8],
-    rows: &'a mut [f64],
-    exclusive_presence: &'a mut [u8],
-    exclusives: &'a mut [f64],
+    presence: &mut [u8],
+    rows: &mut [f64],
+    exclusive_presence: &mut [u8],
+    exclusives: &mut [f64],
 ) -> usize
     ensures { Ran clipped_table
         (plan_slices (spec.plan_of n sides.now heads.old) presence.old rows.old exclusive_presence.old exclusives.old)

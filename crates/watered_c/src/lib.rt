@@ -1,4 +1,6 @@
-// The C interface, declared in include/watered.h: each export is a call of crate `watered` by its name, with the same clauses.
+// The C interface, declared in include/watered.h: each export is a call of crate `watered` by its name, with the same
+// clauses. It repeats that crate's functions, since a crate is a library or a static library: other crates call those
+// of `watered`, and C calls these.
 #![tactic(auto)]
 
 ghost use Rattle.std.specs.Prelude.{◌≡◌};

@@ -7,8 +7,8 @@ ghost use Rattle.plan.specs.Table.{answer_number};
 ghost use Rattle.watered.specs.Handed as spec;
 ghost use Rattle.watered.specs.Overlap.{overlap_left};
 
-// The exclusives of a plan in its box with their gradients: presence bytes and numbers of rows 0 to 2^n - 1, and 3n + 4 gradient numbers a row.
-// The answer is 0, or the refusal's number (2, 4, 5, 7), which writes nothing.
+// The exclusives of a plan in its box with their gradients: presence bytes and numbers of rows 0 to 2^n - 1, and 3n + 4
+// gradient numbers a row. The answer is 0, or the refusal's number (2, 4, 5, 7), which writes nothing.
 #[unsafe(no_mangle)]
 pub extern "C" fn watered_gradients(
     n: usize,
@@ -18,8 +18,12 @@ pub extern "C" fn watered_gradients(
     exclusives: &mut [f64],
     gradients: &mut [f64],
 ) -> u32
-    ensures value { result ≡ answer_number (clipped_step plan_sets (spec.plan_of n sides.now heads.now) (gradient_slices presence.old exclusives.old gradients.old)).answer }
-    ensures gradients_after { gradient_slices presence.new exclusives.new gradients.new ≡ (clipped_step plan_sets (spec.plan_of n sides.now heads.now) (gradient_slices presence.old exclusives.old gradients.old)).left }
+    ensures value { result
+        ≡ answer_number (clipped_step plan_sets (spec.plan_of n sides.now heads.now)
+        (gradient_slices presence.old exclusives.old gradients.old)).answer }
+    ensures gradients_after { gradient_slices presence.new exclusives.new gradients.new
+        ≡ (clipped_step plan_sets (spec.plan_of n sides.now heads.now)
+        (gradient_slices presence.old exclusives.old gradients.old)).left }
 {
     watered::slopes::watered_gradients(n, sides, heads, presence, exclusives, gradients)
 }
@@ -34,14 +38,18 @@ pub extern "C" fn watered_open_gradients(
     exclusives: &mut [f64],
     gradients: &mut [f64],
 ) -> u32
-    ensures value { result ≡ answer_number (open_step plan_sets (spec.plan_of n sides.now heads.now) (gradient_slices presence.old exclusives.old gradients.old)).answer }
-    ensures gradients_after { gradient_slices presence.new exclusives.new gradients.new ≡ (open_step plan_sets (spec.plan_of n sides.now heads.now) (gradient_slices presence.old exclusives.old gradients.old)).left }
+    ensures value { result
+        ≡ answer_number (open_step plan_sets (spec.plan_of n sides.now heads.now)
+        (gradient_slices presence.old exclusives.old gradients.old)).answer }
+    ensures gradients_after { gradient_slices presence.new exclusives.new gradients.new
+        ≡ (open_step plan_sets (spec.plan_of n sides.now heads.now)
+        (gradient_slices presence.old exclusives.old gradients.old)).left }
 {
     watered::slopes::watered_open_gradients(n, sides, heads, presence, exclusives, gradients)
 }
 
-// What all heads of the plan water together, without the box, which is checked all the same. The answer is 0, or the refusal's number (2, 4,
-// 5), which leaves `overlap`.
+// What all heads of the plan water together, without the box, which is checked all the same. The answer is 0, or the
+// refusal's number (2, 4, 5), which leaves `overlap`.
 #[unsafe(no_mangle)]
 pub extern "C" fn watered_overlap(
     n: usize,

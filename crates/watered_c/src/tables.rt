@@ -7,8 +7,8 @@ ghost use Rattle.table.specs.Tables.{edit_of};
 ghost use Rattle.watered.specs.Handed as spec;
 ghost use Rattle.watered.specs.Run.{Ran};
 
-// The rows of a plan in its box and their exclusive areas, worked out afresh: presence bytes and numbers of rows 0 to 2^n - 1 of both
-// tables. The answer is 0, or document 01's number of the refusal (2, 4, 5, 7), which writes nothing.
+// The rows of a plan in its box and their exclusive areas, worked out afresh: presence bytes and numbers of rows 0 to
+// 2^n - 1 of both tables. The answer is 0, or document 01's number of the refusal (2, 4, 5, 7), which writes nothing.
 #[unsafe(no_mangle)]
 pub extern "C" fn watered_afresh(
     n: usize,
@@ -19,8 +19,12 @@ pub extern "C" fn watered_afresh(
     exclusive_presence: &mut [u8],
     exclusives: &mut [f64],
 ) -> u32
-    ensures value { result ≡ answer_number (afresh_slices clipped_table (plan_slices (spec.plan_of n sides.now heads.now) presence.old rows.old exclusive_presence.old exclusives.old)).answer }
-    ensures exclusives_after { tables_of presence.new rows.new exclusive_presence.new exclusives.new ≡ (afresh_slices clipped_table (plan_slices (spec.plan_of n sides.now heads.now) presence.old rows.old exclusive_presence.old exclusives.old)).left.tables }
+    ensures value { result
+        ≡ answer_number (afresh_slices clipped_table (plan_slices (spec.plan_of n sides.now heads.now)
+        presence.old rows.old exclusive_presence.old exclusives.old)).answer }
+    ensures exclusives_after { tables_of presence.new rows.new exclusive_presence.new exclusives.new
+        ≡ (afresh_slices clipped_table (plan_slices (spec.plan_of n sides.now heads.now)
+        presence.old rows.old exclusive_presence.old exclusives.old)).left.tables }
 {
     watered::tables::watered_afresh(
         n,
@@ -44,8 +48,12 @@ pub extern "C" fn watered_open_afresh(
     exclusive_presence: &mut [u8],
     exclusives: &mut [f64],
 ) -> u32
-    ensures value { result ≡ answer_number (afresh_slices open_table (plan_slices (spec.plan_of n sides.now heads.now) presence.old rows.old exclusive_presence.old exclusives.old)).answer }
-    ensures exclusives_after { tables_of presence.new rows.new exclusive_presence.new exclusives.new ≡ (afresh_slices open_table (plan_slices (spec.plan_of n sides.now heads.now) presence.old rows.old exclusive_presence.old exclusives.old)).left.tables }
+    ensures value { result
+        ≡ answer_number (afresh_slices open_table (plan_slices (spec.plan_of n sides.now heads.now)
+        presence.old rows.old exclusive_presence.old exclusives.old)).answer }
+    ensures exclusives_after { tables_of presence.new rows.new exclusive_presence.new exclusives.new
+        ≡ (afresh_slices open_table (plan_slices (spec.plan_of n sides.now heads.now)
+        presence.old rows.old exclusive_presence.old exclusives.old)).left.tables }
 {
     watered::tables::watered_open_afresh(
         n,
@@ -58,8 +66,8 @@ pub extern "C" fn watered_open_afresh(
     )
 }
 
-// Head number `head` of the plan gets a new place and radius, and both tables follow; the plan left stands in `heads`. The answer is 0, or
-// the refusal's number (2, 4, 5, 6, 7), which leaves heads and tables.
+// Head number `head` of the plan gets a new place and radius, and both tables follow; the plan left stands in `heads`.
+// The answer is 0, or the refusal's number (2, 4, 5, 6, 7), which leaves heads and tables.
 #[unsafe(no_mangle)]
 pub extern "C" fn watered_edit(
     n: usize,
@@ -74,9 +82,15 @@ pub extern "C" fn watered_edit(
     exclusive_presence: &mut [u8],
     exclusives: &mut [f64],
 ) -> u32
-    ensures value { result ≡ answer_number (edit_slices clipped_table (plan_slices (spec.plan_of n sides.now heads.old) presence.old rows.old exclusive_presence.old exclusives.old) (edit_of head x y radius)).answer }
-    ensures heads_after { heads.new ≡ spec.numbers_of (edit_slices clipped_table (plan_slices (spec.plan_of n sides.now heads.old) presence.old rows.old exclusive_presence.old exclusives.old) (edit_of head x y radius)).left.plan.heads }
-    ensures exclusives_after { tables_of presence.new rows.new exclusive_presence.new exclusives.new ≡ (edit_slices clipped_table (plan_slices (spec.plan_of n sides.now heads.old) presence.old rows.old exclusive_presence.old exclusives.old) (edit_of head x y radius)).left.tables }
+    ensures value { result
+        ≡ answer_number (edit_slices clipped_table (plan_slices (spec.plan_of n sides.now heads.old)
+        presence.old rows.old exclusive_presence.old exclusives.old) (edit_of head x y radius)).answer }
+    ensures heads_after { heads.new
+        ≡ spec.numbers_of (edit_slices clipped_table (plan_slices (spec.plan_of n sides.now heads.old)
+        presence.old rows.old exclusive_presence.old exclusives.old) (edit_of head x y radius)).left.plan.heads }
+    ensures exclusives_after { tables_of presence.new rows.new exclusive_presence.new exclusives.new
+        ≡ (edit_slices clipped_table (plan_slices (spec.plan_of n sides.now heads.old)
+        presence.old rows.old exclusive_presence.old exclusives.old) (edit_of head x y radius)).left.tables }
 {
     watered::tables::watered_edit(
         n,
@@ -93,8 +107,8 @@ pub extern "C" fn watered_edit(
     )
 }
 
-// A list of edits, each tried on what the one before left: as many as the shortest of the five lists allows, which count it gives. Answer i
-// is 0 where edit i was taken, or the refusal's number. The plan left stands in `heads`.
+// A list of edits, each tried on what the one before left: as many as the shortest of the five lists allows, which
+// count it gives. Answer i is 0 where edit i was taken, or the refusal's number. The plan left stands in `heads`.
 #[unsafe(no_mangle)]
 pub extern "C" fn watered_run(
     n: usize,

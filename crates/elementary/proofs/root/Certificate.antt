@@ -1,7 +1,7 @@
 -- The certificate of a guess by exact products in halves: the square of q against m * 2^52.
 use Rattle.std.proofs.Common.{◌≡◌, ℕ, ◌+◌, ◌-◌, ◌*◌, ◌/◌, ◌%◌, ◌^◌}
 use Rattle.std.proofs.Common.{◌<◌, ◌≤◌, sym, ap, ◌∙◌, ap₂, mul-le-mul, div-add-mod', arith}
-use Rattle.elementary.specs.RootSteps.{Balanced}
+use Rattle.elementary.specs.RootSteps.{Near, Balanced}
 
 -- a square by the halves of its root
 square_halves : (q u l : ℕ) → q ≡ u * 2 ^ 27 + l → q * q ≡ u * u * 2 ^ 54 + u * l * 2 ^ 28 + l * l
@@ -47,3 +47,7 @@ balanced m q h a b =
           ∙ balance (m / 4) (m % 4) (u * u) (u * l / 2 ^ 26) (u * l % 2 ^ 26) (l * l) d (omega arith)
           ∙ sym (ap₂ (λ (x y : ℕ). x * 2 ^ 52 + y) r (ap₂ (λ (x y : ℕ). x + (y + l * l)) (omega arith) (omega arith)));
     }
+
+-- The root is below the middle of r and r + 1, and not below that of r - 1 and r.
+pub one_below : (n r a b : ℕ) → Balanced n ((r + 1) * (r + 1)) a b → b + (r + 1) ≤ a → a + 2 < b + (r + 1) * 3 → Near n r
+one_below n r a b e h k = let l = e.level in record { above = omega arith; below = omega arith }

@@ -5,6 +5,7 @@ use Rattle.rows.proofs.run.Goals as goal
 
 pub returns-clause-ok : goal.returns-clause-ok
 returns-clause-ok g c =
-    all_printed c.print.result (g.I.Read.remaining c.args.from.now) (g.O.Write.contents c.args.out.now) (g.O.Write.contents c.print.new.out)
-    (state_in c.in_ok-reading.reading c.read_all.new.tables)
+    all_printed c.print.result (g.I.Read.remaining c.args.from.now) (g.O.Write.contents c.args.out.now)
+    (g.O.Write.contents c.print.new.out)
+    (state_in c.in_ok-reading.reading)
     c.in_ok-reading.ensures c.print.ensures.ok

@@ -10,7 +10,7 @@ use Rattle.boundary.proofs.members.angles_for.Goals as goal
 use Rattle.boundary.proofs.members.angles_for.Goals.{then-counted_for, else-counted_for}
 
 pub loop-q-init : goal.loop-q-init
-loop-q-init c = c.new-list.ensures ∙ sym (angles_none c.args.circle c.args.mask c.args.j)
+loop-q-init c = c.new-list.ensures ∙ sym (angles_none c.args.member.circle c.args.mask c.args.member.head)
 
 pub loop-q-preserved : goal.loop-q-preserved
 loop-q-preserved c =
@@ -21,8 +21,8 @@ loop-q-preserved c =
     rw (add-one l.q-index, take-suc a.points.now l.q-index no_point (omega arith))
     (elim c.if-counted_for.branch [
       | then-counted_for w ↦ rw (w.list-is, w.insert.ensures, w.angle_about.ensures)
-          (angles_with a.circle a.mask a.j (take l.q-index a.points.now) q _ _ (counted ∙ w.if-counted_for.true) refl l.invariant)
-      | else-counted_for w ↦ rw (w.list-is, points_without a.mask a.j (take l.q-index a.points.now) q (counted ∙ w.if-counted_for.false)) l.invariant
+          (angles_with a.member.circle a.mask a.member.head (take l.q-index a.points.now) q _ _ (counted ∙ w.if-counted_for.true) refl l.invariant)
+      | else-counted_for w ↦ rw (w.list-is, points_without a.mask a.member.head (take l.q-index a.points.now) q (counted ∙ w.if-counted_for.false)) l.invariant
     ])
 
 pub returns : goal.returns

@@ -8,4 +8,4 @@ use Rattle.boundary.specs.Sort.{sorted}
 use Rattle.boundary.proofs.members.angles_for.Given as goal
 
 abbrev pub invariant-loop-q : goal.invariant-loop-q
-invariant-loop-q l = l.list.items ≡ sorted (map (angle_about l.circle) (points_for (take l.q-index l.points) l.mask l.j))
+invariant-loop-q l = l.list.items ≡ sorted (map (angle_about l.member.circle) (points_for (take l.q-index l.points) l.mask l.member.head))

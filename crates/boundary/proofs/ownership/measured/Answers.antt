@@ -1,17 +1,14 @@
--- `ownership::measured`: all four tests passed.
+-- `ownership::measured`: all tests passed.
 use borrow.Author.Rules.{rules}
 use mathlib.Core.Path.{sym, ◌∙◌}
+use Rattle.masks.specs.Subset.{and_both}
+use Rattle.binary64.proofs.Ranges.{partial_lt_is, partial_le_is}
 use Rattle.boundary.proofs.Far.{measured}
 use Rattle.boundary.proofs.ownership.measured.Goals as goal
-use Rattle.boundary.proofs.ownership.measured.Goals.{then-r, else-r, then-r-2, else-r-2}
 
-pub returns-then-squared : goal.returns-then-squared
-returns-then-squared c e =
+pub returns-then-contains : goal.returns-then-contains
+returns-then-contains c e =
     let a = c.args in
-    elim c.if-r-2.branch [
-      | then-r-2 w ↦ elim c.if-r.branch [
-        | then-r v ↦ measured a.r a.squared (search rules) (search rules) v.if-r.true (sym v.value-is ∙ w.if-r-2.true) (sym w.value-is ∙ c.if-squared.true) e
-        | else-r v ↦ cc
-      ]
-      | else-r-2 w ↦ cc
-    ]
+    let r = and_both _ _ (sym c.contains.ensures.value ∙ c.if-contains.true) in
+    let s = and_both _ _ (sym c.moderate.ensures ∙ e) in
+    measured a.r a.squared (search rules) (search rules) (sym (partial_le_is _ _) ∙ r.0) (sym (partial_lt_is _ _) ∙ r.1) s.0 s.1

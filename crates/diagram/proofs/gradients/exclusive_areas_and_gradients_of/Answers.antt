@@ -9,7 +9,7 @@ use Rattle.diagram.proofs.gradients.exclusive_areas_and_gradients_of.Goals as go
 
 pub returns : goal.returns
 returns c =
-    let a = c.args in let d = a.drawing.now in let n = c.len-n.ensures.value in let wide = c.width_of-width.ensures in
+    let a = c.args in let d = a.drawing.now in let n = c.len-n.ensures.value in let wide = c.width-width.ensures in
     let laid = c.write_rows_with_gradients.ensures in let after = c.to_exclusive_areas_and_gradients.ensures in
     let both = left_with (count_of d) (slopes_of d (stands a.sets.now)) a.presence.now a.exclusives.now a.gradients.now
     (rw (n, wide, c.min-rows.ensures) at c.in_ok-width_answer.ensures) _ _ _ _ (rw wide at laid.areas_after)

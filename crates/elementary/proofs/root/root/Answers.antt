@@ -10,12 +10,15 @@ use Rattle.elementary.proofs.root.root.Goals as goal
 held : (x : Float) → fits binary64 x ≡ true → T (fits binary64 x)
 held x e = subst T (sym e) tt
 
-pub positive-requires : goal.positive-requires
-positive-requires c = (above_bits c.args.x (held c.args.x c.well_formed.0.1) c.if-x.true, c.if-bits-lt-INFINITY.true)
+pub invariant_of-root : goal.invariant_of-root
+invariant_of-root c = record {
+  above = above_bits c.args.x (held c.args.x c.well_formed.0.1) c.if-x.true;
+  finite = c.if-bits-lt-INFINITY.true;
+}
 
 pub returns-then-bits-lt-INFINITY : goal.returns-then-bits-lt-INFINITY
 returns-then-bits-lt-INFINITY c =
-    c.positive.ensures ∙ ap root (of_bits-to_bits binary64 c.args.x (held c.args.x c.well_formed.0.1))
+    c.root.ensures ∙ ap root (of_bits-to_bits binary64 c.args.x (held c.args.x c.well_formed.0.1))
 
 pub returns-else-bits-lt-INFINITY : goal.returns-else-bits-lt-INFINITY
 returns-else-bits-lt-INFINITY c =

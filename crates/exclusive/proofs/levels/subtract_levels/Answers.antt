@@ -71,7 +71,7 @@ loop-i-preserved c =
     let z : l.i ≡ i + 1 = omega arith in
     let due = level_sums P.n (stands P.bytes.now) rows e before m.areas c.level_start-lo.result m.hi m.sums _ P.few
     m.invariant.within
-    m.invariant.pass m.invariant.unbegun c.level_start-lo.ensures.i_value c.add_rows_after.ensures i (omega arith)
+    m.invariant.pass m.invariant.unbegun c.level_start-lo.ensures.as_many_heads c.add_rows_after.ensures i (omega arith)
     (omega arith) in record {
       low = omega arith;
       pass =

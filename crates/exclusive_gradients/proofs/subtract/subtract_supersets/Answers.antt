@@ -1,14 +1,11 @@
 -- `subtract::subtract_supersets` meets its contract. The invariant: the rows from place i on have their unclamped
 -- exclusives, those before it are as they were.
 use mathlib.Core.Path.{◌≡◌, sym, ap, ◌∙◌, subst}
-use mathlib.Core.Bool.{Bool, cond}
-use mathlib.Core.List.{List, []}
+use mathlib.Core.List.{List}
 use Prim.Native.Nat.{ℕ, suc, ◌+◌, ◌*◌, ◌-◌, ◌^◌, ◌≤◌, ◌<◌}
 use native.Mathlib.Nat.{le_refl, mul-le-mul_right}
 use native.Mathlib.Omega.{arith}
-use borrow.Author.Tests.{eq-eqb}
 use lib.Count.{ones}
-use lib.Dec.{eqb}
 use lib.Ieee.{Float}
 use lib.ListN.{length, get_or, take, drop}
 use Rattle.std.proofs.lemmas.Slice.{between_to_end}
@@ -18,7 +15,7 @@ use Rattle.masks.specs.Mask.{subset, strict_subset}
 use Rattle.masks.specs.Presence.{stands}
 use Rattle.exclusive.specs.declared.presence.Presence.{Presence}
 use Rattle.exclusive.specs.RowOrder.{row_order}
-use Rattle.exclusive.specs.Exclusive.{above, rows_answer}
+use Rattle.exclusive.specs.Exclusive.{above}
 use Rattle.exclusive.specs.Entries.{row_sums, RowSubtracted}
 use Rattle.exclusive.proofs.RowOrder.{rows_ordered}
 use Rattle.exclusive.proofs.Places.{row_lt}
@@ -26,16 +23,7 @@ use Rattle.exclusive.proofs.Unclamped.{above_every}
 use Rattle.exclusive.proofs.Sums.{supersets_after}
 use Rattle.exclusive.proofs.Passing.{Pass, pass_next, pass_end, all_above, sums_due}
 use Rattle.exclusive.proofs.LevelSums.{row_at}
-use Rattle.exclusive.proofs.Answers.{room}
 use Rattle.exclusive_gradients.proofs.subtract.subtract_supersets.Goals as goal
-
--- the rows as they are listed, where there is room for them
-listed : (P : Presence) (rows : List ℕ)
-    → rows ≡ cond (eqb (rows_answer P.n (length P.bytes.now)) 0) (row_order (stands P.bytes.now) P.n) []
-    → rows ≡ row_order (stands P.bytes.now) P.n
-listed P rows e =
-    e ∙ ap (λ (b : Bool). cond b (row_order (stands P.bytes.now) P.n) [])
-    (eq-eqb _ 0 (sym (room P.n (length P.bytes.now) P.few P.room)))
 
 -- row i of the rows, and what is collected from those after it
 module _ (P : Presence) (rows : List ℕ) (e : rows ≡ row_order (stands P.bytes.now) P.n) (i : ℕ) (h : i < length rows)
@@ -85,7 +73,7 @@ module _ (P : Presence) (rows : List ℕ) (e : rows ≡ row_order (stands P.byte
 pub subtract_row-requires : goal.subtract_row-requires
 subtract_row-requires c =
     let P = c.args.present.now in let rows = c.as_slice-rows.result.now in let i = c.loop-i.i - 1 in
-    let e = listed P rows (c.as_slice-rows.ensures.value ∙ c.rows_in_order-order.ensures) in
+    let e = c.as_slice-rows.ensures.value ∙ c.row_order-order.ensures in
     let found = c.collect_supersets-found.ensures.supersets_after in
     let h : i < length rows = omega arith in
     let f = fits P rows e i h _ found c.args.width (length c.loop-i.numbers)
@@ -95,7 +83,7 @@ subtract_row-requires c =
 pub loop-i-preserved : goal.loop-i-preserved
 loop-i-preserved c =
     let P = c.args.present.now in let rows = c.as_slice-rows.result.now in let l = c.loop-i in let i = l.i - 1 in
-    let e = listed P rows (c.as_slice-rows.ensures.value ∙ c.rows_in_order-order.ensures) in
+    let e = c.as_slice-rows.ensures.value ∙ c.row_order-order.ensures in
     let h : i < length rows = omega arith in
     let z : l.i ≡ i + 1 = omega arith in record {
       room = c.collect_supersets-found.array_long;

@@ -1,23 +1,15 @@
--- `file::fields::next_field` meets its contract. Assumes nothing.
-use mathlib.Core.Path.{sym, ◌∙◌}
+-- `fields::next_field` meets its contract.
+use Rattle.std.proofs.Common.{◌≡◌, rules, tests}
+use Rattle.std.proofs.lemmas.Iterator.{first_from_Range}
 use Rattle.masks.specs.Mask.{bit}
-use Rattle.file.proofs.Reading.{next_stands, next_missing, next_past, found_here, found_none}
+use Rattle.file.proofs.Reading.{next_found}
 use Rattle.file.proofs.fields.next_field.Goals as goal
 
-pub returns-then-map-i-eq1 : goal.returns-then-map-i-eq1
-unfolding bit
-returns-then-map-i-eq1 c =
-    let a = c.args in
-    let i = c.loop-i.i in
-    found_here i _ a.count (sym (next_stands a.count a.map i c.loop-i-test.true c.if-map-i-eq1.true) ∙ c.loop-i.invariant) c.loop-i-test.true
-
-pub loop-i-preserved : goal.loop-i-preserved
-unfolding bit
-loop-i-preserved c =
-    sym (next_missing c.args.count c.args.map c.loop-i.i c.loop-i-test.true c.if-map-i-eq1.false) ∙ c.loop-i.invariant
-
 pub returns : goal.returns
+unfolding bit
 returns c =
     let a = c.args in
-    let i = c.loop-i.i in
-    sym (found_none i _ a.count (sym (next_past a.count a.map i c.loop-i-test.false) ∙ c.loop-i.invariant) c.loop-i-test.false)
+    next_found a.count a.map a.from _
+    (first_from_Range _ _ _ _ (λ i. bit a.map i ≡ 1) (λ i. bit a.map i ≡ 1 → ⊥) c.find.ensures.ran
+    (λ x q k. search (rules, tests))
+    (λ x q k. (search rules, search (rules, tests))))

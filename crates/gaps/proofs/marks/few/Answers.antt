@@ -10,7 +10,8 @@ use lib.ListN.{length}
 use Rattle.std.proofs.lemmas.Iterator.{YieldsList-from_range}
 use Rattle.std.proofs.lemmas.Iterator.Search.{all_from_yields_List}
 use Rattle.lists.specs.Lists.{keep}
-use Rattle.gaps.specs.Marks.{has_parent, few_points}
+use Rattle.intersections.specs.Members.{has_parent}
+use Rattle.gaps.specs.Marks.{few_points}
 use Rattle.gaps.proofs.Owning.{every_range}
 use Rattle.gaps.proofs.marks.few.Goals as goal
 

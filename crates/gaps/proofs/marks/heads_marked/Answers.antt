@@ -7,11 +7,11 @@ use Rattle.gaps.proofs.marks.heads_marked.Goals.{then-needed-j-eq1, else-needed-
 pub loop-j-preserved : goal.loop-j-preserved
 loop-j-preserved c =
     let a = c.args in
-    let d = c.default-head.ensures in
+    let d = c.default-marked.ensures in
     c.push.ensures.items
     ∙ elim c.if-needed-j-eq1.branch [
-      | then-needed-j-eq1 w ↦ rw (w.head-is, w.mark_head.ensures, c.loop-j.invariant)
+      | then-needed-j-eq1 w ↦ rw (w.marked-is, w.mark.ensures, c.loop-j.invariant)
           (heads_with a.circles.now.items a.points.now a.needed c.loop-j.j w.if-needed-j-eq1.true)
-      | else-needed-j-eq1 w ↦ rw (w.head-is, unmarked_is _ _ _ d.0 d.1.0 d.1.1, c.loop-j.invariant)
+      | else-needed-j-eq1 w ↦ rw (w.marked-is, unmarked_is d.0 d.1, c.loop-j.invariant)
           (heads_without a.circles.now.items a.points.now a.needed c.loop-j.j w.if-needed-j-eq1.false)
     ]

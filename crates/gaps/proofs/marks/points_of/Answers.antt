@@ -5,7 +5,7 @@ use mathlib.Core.Path.{ap, ◌∙◌}
 use lib.ListN.{length}
 use Rattle.std.proofs.lemmas.Iterator.{YieldsList-from_slice}
 use Rattle.std.proofs.lemmas.Iterator.Consumers.{YieldsList-from_filter, count_from_yields_List}
-use Rattle.gaps.specs.Marks.{has_parent}
+use Rattle.intersections.specs.Members.{has_parent}
 use Rattle.gaps.proofs.Marking.{filter_keep}
 use Rattle.gaps.proofs.marks.points_of.Goals as goal
 

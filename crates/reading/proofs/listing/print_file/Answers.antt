@@ -9,21 +9,25 @@ use Rattle.reading.proofs.listing.print_file.Goals as goal
 pub returns-in-Ok : goal.returns-in-Ok
 returns-in-Ok c =
     let a = c.args in
-    let t = a.tables.now in
-    let state = state_in a.reading t in
-    let printed : Printed (printed_at state) a.out.now c.print_rows.new.out c.print_rows.result = search rules in record {
+    let t = a.reading.now.tables in
+    let state = state_in a.reading.now in
+    let printed : Printed (printed_at state) a.out.now c.print_rows.new.out c.print_rows.result =
+    search rules in record {
       printed = printed;
       printed_2 = λ t s after. printed_as (prints_file clipped_table t s state after) printed;
-      upper_bound = printed_fits (printed_few (answer_at state) a.reading.plan.n t.exclusive_presence.now t.exclusives.now) printed;
+      upper_bound = printed_fits (printed_few (answer_at state) a.reading.now.plan.n t.exclusive_presence.now
+          t.exclusives.now) printed;
     }
 
 pub returns-in-Err : goal.returns-in-Err
 returns-in-Err c =
     let a = c.args in
-    let t = a.tables.now in
-    let state = state_in a.reading t in
-    let printed : Printed (printed_at state) a.out.now c.print_refusal.new.out c.print_refusal.result = search rules in record {
+    let t = a.reading.now.tables in
+    let state = state_in a.reading.now in
+    let printed : Printed (printed_at state) a.out.now c.print_refusal.new.out c.print_refusal.result =
+    search rules in record {
       printed = printed;
       printed_2 = λ t s after. printed_as (prints_file clipped_table t s state after) printed;
-      upper_bound = printed_fits (printed_few (answer_at state) a.reading.plan.n t.exclusive_presence.now t.exclusives.now) printed;
+      upper_bound = printed_fits (printed_few (answer_at state) a.reading.now.plan.n t.exclusive_presence.now
+          t.exclusives.now) printed;
     }

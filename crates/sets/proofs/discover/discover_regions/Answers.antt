@@ -25,8 +25,8 @@ sets_are c =
     set_bytes_are c.deref.result.now c.args.points.now c.min.result (omega (arith, ap length c.deref.ensures.0))
     ∙ ap (λ cs. set_bytes cs c.args.points.now) c.deref.ensures.0
 
-pub twice_contained-twice-requires : goal.twice_contained-twice-requires
-twice_contained-twice-requires c =
+pub twice_contained-twice_contained-requires : goal.twice_contained-twice_contained-requires
+twice_contained-twice_contained-requires c =
     let con = c.containing_heads-containing in
     cont_lt c.deref.result.now c.args.points.now c.min.result (omega arith) (mask_of con.result) con.ensures
 
@@ -34,17 +34,17 @@ pub invariant_of-levels : goal.invariant_of-levels
 invariant_of-levels c =
     let over = c.overlapping_heads-overlapping in
     record {
-      twice_is = c.twice_contained-twice.ensures;
+      twice_is = c.twice_contained-twice_contained.ensures;
       turned = over_turned c.min.result (stands c.add_singles.new.found) (mask_of over.result) over.ensures;
     }
 
-pub returns-then-twice-eq0 : goal.returns-then-twice-eq0
-returns-then-twice-eq0 c =
+pub returns-then-twice_contained-eq0 : goal.returns-then-twice_contained-eq0
+returns-then-twice_contained-eq0 c =
     let con = c.containing_heads-containing in
     assembled_found c.deref.result.now c.args.points.now c.min.result (omega arith) (mask_of con.result) con.ensures
-    (found_are (goal.at.returns-then-twice-eq0 c).After-add_singles)
-    (sym c.twice_contained-twice.ensures ∙ c.if-twice-eq0.true)
-    ∙ sets_are (goal.at.returns-then-twice-eq0 c).After-deref
+    (found_are (goal.at.returns-then-twice_contained-eq0 c).After-add_singles)
+    (sym c.twice_contained-twice_contained.ensures ∙ c.if-twice_contained-eq0.true)
+    ∙ sets_are (goal.at.returns-then-twice_contained-eq0 c).After-deref
 
 pub returns : goal.returns
 returns c =

@@ -4,8 +4,4 @@ use Rattle.sums.proofs.fast.write_in_box.Goals as goal
 
 pub invariant_of-rows : goal.invariant_of-rows
 invariant_of-rows c =
-    let chords = c.fill_chords-chords.ensures in
-    record {
-      valued = c.fill_integrals.ensures;
-      chorded = filled_chorded _ _ _ c.args.pass.now.below _ chords.reach_after chords.ends_after;
-    }
+    record { chorded = filled_chorded _ _ _ _ c.fill_chords-chords.ensures.filled }

@@ -7,4 +7,4 @@ use Rattle.sums.proofs.fast.write_rows.Given as goal
 
 abbrev pub invariant-loop-mask : goal.invariant-loop-mask
 invariant-loop-mask g l =
-    l.areas ≡ written (number_at (stands l.wanted.bytes.now) (g.R.Areas.given l.rows) l.initial.areas) l.mask l.initial.areas
+    l.areas ≡ written (number_at (stands l.wanted) (g.R.Areas.given l.rows) l.initial.areas) l.mask l.initial.areas

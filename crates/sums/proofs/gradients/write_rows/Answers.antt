@@ -10,7 +10,7 @@ use Rattle.clip.specs.Gradient.{WithGradient}
 use Rattle.sums.specs.Gradients.{row_anew}
 use Rattle.sums.proofs.Laid.{none_laid, area_kept, row_kept, area_put, row_laid, part_many}
 use Rattle.sums.proofs.gradients.write_rows.Goals as goal
-use Rattle.sums.proofs.gradients.write_rows.Goals.{then-wanted-mask-eq1, else-wanted-mask-eq1}
+use Rattle.sums.proofs.gradients.write_rows.Goals.{then-byte-eq1, else-byte-eq1}
 
 -- the row has its place
 room : (m count width n : ℕ) → m < count → count * width ≤ n → suc m * width ≤ n
@@ -19,25 +19,7 @@ room m count width n lt le = let more = mul-le-mul_right {m = suc m} {n = count}
 pub loop-mask-init : goal.loop-mask-init
 loop-mask-init g c =
     let a = c.args in
-    none_laid (stands a.wanted.now.bytes.now) (row_anew (g.R.Gradients.given a.rows.now) a.width) a.width a.areas.now a.gradients.now
-
-pub overflow_mul-start : goal.overflow_mul-start
-overflow_mul-start g c = let r = room c.loop-mask.mask c.args.wanted.now.count c.args.width _ (omega arith) c.requires.places.1 in omega (arith, r)
-
-pub overflow_add-end : goal.overflow_add-end
-overflow_add-end g c = let r = room c.loop-mask.mask c.args.wanted.now.count c.args.width _ (omega arith) c.requires.places.1 in omega (arith, r)
-
-pub offset_bounds-gradients-start : goal.offset_bounds-gradients-start
-offset_bounds-gradients-start g c = let r = room c.loop-mask.mask c.args.wanted.now.count c.args.width _ (omega arith) c.requires.places.1 in omega (arith, r)
-
-pub slice_bounds-write_row-start : goal.slice_bounds-write_row-start
-slice_bounds-write_row-start g c = let r = room c.loop-mask.mask c.args.wanted.now.count c.args.width _ (omega arith) c.requires.places.1 in omega (arith, r)
-
-pub slice_bounds-write_row-end : goal.slice_bounds-write_row-end
-slice_bounds-write_row-end g c = let r = room c.loop-mask.mask c.args.wanted.now.count c.args.width _ (omega arith) c.requires.places.1 in omega (arith, r)
-
-pub write_row-area-requires : goal.write_row-area-requires
-write_row-area-requires g c = c.requires.has c.loop-mask.mask (omega arith) (eq-eqb _ 1 c.if-wanted-mask-eq1.true)
+    none_laid (stands a.wanted.now) (row_anew (g.R.Gradients.given a.rows.now) a.width) a.width a.areas.now a.gradients.now
 
 pub loop-mask-preserved : goal.loop-mask-preserved
 loop-mask-preserved g c =
@@ -45,28 +27,22 @@ loop-mask-preserved g c =
     let a = c.args in
     let S = l.mask in
     let w = a.width in
-    let wanted = stands a.wanted.now.bytes.now in
+    let wanted = stands a.wanted.now in
     let row : ℕ → WithGradient = row_anew (g.R.Gradients.given a.rows.now) w in
-    let test : S < a.wanted.now.count = omega arith in
+    let test : S < length a.wanted.now = c.loop-mask-test.true in
     let more : S < length a.areas.now = omega (arith, test, c.requires.places.0) in
-    let place : suc S * w ≤ length a.gradients.now = room S a.wanted.now.count w _ test c.requires.places.1 in
+    let place : suc S * w ≤ length a.gradients.now = room S (length a.wanted.now) w _ test c.requires.places.1 in
     let wide : length l.gradients ≡ length a.gradients.now = omega arith in
     let many = part_many S w l.gradients (omega (arith, place, wide)) in
-    elim c.if-wanted-mask-eq1.branch [
-      | then-wanted-mask-eq1 t ↦ let is = eq-eqb _ 1 t.if-wanted-mask-eq1.true in
+    elim c.if-byte-eq1.branch [
+      | then-byte-eq1 t ↦ let is = eq-eqb _ 1 t.if-byte-eq1.true in
           let er = t.write_row-area.ensures.row ∙ ap (λ (k : ℕ). row_anew (g.R.Gradients.given a.rows.now) k S) many in (
             t.areas-is ∙ area_put wanted row w a.areas.now a.gradients.now S er is more l.areas l.invariant.0,
             row_laid wanted row w a.areas.now a.gradients.now S er is place (t.write_row-area.ensures.grad_len ∙ many)
                 l.gradients _ l.invariant.1 t.gradients-is,
           )
-      | else-wanted-mask-eq1 t ↦ let none = ne_eqb _ 1 t.if-wanted-mask-eq1.false in (
+      | else-byte-eq1 t ↦ let none = ne_eqb _ 1 t.if-byte-eq1.false in (
         t.areas-is ∙ l.invariant.0 ∙ area_kept wanted row w a.areas.now a.gradients.now S more none,
         t.gradients-is ∙ l.invariant.1 ∙ row_kept wanted row w a.areas.now a.gradients.now S place none,
       )
     ]
-
-pub returns : goal.returns
-returns g c =
-    let e : c.loop-mask.mask ≡ c.args.wanted.now.count = omega arith in
-    let all = rw e at c.loop-mask.invariant in
-    record { areas_after = all.0; gradients_after = all.1 }

@@ -11,4 +11,5 @@ use Rattle.sums.proofs.presence.clear_absent.Given as goal
 
 abbrev pub invariant-loop-mask : goal.invariant-loop-mask
 invariant-loop-mask l =
-    l.areas ≡ written (λ S. cond (among l.has_box (stands l.sets) S) (get_or l.initial.areas S nan) zero64) l.mask l.initial.areas
+    l.area-items
+    ≡ written (λ S. cond (among l.has_box (stands l.sets) S) (get_or l.initial.area-items S nan) zero64) l.mask l.initial.area-items

@@ -1,8 +1,8 @@
--- `shares::add_shares`: the first m are added.
+-- `shares::add_shares`: the shares before this one are added.
 use mathlib.Core.Path.{◌≡◌}
-use Prim.Native.Nat.{◌*◌}
-use Rattle.sums.specs.Slopes.{shares_from}
+use lib.ListN.{take}
+use Rattle.sums.specs.Slopes.{add_shares}
 use Rattle.sums.proofs.shares.add_shares.Given as goal
 
-abbrev pub invariant-loop-m : goal.invariant-loop-m
-invariant-loop-m l = l.grad ≡ shares_from (l.j * 3) l.shares l.from l.m l.initial.grad
+abbrev pub invariant-loop-share : goal.invariant-loop-share
+invariant-loop-share l = l.grad ≡ add_shares l.place.at (take l.share-index l.shares) l.initial.grad

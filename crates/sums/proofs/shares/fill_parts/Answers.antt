@@ -1,23 +1,17 @@
 -- `shares::fill_parts`: the parts of one arc more are held.
-use Prim.Native.Nat.{◌+◌, ◌≤◌}
+use mathlib.Core.Path.{◌∙◌}
 use native.Mathlib.Omega.{arith}
-use Rattle.sums.proofs.Sloping.{parts_put, parts_held}
+use lib.ListN.{length-set}
+use Rattle.sums.proofs.Filling.{listed_low}
+use Rattle.sums.proofs.Sloping.{parts_next}
 use Rattle.sums.proofs.shares.fill_parts.Goals as goal
 
-pub loop-p-preserved : goal.loop-p-preserved
-loop-p-preserved c =
-    let p = c.args.pass.now in
-    let l = c.loop-p in
-    let put = c.put_parts-along.ensures in
-    let room : l.used + c.put_parts-along.result.many ≤ 640 = omega (arith, c.if-used-le615.true, put.many) in (
-      room,
-      parts_put l.invariant.1 c.loop-p-test.true put.kept
-          (parts_held c.args.bounds p.circles.now.items p.heads.now.items l.p c.circle_of.ensures c.arc_at.ensures
-          (omega (arith, room, put.first)) (λ g. rw put.first (put.put g)))
-          put.first c.next_standing-p-in-loop-p.ensures,
+pub loop-place-preserved : goal.loop-place-preserved
+loop-place-preserved c =
+    let l = c.loop-place in
+    let low = listed_low c.standing_arcs-places.ensures c.deref-place-items.ensures.0 c.loop-place-test.true in (
+      length-set _ _ _ ∙ l.invariant.0,
+      rw (c.len-from.ensures.value, c.len.ensures.value)
+          (parts_next l.parts.along _ l.invariant.1 c.circle.ensures c.arc.ensures c.put_parts-sum.ensures
+          (omega (arith, low, l.invariant.0))),
     )
-
-pub returns : goal.returns
-returns c =
-    let i = c.loop-p.invariant.1 in
-    record { within = i.within; held = λ q h is. (i.held q h is).0 }

@@ -1,16 +1,10 @@
--- `shares::fill_parts`: of the arcs with a number below p the parts are held, before `used`.
-use Prim.Native.Nat.{◌-◌, ◌≤◌}
-use Rattle.sums.specs.Slopes.{no_parts}
-use Rattle.sums.proofs.Filling.{Filled}
-use Rattle.sums.proofs.Sloping.{HeldBefore}
+-- `shares::fill_parts`: what is held is right.
+use mathlib.Core.Path.{◌≡◌}
+use lib.ListN.{length}
+use Rattle.sums.specs.Slopes.{PartsValued}
 use Rattle.sums.proofs.shares.fill_parts.Given as goal
 
-abbrev pub invariant-loop-p : goal.invariant-loop-p
-invariant-loop-p l =
-    let cs = l.pass.circles.now.items in
-    let hs = l.pass.heads.now.items in
-    (l.used ≤ 640) × Filled l.pass.needed hs no_parts (HeldBefore l.bounds cs hs l.parts.shares l.used) l.parts.along
-    l.p
-
-abbrev pub decreases-loop-p : goal.decreases-loop-p
-decreases-loop-p l = 330 - l.p
+abbrev pub invariant-loop-place : goal.invariant-loop-place
+invariant-loop-place l =
+    (length l.parts.along ≡ 330)
+    × PartsValued l.bounds l.pass.circles.now.items l.pass.heads.now.items l.parts.shares.items l.parts.along

@@ -1,7 +1,12 @@
--- `shares::put_parts`: the parts before the i-th break are put (`Putting`).
-use Prim.Native.Nat.{◌-◌}
+-- `shares::put_parts`: the parts before these ends are put (`Putting`).
+use mathlib.Core.Path.{◌≡◌}
+use Prim.Native.Nat.{◌*◌}
+use Rattle.std.specs.Slice.Iter.{windows_rest, windows_size}
 use Rattle.sums.proofs.Sloping.{Putting}
 use Rattle.sums.proofs.shares.put_parts.Given as goal
 
-abbrev pub invariant-loop-i : goal.invariant-loop-i
-invariant-loop-i l = Putting l.bounds l.c l.first l.initial.shares l.breaks.items l.shares l.many l.sum (l.i - 1)
+abbrev pub invariant-loop-ends : goal.invariant-loop-ends
+invariant-loop-ends l =
+    (windows_size l.ends-iterator ≡ 2)
+    × Putting l.bounds l.c (l.fn.arc.circle * 3) l.initial.shares.items (windows_rest l.initial.ends-iterator)
+    (windows_rest l.ends-iterator) l.sum l.shares.items

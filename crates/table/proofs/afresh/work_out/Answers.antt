@@ -17,7 +17,7 @@ write_afresh-requires c =
     let d = plan_tables p c.args.tables.now in
     let ten : length p.heads ≡ 10 = (let h = c.well_formed in search length_of_values) in
     let taken = call_says d c.check_call.ensures c.lent.ensures c.in_ok-check_call.was in
-    let of = c.ready_of-ready.ensures in
+    let of = c.of-ready.ensures in
     (afresh_room d ten taken, in_own of, subst (BoxOf p) (sym of.bounds) c.requires)
 
 pub returns-clause-step : goal.returns-clause-step
@@ -26,8 +26,8 @@ returns-clause-step c =
     let d = plan_tables a.plan a.tables.now in
     let ten : length a.plan.heads ≡ 10 = (let h = c.well_formed in search length_of_values) in
     let taken = call_says d c.check_call.ensures c.lent.ensures c.in_ok-check_call.was in
-    let sets = c.sets_of-sets in
-    let of = c.ready_of-ready.ensures in
+    let sets = c.sets-sets in
+    let of = c.of-ready.ensures in
     afresh-step (is_some a.bounds) plan_sets d sets.result _ taken
     (sets_say of (afresh_room d ten taken).count sets.ensures) (rw of.bounds at c.write_afresh.ensures.written)
 

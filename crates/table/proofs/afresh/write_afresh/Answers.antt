@@ -13,7 +13,7 @@ returns-clause-written c =
     let r = a.ready.now in
     let of = c.requires.1 in
     let room = c.requires.0 in
-    rw (c.write_tables.ensures.written, of.n room.count)
+    rw (c.write_tables.ensures.written, c.default.ensures.0, c.default.ensures.1, of.n room.count)
     (afresh_written (method_over (is_some r.bounds) plan_sets) a.plan r
     (serves r.bounds plan_sets a.plan r of c.requires.2) a.sets.now (tables_in a.tables.now) room
     c.area.result (c.area.ensures ∙ ap area c.box_of.ensures))

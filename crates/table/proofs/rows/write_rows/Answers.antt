@@ -17,7 +17,7 @@ use Rattle.sums.specs.Presence.{among}
 use Rattle.sums.proofs.Passes.{areas_all, bytes_all, cleared_all}
 use Rattle.table.specs.Ready.{heads_in, area_of}
 use Rattle.table.specs.Rows.{rows_written, worked_out}
-use Rattle.table.proofs.Writing.{byte_left, number_left}
+use Rattle.table.proofs.Writing.{rows_count, byte_left, number_left}
 use Rattle.table.proofs.rows.write_rows.Goals as goal
 
 -- the bytes of the rows to be worked out say so
@@ -37,28 +37,29 @@ returns c =
     let n = heads_in r in
     let few : n ≤ 10 = rw c.len-n.ensures.value at c.len-n.ensures.fits in
     let box = is_some r.bounds in
-    let earlier = stands a.earlier.now in
-    let later = stands a.later.now in
+    let earlier = stands a.update.earlier.now in
+    let later = stands a.update.later.now in
     let there = among box later in
-    let row_of = rows_written r a.change a.earlier.now a.later.now a.presence.now a.rows.now in
+    let row_of = rows_written r a.update.change a.update.earlier.now a.update.later.now a.presence.now a.rows.now in
     let wanted = stands c.rows_worked_out-wanted.result in
     let number = number_at wanted (area_of r) a.rows.now in
-    let room : 2 ^ n ≤ length a.rows.now = omega (arith, c.requires.0, c.requires.2) in
+    let many : c.rows_needed.result ≡ 2 ^ n = rows_count n _ few (rw c.len-n.ensures.value at c.rows_needed.ensures) in
+    let room : 2 ^ n ≤ length a.rows.now = c.requires.1 in
     let worked : List Float = c.write_areas.new.areas in
     let areas : worked ≡ written number (2 ^ n) a.rows.now =
     rw (c.write_areas.ensures, c.deref.ensures.0) (areas_all n few wanted (area_of r) a.rows.now room) in
     let row : (S : ℕ) → S < 2 ^ n → cond (there S) (get_or worked S nan) zero64 ≡ (row_of S).number =
     λ S h. rw (areas, written_before number (2 ^ n) S a.rows.now nan h)
-    (number_left box a.change (area_of r) earlier later a.presence.now a.rows.now wanted S
-    (wanted-say _ (worked_out a.change earlier later) a.count c.rows_worked_out-wanted.ensures S
-    (subst (λ m. S < m) (sym c.requires.0) h))) in record {
+    (number_left box a.update.change (area_of r) earlier later a.presence.now a.rows.now wanted S
+    (wanted-say _ (worked_out a.update.change earlier later) c.rows_needed.result c.rows_worked_out-wanted.ensures S
+    (subst (λ m. S < m) (sym many) h))) in record {
       presence_after =
-          rw (c.write_presence.ensures, c.len-n.ensures.value, c.is_some-has_box.ensures, c.requires.0)
-          (bytes_all n few there a.presence.now (omega (arith, c.requires.0, c.requires.1))
+          rw (c.write_presence.ensures, c.len-n.ensures.value, c.is_some-has_box.ensures)
+          (bytes_all n few there a.presence.now c.requires.0
           ∙ written_cong _ (λ S. (row_of S).byte) (2 ^ n) a.presence.now a.presence.now
-          (λ S h. byte_left box a.change (area_of r) earlier later a.presence.now a.rows.now S) refl);
+          (λ S h. byte_left box a.update.change (area_of r) earlier later a.presence.now a.rows.now S) refl);
       rows_after =
-          rw (c.clear_absent.ensures, c.len-n.ensures.value, c.is_some-has_box.ensures, c.requires.0)
+          rw (c.clear_absent.ensures, c.len-n.ensures.value, c.is_some-has_box.ensures)
           (cleared_all n few there worked a.rows.now (λ S. (row_of S).number)
           (omega (arith, c.write_areas.auto.areas, room))
           (ap (drop (2 ^ n)) areas ∙ drop_written _ (2 ^ n) (2 ^ n) a.rows.now (le_refl (2 ^ n))) row);

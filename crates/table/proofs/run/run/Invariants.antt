@@ -1,7 +1,7 @@
 use mathlib.Core.Path.{◌≡◌}
 use mathlib.Core.List.{List}
 use Prim.Native.Nat.{ℕ}
-use lib.ListN.{length}
+use lib.ListN.{length, take}
 use Rattle.lists.specs.Written.{tab}
 use Rattle.plan.specs.declared.Edit.{Edit}
 use Rattle.regions.specs.Run.{edit_at, slices_after, answers_written}
@@ -22,6 +22,6 @@ invariant-loop-i l =
     record {
       tried : Tried (plan_tables l.initial.left l.initial.tables)
           (edit_at l.edits.head.now l.edits.x.now l.edits.y.now l.edits.radius.now)
-          l.initial.answers l.i (plan_tables l.left l.tables) l.answers;
+          (take l.count l.fn.answers) l.i (plan_tables l.left l.tables) l.answer-items;
       same_slices : SameSlices l.initial.tables l.tables;
     }

@@ -13,4 +13,5 @@ returns c =
     let a = c.args in
     let f : Plan → Step GradientSlices Answered =
     λ p. clipped_step plan_sets p (gradient_slices a.presence.now a.exclusives.now a.gradients.now) in
-    let t = told f _ _ _ _ c.plan_of-plan.ensures c.gradients.ensures in record { value = c.number_of.ensures ∙ t.0; gradients_after = t.1 }
+    let t = told f _ _ _ _ c.plan_of-plan.ensures c.gradients.ensures in
+    record { value = c.number_of.ensures ∙ t.0; gradients_after = t.1 }

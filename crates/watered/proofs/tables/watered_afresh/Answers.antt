@@ -13,8 +13,10 @@ pub returns : goal.returns
 returns c =
     let a = c.args in
     let f : Plan → Step PlanSlices Answered =
-    λ p. afresh_slices clipped_table (plan_slices p a.presence.now a.rows.now a.exclusive_presence.now a.exclusives.now) in
+    λ p. afresh_slices clipped_table
+    (plan_slices p a.presence.now a.rows.now a.exclusive_presence.now a.exclusives.now) in
     let t = told f _ _ _ _ c.plan_of-plan.ensures c.afresh.ensures.step in record {
       value = c.number_of.ensures ∙ t.0;
-      exclusives_after = slices_told c.afresh.new.tables (search rules) (search rules) (search rules) (search rules) (ap (λ z. z.tables) t.1);
+      exclusives_after = slices_told c.afresh.new.tables (search rules) (search rules) (search rules) (search rules)
+          (ap (λ z. z.tables) t.1);
     }

@@ -16,5 +16,6 @@ returns c =
     λ p. afresh_slices open_table (plan_slices p a.presence.now a.rows.now a.exclusive_presence.now a.exclusives.now) in
     let t = told f _ _ _ _ c.plan_of-plan.ensures c.open_afresh.ensures.step in record {
       value = c.number_of.ensures ∙ t.0;
-      exclusives_after = slices_told c.open_afresh.new.tables (search rules) (search rules) (search rules) (search rules) (ap (λ z. z.tables) t.1);
+      exclusives_after = slices_told c.open_afresh.new.tables (search rules) (search rules) (search rules)
+          (search rules) (ap (λ z. z.tables) t.1);
     }

@@ -10,6 +10,6 @@ pub returns-then-root_above : goal.returns-then-root_above
 returns-then-root_above c =
     let a = c.args in
     let squared = c.squared_distance-squared in
-    sym (ap (λ (d : Float). d +ᶠ a.other.radius ≤ᶠ a.self.radius) (sym squared.ensures)
+    sym (ap (λ (d : Float). d +ᶠ a.other.radius ≤ᶠ a.self.radius) (sym squared.ensures.root_is)
     ∙ sum_past _ _ _ (c.root_above.ensures c.if-root_above.true) (root_minus squared.result (search rules)) (search rules)
     (sym c.moderate.ensures ∙ c.if-moderate.true))

@@ -1,4 +1,5 @@
--- `text::Cursor::put_digits` meets its contract. The invariant: what is put and the digits that are left make the whole.
+-- `text::Cursor::put_digits` meets its contract. The invariant: what is put and the digits that are left make the
+-- whole.
 use mathlib.Core.Path.{◌≡◌, sym, ap, ap₂, ◌∙◌}
 use Prim.Native.Nat.{◌-◌, ◌/◌, ◌%◌}
 use native.Mathlib.Nat.{pow-le-pow_right}

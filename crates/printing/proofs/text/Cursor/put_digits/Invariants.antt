@@ -1,4 +1,5 @@
--- `text::Cursor::put_digits` meets its contract. The invariant: what is put and the digits that are left make the whole.
+-- `text::Cursor::put_digits` meets its contract. The invariant: what is put and the digits that are left make the
+-- whole.
 use mathlib.Core.Path.{◌≡◌}
 use Prim.Native.Nat.{◌+◌}
 use Rattle.printing.specs.Text.{digits, put}

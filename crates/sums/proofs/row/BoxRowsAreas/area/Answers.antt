@@ -9,19 +9,20 @@ use Rattle.sums.proofs.row.BoxRowsAreas.area.Goals as goal
 
 pub returns-then-empty_box : goal.returns-then-empty_box
 returns-then-empty_box c =
-    let r = c.args.self.now in
-    area_of_none r.bounds r.pass.circles.now.items r.pass.points.now c.args.mask (sym c.empty_box.ensures ∙ c.if-empty_box.true)
+    let r = c.args.self.now.integrals.now in
+    area_of_none r.of.bounds r.pass.circles.now.items r.pass.points.now c.args.mask (sym c.empty_box.ensures ∙ c.if-empty_box.true)
 
-pub add_integrals-total-requires : goal.add_integrals-total-requires
-add_integrals-total-requires c = record { placed = rw c.deref.ensures.0 c.walk.ensures.placed; valued = c.args.self.now.valued }
+pub sum-requires : goal.sum-requires
+sum-requires c = rw c.deref.ensures.0 c.walk.ensures.placed
 
 pub returns : goal.returns
 returns c =
-    let r = c.args.self.now in
+    let rows = c.args.self.now in
+    let r = rows.integrals.now in
     let cs = r.pass.circles.now.items in
     let S = c.args.mask in
-    let total = rw c.deref.ensures.0 at c.add_integrals-total.ensures in
-    row_in_box r.pass S c.walk.ensures r.bounds (sym c.empty_box.ensures ∙ c.if-empty_box.false) total
-    (c.add_edges.ensures ∙ rw c.len.ensures.value
-    (edges_are r.bounds cs S r.chords.now r.pass.ten (omega (arith, subset_le S r.pass.needed c.requires, r.pass.below))
-    (chorded_less S c.requires r.chorded) _))
+    row_in_box r.pass S c.walk.ensures r.of.bounds (sym c.empty_box.ensures ∙ c.if-empty_box.false)
+    (rw c.deref.ensures.0 at c.sum.ensures)
+    (c.add_edges.ensures
+    ∙ edges_are r.of.bounds cs S rows.chords.now r.pass.ten (omega (arith, subset_le S r.pass.needed c.requires, r.pass.below))
+    (chorded_less S c.requires rows.chorded) _)
