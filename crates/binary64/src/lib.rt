@@ -72,8 +72,8 @@ fn reduced(x: f64, m: f64) -> f64
     if m <= rest { rest - m } else { rest }
 }
 
-// x % m, which C's fmod would work out: a program with a `%` of floats, as in `x.rem_euclid(m)`, asks for one of the
-// kit's C library, which the machine's may be too old to have.
+// x % m, worked out by doubling. Not `%` or `x.rem_euclid(m)`: a program with one links an `fmod` newer than the
+// machine's C library may have.
 fn exact_remainder(x: f64, m: f64) -> f64
     ensures { result ≡ rem binary64 x m }
 {

@@ -1,5 +1,6 @@
 -- The stable sort of angles: each is put in before the first that is greater.
-use Rattle.std.specs.Prelude.{◌≡◌, Bool, false, not, ◌&&◌, cond, List, [], ◌∷◌, Float}
+use Rattle.std.specs.Prelude.{◌≡◌, Bool, false, not, ◌&&◌, cond, ℕ, ◌+◌, ltb, Float}
+use Rattle.std.specs.Prelude.{List, [], ◌∷◌, ◌++◌, length, take, drop}
 use Rattle.lists.specs.Every.{Every}
 use Rattle.binary64.specs.Floats.{◌<ᶠ◌}
 
@@ -9,6 +10,12 @@ module _ {A : Type 0} (angle_of : A → Float) where
   unfoldable pub insert_by : A → List A → List A
   insert_by x [] = x ∷ []
   insert_by x (y ∷ ys) = cond (angle_of x <ᶠ angle_of y) (x ∷ y ∷ ys) (y ∷ insert_by x ys)
+
+  -- x put in so among the n from place `at` on: what stands before `at`, and from `at + n + 1` on, stays. What stood at
+  -- `at + n` gives its place up, and all stays where there is no such place.
+  abbrev pub insert_among : ℕ → ℕ → A → List A → List A
+  insert_among at n x all =
+      cond (ltb (at + n) (length all)) (take at all ++ insert_by x (take n (drop at all)) ++ drop (at + n + 1) all) all
 
   -- one after another of the list, put into those before it
   unfoldable pub sort_onto_by : List A → List A → List A

@@ -1,30 +1,56 @@
--- What `fill_chords` gives, edge by edge and head by head.
-use Rattle.std.proofs.Common.{◌≡◌, refl, ap, ◌∙◌, ℕ, ◌+◌, add-one, List, [], ◌∷◌, ◌++◌, map, length, get_or}
+-- What `Chords::of` gives, edge by edge and head by head.
+use Rattle.std.proofs.Common.{◌≡◌, refl, sym, ap, ◌∙◌, ℕ, ◌<◌, min, arith}
+use Rattle.std.proofs.Common.{List, map, length, get_or, take, replicate}
+use Rattle.std.proofs.lemmas.List.{length-take, length-replicate, get_or-take, get_or-replicate, take_at}
+use Rattle.std.specs.List.{refill}
 use Rattle.lists.specs.Written.{tab}
-use Rattle.lists.proofs.Writing.{length_tab, get_d_tab}
+use Rattle.lists.proofs.Writing.{length_tab, get_d_tab, tab_cong, written_whole}
 use Rattle.geometry.specs.declared.bounds.Bounds.{Bounds}
 use Rattle.geometry.specs.declared.circle.Circle.{Circle}
 use Rattle.inside.specs.declared.edges.BoxEdge.{BoxEdge}
 use Rattle.inside.specs.declared.edges.BoxEdge.TheVariants.{Bottom, Right, Top, Left}
-use Rattle.intersections.proofs.Adopting.{gathered}
+use Rattle.intersections.specs.Heads.{first_ten}
 use Rattle.inside.specs.Edges.{box_edges, edge_number}
+use Rattle.chords.specs.declared.fill.Chord.{Chord}
 use Rattle.chords.specs.declared.fill.Chords.{Chords}
-use Rattle.chords.specs.Chords.{Held, held_of, none_held, chord_at, no_chord, chords_of}
+use Rattle.chords.specs.Chords.{Held, held_of, none_held, chord_at, unneeded, no_chord, chords_written, chords_of}
 use Rattle.chords.specs.Chords.{edge_held, Chorded}
-use Rattle.chords.proofs.Heads.{shift_in, shift_out}
 
--- no head, and one head more
-module _ {A : Type 0} (f : ℕ → A) where
-  pub tab_none : tab f 0 ≡ []
-  unfolding tab
-  tab_none = refl
+-- what is written over the chords of heads that are not needed, as many as circles are read
+module _ (box : Bounds) (circles : List Circle) (needed : ℕ) (edge : BoxEdge) where
+  abbrev fresh : List Chord
+  fresh = take (length circles) (replicate 10 unneeded)
 
-  pub tab_next : (m : ℕ) → tab f (m + 1) ≡ tab f m ++ f m ∷ []
-  unfolding tab
-  tab_next m = rw (add-one m)
+  abbrev own : ℕ → Chord
+  own = chord_at box (first_ten circles) needed edge unneeded
 
-pub ruleset heads_in_turn =
-    (tab_none, tab_next, length_tab, shift_in, shift_out, gathered)
+  abbrev read : ℕ
+  read = length (first_ten circles)
+
+  read_is : read ≡ min 10 (length circles)
+  read_is = length-take 10 circles
+
+  fresh_read : length fresh ≡ read
+  fresh_read =
+      length-take (length circles) (replicate 10 unneeded)
+      ∙ omega (arith, length-replicate 10 unneeded, read_is)
+
+  fresh_at : (l : ℕ) → l < read → get_or fresh l no_chord ≡ unneeded
+  fresh_at l h =
+      get_or-take (length circles) (replicate 10 unneeded) l no_chord (omega (arith, read_is))
+      ∙ get_or-replicate 10 l unneeded no_chord (omega (arith, read_is))
+
+  fresh_written : chords_written box (first_ten circles) needed edge fresh ≡ tab own read
+  fresh_written =
+      written_whole _ _ read fresh (omega (arith, fresh_read)) fresh_read
+      ∙ tab_cong _ _ read (λ l h. rw (fresh_at l h))
+
+  -- in the list that lends them as a slice
+  pub fresh_held : (items after : List Chord) → items ≡ fresh
+      → after ≡ chords_written box (first_ten circles) needed edge items
+      → refill (length items) items after ≡ tab own read
+  fresh_held items after e w =
+      rw (w, e, fresh_written) (take_at _ _ (length fresh) (length_tab own read ∙ sym fresh_read))
 
 -- what stands at an edge's place
 edge_of : {A : Type 0} (f : BoxEdge → A) (d : A) (edge : BoxEdge)
@@ -44,9 +70,9 @@ filled_chorded box circles needed chords filled =
       stops = λ edge. ap (λ h. h.to) (held edge);
       reaches = λ edge. ap (λ h. h.reach) (held edge);
       count = λ edge. ap (λ h. length h.chords) (held edge)
-          ∙ length_tab (chord_at box circles needed edge) (length circles);
+          ∙ length_tab (chord_at box circles needed edge unneeded) (length circles);
       ends = λ edge l h i. ap (λ k. get_or k.chords l no_chord) (held edge)
-          ∙ get_d_tab (chord_at box circles needed edge) (length circles) l no_chord h
+          ∙ get_d_tab (chord_at box circles needed edge unneeded) (length circles) l no_chord h
           ∙ rw i;
     }
   where

@@ -1,8 +1,7 @@
 -- The span of an edge for a set, from the chords of its heads.
 use Rattle.std.proofs.Common.{◌≡◌, refl, sym, ap, ◌∙◌, ℕ, zero, suc, ◌+◌, ◌<◌, ◌≤◌, ◌^◌, arith, add-one}
-use Rattle.std.proofs.Common.{Bool, true, false, not, ◌&&◌, ◌||◌, cond, List, [], ◌∷◌, ◌++◌, map, length, get_or, Float}
+use Rattle.std.proofs.Common.{Bool, true, false, not, ◌&&◌, ◌||◌, cond, List, [], ◌∷◌, ◌++◌, map, length, Float}
 use Rattle.std.proofs.Common.{pow_mono, lt_of_lt_of_le}
-use Rattle.std.proofs.lemmas.List.{get_or-map}
 use Rattle.std.proofs.Math.Bool.{and-true, or-false}
 use mathlib.Core.List.{map-append, map-map, foldl, foldl-append}
 use Rattle.masks.specs.Mask.{in_set, every, subset, Subset}
@@ -16,14 +15,13 @@ use Rattle.intersections.specs.Members.{heads_of, circle_at}
 use Rattle.intersections.proofs.Masks.{every_cong}
 use Rattle.inside.specs.declared.edges.BoxEdge.{BoxEdge}
 use Rattle.inside.specs.declared.edges.BoxEdge.TheVariants.{Bottom, Right, Top, Left}
-use Rattle.inside.specs.Edges.{edge_number, is_upright, line_of, from_of, to_of, edge_span}
+use Rattle.inside.specs.Edges.{is_upright, line_of, from_of, to_of, edge_span}
 use Rattle.inside.specs.Span.{misses, missed, half_chord, raised, lowered, low_end, high_end, open-between}
 use Rattle.inside.specs.Span.{horizontal_span, vertical_span, seen}
 use Rattle.inside.proofs.Spanning.{as_seen}
-use Rattle.chords.specs.declared.fill.EdgeChords.{EdgeChords}
 use Rattle.chords.specs.declared.fill.Chords.{Chords}
 use Rattle.chords.specs.Chords.{chord_from, Chorded}
-use Rattle.chords.specs.Chords.{held_of, none_held, end_to, span_from, lows_of, highs_of, edge_held, edge_from}
+use Rattle.chords.specs.Chords.{end_to, span_from, lows_of, highs_of, edge_held, edge_from}
 use Rattle.chords.proofs.Heads.{heads_with, heads_without, shift_in, shift_out}
 
 -- ---- the heads of a set one after another
@@ -201,16 +199,3 @@ chorded_less {needed = needed} S within held =
       count = held.count;
       ends = λ edge l h i. held.ends edge l h (subset_head S needed within l i);
     }
-
--- ---- for the edge that is read
-
-edge_below : (edge : BoxEdge) → edge_number edge < 4
-edge_below Bottom = omega arith
-edge_below Right = omega arith
-edge_below Top = omega arith
-edge_below Left = omega arith
-
-pub edge_in_place : (chords : Chords) (edge : BoxEdge) (d : EdgeChords) → length chords.edges ≡ 4
-    → edge_held chords edge ≡ held_of (get_or chords.edges (edge_number edge) d)
-edge_in_place chords edge d four =
-    get_or-map held_of chords.edges (edge_number edge) d none_held (omega (arith, four, edge_below edge))

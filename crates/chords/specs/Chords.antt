@@ -1,7 +1,7 @@
 -- The spans of the box's edges for a set, from the chords that each head cuts from each edge.
-use Rattle.std.specs.Prelude.{ℕ, zero, suc, ◌<◌, true, not, cond, ◌≡◌, List, [], map, length, get_or, Float}
+use Rattle.std.specs.Prelude.{ℕ, zero, suc, ◌<◌, true, not, cond, ◌≡◌, min, List, [], map, length, get_or, Float}
 use Rattle.std.specs.Float.{nan}
-use Rattle.lists.specs.Written.{tab}
+use Rattle.lists.specs.Written.{tab, written}
 use Rattle.masks.specs.Mask.{in_set, subset, gather}
 use Rattle.binary64.specs.Constants.{zero64}
 use Rattle.binary64.specs.Floats.{◌+ᶠ◌, ◌-ᶠ◌}
@@ -29,10 +29,27 @@ chord_from at c = let half = half_chord at c in record { low = c.center.x -ᶠ h
 abbrev pub chord_of : Bounds → Circle → BoxEdge → Chord
 chord_of box circle edge = chord_from (line_of box edge) (seen (is_upright edge) circle)
 
--- the chord of a head with an edge, if the head is needed, else 0 for both ends
-abbrev pub chord_at : Bounds → List Circle → ℕ → BoxEdge → ℕ → Chord
-chord_at box circles needed edge l =
-    cond (in_set needed l) (chord_of box (circle_at circles l) edge) (record { low = zero64; high = zero64 })
+-- the chord of a head with an edge, if the head is needed, else what stood for it
+abbrev pub chord_at : Bounds → List Circle → ℕ → BoxEdge → Chord → ℕ → Chord
+chord_at box circles needed edge stood l =
+    cond (in_set needed l) (chord_of box (circle_at circles l) edge) stood
+
+-- what no place holds
+abbrev pub no_chord : Chord
+no_chord = record { low = nan; high = nan }
+
+-- A list of chords after those of the heads of `needed` are written into it, each at its head's place, for as many
+-- heads as there are places. Every other place holds what it held.
+abbrev pub chords_written : Bounds → List Circle → ℕ → BoxEdge → List Chord → List Chord
+chords_written box circles needed edge chords =
+    written
+    (λ l. chord_at box circles needed edge (get_or chords l no_chord) l)
+    (min (length circles) (length chords))
+    chords
+
+-- what stands for a head that is not needed: 0 for both ends
+abbrev pub unneeded : Chord
+unneeded = record { low = zero64; high = zero64 }
 
 -- what is held of an edge: its ends, the heads that reach it and a chord for each head
 pub record Held : Type 0 where
@@ -52,7 +69,7 @@ chords_of box circles needed edge =
       from = from_of box edge;
       to = to_of box edge;
       reach = reach_of box circles edge;
-      chords = tab (chord_at box circles needed edge) (length circles);
+      chords = tab (chord_at box circles needed edge unneeded) (length circles);
     }
 
 -- ---- the spans for a set
@@ -75,10 +92,7 @@ unfolding end_to open-between
 span_from n reach low high S from to =
     cond (subset 64 S reach) (open-between (low_to low S from n) (high_to high S to n)) []
 
--- what no place holds
-abbrev pub no_chord : Chord
-no_chord = record { low = nan; high = nan }
-
+-- what no edge holds
 abbrev pub none_held : Held
 none_held = record { from = nan; to = nan; reach = 0; chords = [] }
 

@@ -12,6 +12,7 @@ use Rattle.binary64.specs.Floats.{◌+ᶠ◌, ◌*ᶠ◌}
 use Rattle.geometry.specs.declared.bounds.Bounds.{Bounds}
 use Rattle.geometry.specs.declared.circle.Circle.{Circle}
 use Rattle.intersections.specs.Heads.{members_with_heads, circles_with_heads}
+use Rattle.intersections.proofs.Few.{few_read}
 use Rattle.boundary.specs.declared.arcs.BoundaryArc.{BoundaryArc}
 use Rattle.outline.specs.declared.terms.Triple.{Triple}
 use Rattle.outline.specs.Terms.{add_three_at}
@@ -40,7 +41,7 @@ module _ (box : Bounds) (all own : List Circle) (arcs : List BoundaryArc) (g : L
 
 -- ---- the circles of a set of heads
 
-pub ruleset of_heads = (circles_of_members, members_with_heads, circles_with_heads, length-map)
+pub ruleset of_heads = (circles_of_members, members_with_heads, circles_with_heads, few_read, length-map)
 
 -- ---- arcs
 

@@ -2,7 +2,7 @@
 ghost use Rattle.std.specs.Prelude.{◌≡◌, map, length};
 ghost use Rattle.binary64.specs.Constants.{zero64};
 ghost use Rattle.intersections.specs.Members.{heads_of, circle_at, members_of};
-ghost use Rattle.intersections.specs.Heads.{circle_list};
+ghost use Rattle.intersections.specs.Heads.{first_ten, circle_list};
 ghost use Rattle.inside.specs.Span.{spans};
 ghost use Rattle.clip.specs.Area.{empty_box, add_clipped_arc, add_clipped_arcs, add_span, add_edges};
 ghost use Rattle.clip.specs.Area.{clipped_area_of, clipped_area};
@@ -10,11 +10,11 @@ ghost use Rattle.clip.specs.Area.{clipped_area_of, clipped_area};
 use boundary::arcs::BoundaryArc;
 use boundary::walk::outline_of;
 use geometry::bounds::Bounds;
-use geometry::circle::{Circle, Circles};
+use geometry::circle::Circle;
 use inside::edges::BoxEdge;
 use inside::parts::clipped_arc_integral;
 use inside::span::{Span, edge_inside_interval};
-use intersections::members::{HeadCircle, circles_of, members_of};
+use intersections::members::{HeadCircle, circles_of, first_ten, members_of};
 use intersections::points::IntersectionPoint;
 
 // Whether the box has no inside.
@@ -81,29 +81,29 @@ fn clipped_area(arcs: &[BoundaryArc], circles: &[Circle], bounds: Bounds, set: &
     0.5 * add_edges(arcs_sum(arcs, bounds, circles), bounds, set)
 }
 
-// The area in the box of the set `mask`, whose arcs are given.
+// The area in the box of the set `mask`, whose arcs are given. Of the circles the first ten are read, here and below.
 #[tactic(auto, using(crate::proofs::Rows::of_heads))]
 pub fn area_from_clipped_arcs(
     arcs: &[BoundaryArc],
-    circles: &Circles,
+    circles: &[Circle],
     bounds: Bounds,
     mask: usize,
 ) -> f64
-    ensures { let all = circles.now.items in
+    ensures { let all = first_ten circles.now in
         result ≡ clipped_area_of bounds all (map (circle_at all) (heads_of (length all) mask)) arcs.now }
 {
-    clipped_area(arcs, circles, bounds, &members_of(mask, circles))
+    clipped_area(arcs, first_ten(circles), bounds, &members_of(mask, circles))
 }
 
 // The area that the heads of a set water together inside the box.
 #[tactic(auto, using(crate::proofs::Rows::of_heads), unfolding(crate::specs::Area::clipped_area))]
 pub fn clipped_region_area(
     mask: usize,
-    circles: &Circles,
+    circles: &[Circle],
     points: &[IntersectionPoint],
     bounds: Bounds,
 ) -> f64
-    ensures { result ≡ clipped_area bounds (members_of circles.now.items points.now mask) }
+    ensures { result ≡ clipped_area bounds (members_of (first_ten circles.now) points.now mask) }
 {
     let set = members_of(mask, circles);
     let arcs = outline_of(mask, &set, points);

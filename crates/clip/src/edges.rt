@@ -14,7 +14,7 @@ use outline::gradient::{add_at, sub_at};
 use outline::place::Place;
 
 // The share of a span of length l in the box's four entries: the edge moves with the centre, and by a quarter of the
-// side across with each size parameter. The side is a number beside the edge, so that any will do.
+// side across with each size parameter.
 #[tactic(auto, unfolding(crate::specs::Gradient::edge_slopes))]
 fn edge_slopes(grad: &mut [f64], edge: BoxEdge, across: f64, place: Place, l: f64)
     ensures { grad.new ≡ edge_slopes edge across place.at l grad.old }
@@ -37,7 +37,8 @@ fn edge_slopes(grad: &mut [f64], edge: BoxEdge, across: f64, place: Place, l: f6
 
 impl Sum<'_> {
     // The span of an edge, added: its length by a factor. Its share, by the side across, is added to the box's four
-    // entries from a place on.
+    // entries from a place on. Factor and side are numbers beside the edge: the call has always taken any, and not only
+    // those of a box.
     #[tactic(auto, unfolding(crate::specs::Gradient::add_span_with_gradient))]
     pub fn add_edge(&mut self, edge: BoxEdge, factor: f64, across: f64, place: Place, span: Span)
         ensures same_reference { self.new.grad.ghost_name ≡ self.old.grad.ghost_name }

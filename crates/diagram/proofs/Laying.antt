@@ -18,9 +18,16 @@ use Rattle.sums.specs.Gradients.{row_at, row_after, rows_to}
 use Rattle.sums.proofs.Laid.{tab_alike}
 use Rattle.masks.specs.Mask.{shifted}
 use Rattle.masks.specs.Operations.{shifted_is}
+use Rattle.geometry.specs.declared.circle.Circle.{Circle}
 use Rattle.geometry.specs.declared.rectangle.Rectangle.{Rectangle}
+use Rattle.intersections.specs.Heads.{first_ten}
+use Rattle.intersections.proofs.Few.{few_read}
 use Rattle.diagram.specs.Rows.{in_row}
 use Rattle.diagram.specs.Drawing.{box_row_in}
+
+-- no more than ten circles: all of them are read
+pub all_read : (circles : List Circle) → length circles ≤ 10 → length (first_ten circles) ≡ length circles
+all_read circles few = ap length (few_read circles few)
 
 -- ---- gradients: all +0, then those of the sets written, then that of row 0
 

@@ -26,7 +26,8 @@ use Rattle.sums.specs.Rows.{number_at, areas_written as areas_worked}
 use Rattle.sums.proofs.Passes.{areas_all}
 use Rattle.diagram.specs.Rows.{Rows, Slopes, in_row, is_there, area_at, slopes_at}
 use Rattle.diagram.specs.Rows.{presence_written, exclusives_written, areas_written, slopes_written}
-use Rattle.diagram.specs.Diagram.{check, exclusives_left, check_with, areas_left, gradients_left}
+use Rattle.diagram.specs.Diagram.{check, exclusives_left}
+use Rattle.diagram.specs.Diagram.{check_with, areas_left, gradients_left}
 use Rattle.diagram.proofs.Alike.{Alike, unless_alike}
 
 -- ---- rows laid in lent slices: the areas of the sets worked out (k), then the other rows (b, a)

@@ -4,6 +4,7 @@ use Rattle.std.specs.Prelude.{ℕ, min, cond, List, eqb, Float, length, Result}
 use Rattle.masks.specs.Presence.{stands}
 use Rattle.geometry.specs.declared.circle.Circle.{Circle}
 use Rattle.geometry.specs.declared.rectangle.Rectangle.{Rectangle}
+use Rattle.intersections.specs.Heads.{first_ten}
 use Rattle.intersections.specs.Points.{collected}
 use Rattle.sets.specs.Regions.{set_bytes}
 use Rattle.exclusive.specs.declared.areas.RowsError.{RowsError}
@@ -12,21 +13,24 @@ use Rattle.exclusive_gradients.specs.Gradient.{width_check, width_answer}
 use Rattle.diagram.specs.Rows.{Rows, Slopes, presence_written, exclusives_written, areas_written, slopes_written}
 use Rattle.diagram.specs.Drawing.{open_rows, clipped_rows, open_slopes, clipped_slopes}
 
--- ---- the rows of circles: their sets are those that discover_regions finds
+-- ---- the rows of circles: their sets are those that discover_regions finds. Of more than ten, which are refused, the
+-- first ten are read.
 
 abbrev pub open_diagram : List Circle → Rows
-open_diagram circles = open_rows circles (collected circles) (stands (set_bytes circles (collected circles)))
+open_diagram circles =
+    let cs = first_ten circles in open_rows cs (collected cs) (stands (set_bytes cs (collected cs)))
 
 abbrev pub clipped_diagram : Rectangle → List Circle → Rows
 clipped_diagram box circles =
-    clipped_rows circles (collected circles) (stands (set_bytes circles (collected circles))) box
+    let cs = first_ten circles in clipped_rows cs (collected cs) (stands (set_bytes cs (collected cs))) box
 
 abbrev pub open_with_gradients : List Circle → Slopes
-open_with_gradients circles = open_slopes circles (collected circles) (stands (set_bytes circles (collected circles)))
+open_with_gradients circles =
+    let cs = first_ten circles in open_slopes cs (collected cs) (stands (set_bytes cs (collected cs)))
 
 abbrev pub clipped_with_gradients : Rectangle → List Circle → Slopes
 clipped_with_gradients box circles =
-    clipped_slopes circles (collected circles) (stands (set_bytes circles (collected circles))) box
+    let cs = first_ten circles in clipped_slopes cs (collected cs) (stands (set_bytes cs (collected cs))) box
 
 -- ---- presence bytes and exclusives in two slices
 

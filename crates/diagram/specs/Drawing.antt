@@ -10,6 +10,7 @@ use Rattle.geometry.specs.declared.circle.Circle.{Circle}
 use Rattle.geometry.specs.declared.rectangle.Rectangle.{Rectangle}
 use Rattle.intersections.specs.declared.points.IntersectionPoint.{IntersectionPoint}
 use Rattle.intersections.specs.Members.{heads_of, circle_at, members_of}
+use Rattle.intersections.specs.Heads.{first_ten}
 use Rattle.intersections.specs.Points.{collected}
 use Rattle.boundary.specs.Set.{region_arcs}
 use Rattle.outline.specs.Area.{area_of, add_gradient, open_area}
@@ -97,18 +98,19 @@ width_in (Some box) n = n * 3 + 4
 
 -- d is drawn from these circles, in the box where there is one
 pub record Of (cs : List Circle) (box : Option Rectangle) (d : Drawing) : Type 0 where
-  pub circles : d.circles.items ≡ cs
-  pub points : d.points.items ≡ collected cs
+  pub circles : d.circles.now ≡ cs
+  pub points : d.points.items ≡ collected (first_ten cs)
   pub container : d.container ≡ box
 
+-- the circles that are read: of more than ten, which are refused, the first ten
 abbrev pub circles_of : Drawing → List Circle
-circles_of d = d.circles.items
+circles_of d = first_ten d.circles.now
 
 abbrev pub points_of : Drawing → List IntersectionPoint
 points_of d = d.points.items
 
 abbrev pub count_of : Drawing → ℕ
-count_of d = length d.circles.items
+count_of d = length d.circles.now
 
 -- whether there is a box, and its edges
 abbrev pub has_box : Drawing → Bool
@@ -129,10 +131,10 @@ abbrev pub box_area_of : Drawing → Float
 box_area_of d = unwrap_or (option_map area d.container) zero64
 
 abbrev pub box_row_of : ℕ → Drawing → List Float
-box_row_of width d = box_row_in d.container (count_of d) width
+box_row_of width d = box_row_in d.container (length (circles_of d)) width
 
 abbrev pub width_of : Drawing → ℕ
-width_of d = width_in d.container (count_of d)
+width_of d = width_in d.container (length (circles_of d))
 
 -- the rows, and the rows with gradients of some width
 abbrev pub rows_of : Drawing → (ℕ → Bool) → Rows

@@ -14,12 +14,12 @@ use geometry::rectangle::Rectangle;
 use sums::rows::write_areas;
 
 // The presence bytes and exclusive areas of a drawing whose sets are given: rows 0 to 2^n - 1 of both slices, for n
-// heads. Refused, where a slice has fewer than 2^n places, nothing is written.
+// heads. Refused, where there are more than ten or a slice has fewer than 2^n places, nothing is written.
 // Slices one by one, here and in `gradients`: with a struct each contract would say beside what they hold that they
 // are the same slices as before.
 pub fn exclusive_areas_of(
     sets: &[u8; 1024],
-    drawing: &Drawing,
+    drawing: &Drawing<'_>,
     presence: &mut [u8],
     exclusives: &mut [f64],
 ) -> Result<(), RowsError>
@@ -34,7 +34,7 @@ pub fn exclusive_areas_of(
     rows_answer(n, presence.len().min(exclusives.len()))?;
     write_areas(
         drawing.bounds(),
-        &drawing.circles,
+        drawing.circles,
         &drawing.points,
         sets,
         exclusives,
@@ -56,7 +56,7 @@ pub fn compute_exclusive_regions(
     ensures exclusives_after { exclusives.new
         ≡ exclusives_left (length circles.now) (open_diagram circles.now) presence.old exclusives.old }
 {
-    let drawing = Drawing::of(circles, None)?;
+    let drawing = Drawing::of(circles, None);
     exclusive_areas_of(&drawing.sets(), &drawing, presence, exclusives)
 }
 
@@ -74,6 +74,6 @@ pub fn compute_exclusive_regions_clipped(
     ensures exclusives_after { exclusives.new
         ≡ exclusives_left (length circles.now) (clipped_diagram container circles.now) presence.old exclusives.old }
 {
-    let drawing = Drawing::of(circles, Some(container))?;
+    let drawing = Drawing::of(circles, Some(container));
     exclusive_areas_of(&drawing.sets(), &drawing, presence, exclusives)
 }

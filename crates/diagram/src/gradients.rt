@@ -17,10 +17,10 @@ use geometry::circle::Circle;
 use geometry::rectangle::Rectangle;
 
 // The presence bytes, exclusive areas and gradients of a drawing whose sets are given: rows 0 to 2^n - 1 of all three
-// slices, for n heads. Refused, where a slice has fewer than 2^n rows, nothing is written.
+// slices, for n heads. Refused, where there are more than ten or a slice has fewer than 2^n rows, nothing is written.
 pub fn exclusive_areas_and_gradients_of(
     sets: &[u8; 1024],
-    drawing: &Drawing,
+    drawing: &Drawing<'_>,
     presence: &mut [u8],
     exclusives: &mut [f64],
     gradients: &mut [f64],
@@ -66,7 +66,7 @@ pub fn compute_exclusive_regions_with_gradient_circles(
         ≡ gradients_left (length circles.now) (open_with_gradients circles.now)
         presence.old exclusives.old gradients.old }
 {
-    let drawing = Drawing::of(circles, None)?;
+    let drawing = Drawing::of(circles, None);
     exclusive_areas_and_gradients_of(&drawing.sets(), &drawing, presence, exclusives, gradients)
 }
 
@@ -90,6 +90,6 @@ pub fn compute_exclusive_regions_clipped_with_gradient(
         ≡ gradients_left (length circles.now) (clipped_with_gradients container circles.now)
         presence.old exclusives.old gradients.old }
 {
-    let drawing = Drawing::of(circles, Some(container))?;
+    let drawing = Drawing::of(circles, Some(container));
     exclusive_areas_and_gradients_of(&drawing.sets(), &drawing, presence, exclusives, gradients)
 }

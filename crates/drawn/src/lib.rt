@@ -2,22 +2,31 @@
 // head of `exact`.
 #![tactic(auto)]
 
-ghost use Rattle.std.specs.Prelude.{◌≡◌};
+ghost use Rattle.std.specs.Prelude.{◌≡◌, map};
+ghost use Rattle.exact.specs.Circle.{circle_of};
 ghost use Rattle.drawn.specs.Drawn.{plan_circles, box_of};
 
 use exact::circle_of;
-use geometry::circle::Circles;
+use geometry::circle::{Circle, Circles};
 use geometry::point::Point;
 use geometry::rectangle::Rectangle;
 use plan::{Ground, Plan};
 
-// The two are functions and no `From`: the types on both sides are those of other crates.
+// These are functions and no `From`: the types on both sides are those of other crates.
+
+// The circles of all ten heads that a plan has room for, those past its count too.
+pub fn circles_of(plan: Plan) -> [Circle; 10]
+    ensures { result ≡ map circle_of plan.heads }
+{
+    plan.heads.map(circle_of)
+}
 
 // The circles of a plan's heads, by head number.
-pub fn circles_of(plan: Plan) -> Circles
+#[tactic(auto, unfolding(crate::specs::Drawn::plan_circles))]
+pub fn plan_circles(plan: Plan) -> Circles
     ensures { result.items ≡ plan_circles plan }
 {
-    let mut circles = Circles::from(plan.heads.map(circle_of));
+    let mut circles = Circles::from(circles_of(plan));
     circles.truncate(plan.n);
     circles
 }

@@ -60,7 +60,7 @@ fn arc(n: u64) -> u64
 }
 
 // low / high in units of 2^-64.
-#[tactic(auto, using(crate::proofs::arctangent::Slope::above_minus_one, crate::proofs::arctangent::Slope::below_top), unfolding(crate::specs::Arctangent::tangent))]
+#[tactic(auto, using(crate::proofs::arctangent::Slope::in_u64), unfolding(crate::specs::Arctangent::tangent))]
 fn tangent(low: f64, high: f64) -> u64
     requires { Ordered low high }
     ensures { result ≡ tangent_of low high }
@@ -74,7 +74,7 @@ fn tangent(low: f64, high: f64) -> u64
 }
 
 // The angle of the point (x, y), neither below zero.
-#[tactic(auto, using(crate::proofs::arctangent::Slope::below_diagonal, crate::proofs::arctangent::Slope::above_diagonal), unfolding(crate::specs::Arctangent::first_quarter))]
+#[tactic(auto, using(crate::proofs::arctangent::Slope::ordered), unfolding(crate::specs::Arctangent::first_quarter))]
 fn first_quarter(x: f64, y: f64) -> u64
     requires { InQuarter x y }
     ensures value { result ≡ first_quarter x y }

@@ -1,7 +1,6 @@
 // The elementary functions below the geometry: root and hypot, sine and cosine, atan2, acos and asin.
 // What stands above knows only their promises, which specs/ states and proofs/ proves.
-// +0 and no None outside a domain: each is a function of the C interface, which answers one number, +0 where the
-// machine's function would give no number.
+// Each is a function of the C interface and answers one number: outside its domain that is +0, and no `None`.
 #![tactic(auto)]
 
 pub mod arctangent;

@@ -63,7 +63,8 @@ fn clamp_rows(present: &Presence, numbers: &mut [f64])
         (λ S. cond (stands P.bytes.now S) (clamp_to_zero (get_or numbers.old S nan)) zero64) (2 ^ P.n) numbers.old }
 {
     let bytes = present.bytes;
-    // By index: a row's byte stands at the index of its number, and so the compiler vectorises the loop.
+    // By index: a row's byte stands at the index of its number. Tried with `zip`, and the proof did not close: of
+    // numbers that are written through a `zip` nothing is known after the loop.
     for s in 0..present.row_count() {
         numbers[s] = clamped(bytes[s], numbers[s]);
     }
@@ -92,6 +93,7 @@ fn write_exclusives(present: &Presence, areas: &[f64], exclusives: &mut [f64])
 
 // The exclusive areas of n heads, from presence bytes and areas. Refused, for more than ten heads or where a table has
 // fewer than 2^n rows, nothing is written.
+// n and the slices one by one, here and in the next: any are accepted, and a `Presence` would ask for the room.
 pub fn to_exclusive_areas(
     present: &[u8],
     areas: &[f64],

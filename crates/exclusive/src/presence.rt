@@ -2,6 +2,8 @@
 ghost use Rattle.std.specs.Prelude.{◌≡◌, ◌≤◌, ◌^◌, length};
 
 // The presence bytes of n heads, one a row; what stands beyond the 2^n rows is not looked at.
+// Its bytes are read as a slice: a method for one row would have a `requires`, which no public function here has, or
+// test each time that there is such a row.
 #[derive(Clone, Copy)]
 pub struct Presence<'a> {
     pub n: usize,

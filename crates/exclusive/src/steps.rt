@@ -12,6 +12,7 @@ use crate::rows::{Rows, row_order};
 
 // The same order of any presence bytes and any number of heads; no rows where there are more than ten heads or fewer
 // than 2^n bytes.
+// No Result and no caller here: any bytes and any n were accepted, and docs/CLAIMS.md names the contract.
 pub fn rows_in_order(present: &[u8], n: usize) -> Rows
     ensures { result.items ≡ cond (eqb (rows_answer n (length present.now)) 0) (row_order (stands present.now) n) [] }
 {

@@ -53,7 +53,8 @@ fn sum_rows<const N: usize>(rows: &[usize], numbers: &[f64], width: usize, k: us
     sums
 }
 
-// The N numbers of a row to be summed next, where number k is the first that is left: those from k on, or the last N.
+// Where the N numbers to be summed next begin, number k of the row being the first that is left: at k, or N before the
+// end of the row.
 fn next_start<const N: usize>(k: usize, width: usize) -> usize
     requires { (N ≤ width) × (k < width) × (0 < N) }
     ensures { (result ≤ k) × (result + N ≡ min (k + N) width) }

@@ -154,7 +154,8 @@ module _ (circles : List Circle) (j : ℕ) (marks : List Mark) where
       let lets = g
       ∙ ap (λ (l : List Mark). gap_letters circles j (phi_at l i) (phi_at l (next_of i (length marks)))) e
       ∙ ap₂ (gap_letters circles j) (phi_kept i i) (phi_kept i (next_of i (length marks))) in
-      ap (λ t. set t i (record { phi = (get_or l i no_mark).phi; adopters = (get_or l i no_mark).adopters; lets = v })) e
+      ap (λ t. set t i
+      (record { phi = (get_or l i no_mark).phi; adopters = (get_or l i no_mark).adopters; lets = v })) e
       ∙ write_next (let_at circles j marks) i marks _ no_mark h
       (rw (here, lets, lt-ltb i (length marks) h, next_is i (length marks) h) refl)
 

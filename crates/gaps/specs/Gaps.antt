@@ -1,5 +1,7 @@
--- Whether a gap between two angles of a head is an arc of a set, and the next place round a head.
-use Rattle.std.specs.Prelude.{ℕ, ◌+◌, Bool, not, ◌&&◌, ◌||◌, List, length, Float}
+-- Whether a gap between two angles of a head is an arc of a set, the next place round a head, and the circle of a head
+-- from its three numbers.
+use Rattle.std.specs.Prelude.{ℕ, ◌+◌, ◌*◌, Bool, not, ◌&&◌, ◌||◌, List, length, get_or, Float}
+use Rattle.std.specs.Float.{nan}
 use Rattle.std.proofs.Math.Bool.{cond}
 use Rattle.std.proofs.Math.Dec.{ltb}
 use Rattle.masks.specs.Mask.{in_set, every}
@@ -25,3 +27,13 @@ is_arc circles S j a b = not (collapsed (gap a b)) && owned_in circles S j (midp
 -- the next place of n, round a circle: the first after the last
 unfoldable pub next_of : ℕ → ℕ → ℕ
 next_of a n = cond (ltb (a + 1) n) (a + 1) 0
+
+-- ---- circles as numbers
+
+-- the circle of head l from the three numbers of each head
+unfoldable pub circle_in : List Float → ℕ → Circle
+circle_in c l =
+    record {
+      center = record { x = get_or c (l * 3) nan; y = get_or c (l * 3 + 1) nan };
+      radius = get_or c (l * 3 + 2) nan;
+    }

@@ -2,6 +2,7 @@
 ghost use Rattle.std.specs.Prelude.{◌≡◌, [], length};
 ghost use Rattle.lists.specs.Lists.{keep};
 ghost use Rattle.intersections.specs.Members.{has_parent, circle_at};
+ghost use Rattle.intersections.specs.Heads.{first_ten};
 ghost use Rattle.gaps.specs.Marks as spec;
 ghost use Rattle.gaps.specs.Marks.{few_points, marks_at, marks_let, head_marked, unmarked};
 
@@ -11,7 +12,8 @@ use crate::places::next;
 use arrayvec::ArrayVec;
 use boundary::angles::{angle_about, probe};
 use boundary::sort::{Mark, Marks, insert};
-use geometry::circle::Circles;
+use geometry::circle::Circle;
+use intersections::members::first_ten;
 use intersections::points::IntersectionPoint;
 
 // What is worked out once a head: its meeting points by angle, each with who lets it have the gap from there to the
@@ -45,7 +47,7 @@ impl HeadOf<'_> {
     #[tactic(auto, using(crate::proofs::Marking::marking))]
     fn fill_marks(self, points: &[IntersectionPoint], marks: &mut Marks)
         requires { marks.old.items ≡ [] }
-        ensures { let all = self.entry.circles.now.items in
+        ensures { let all = self.entry.circles.now in
             marks.new.items ≡ marks_at (circle_at all self.entry.j) self.entry.j points.now }
     {
         let circle = self.circle();
@@ -61,10 +63,11 @@ impl HeadOf<'_> {
         }
     }
 
-    // Who lets it have the gap from each of its marks to the next, written beside the mark.
+    // Who lets it have the gap from each of its marks to the next, written beside the mark. By index: each mark is
+    // written from itself and the next.
     #[tactic(auto, using(crate::proofs::Marking::letting))]
     fn fill_lets(self, marks: &mut [Mark])
-        ensures { marks.new ≡ marks_let self.entry.circles.now.items self.entry.j marks.old }
+        ensures { marks.new ≡ marks_let self.entry.circles.now self.entry.j marks.old }
     {
         for i in 0..marks.len() {
             let to = marks[next(i, marks.len())].phi;
@@ -77,7 +80,7 @@ impl HeadOf<'_> {
     #[tactic(auto, unfolding(crate::specs::Marks::head_marked))]
     fn mark(self, points: &[IntersectionPoint], marked: &mut HeadMarks)
         requires { marked.old ≡ unmarked }
-        ensures { marked.new ≡ head_marked self.entry.circles.now.items points.now self.entry.j }
+        ensures { marked.new ≡ head_marked self.entry.circles.now points.now self.entry.j }
     {
         self.fill_marks(points, &mut marked.marks);
         self.fill_lets(&mut marked.marks);
@@ -85,13 +88,14 @@ impl HeadOf<'_> {
     }
 }
 
-// What is worked out of the heads of `needed`. The others have no mark. Not inlined: the whole list is then copied to
-// its place once, and otherwise twice, which took 130 ns a call more.
+// What is worked out of the heads of `needed` among the first ten. The others have no mark. Not inlined: the whole list
+// is then copied to its place once, and otherwise twice, which took 130 ns a call more.
 #[inline(never)]
 #[tactic(auto, using(crate::proofs::Marking::heading))]
-pub fn heads_marked(circles: &Circles, points: &[IntersectionPoint], needed: usize) -> PlanMarks
-    ensures { result.items ≡ spec.heads_marked circles.now.items points.now needed }
+pub fn heads_marked(circles: &[Circle], points: &[IntersectionPoint], needed: usize) -> PlanMarks
+    ensures { result.items ≡ spec.heads_marked (first_ten circles.now) points.now needed }
 {
+    let circles = first_ten(circles);
     let mut heads = PlanMarks::new();
     // Not an Option: a head that is not needed is in no set that is asked for. Pushed one by one, since `collect` would
     // answer a `Result`, whose error cannot come here.

@@ -1,12 +1,14 @@
 // Which arc a number stands for, and the number of the arc that a gap between two angles of a head is in a set.
 // Rests on specs/Gaps.antt and specs/Numbers.antt.
 ghost use Rattle.std.specs.Prelude.{◌≡◌, ◌+◌, ◌*◌, ◌%◌, ◌^◌};
-ghost use Rattle.gaps.specs.Numbers.{Names, number_of, gap_number};
+ghost use Rattle.intersections.specs.Heads.{first_ten};
+ghost use Rattle.gaps.specs.Numbers.{Names, number_of, first_places, gap_number};
 
 use crate::head::HeadOf;
-use crate::marks::HeadMarks;
 use crate::places::next;
-use geometry::circle::Circles;
+use boundary::sort::Mark;
+use geometry::circle::Circle;
+use intersections::members::{first, first_ten};
 use masks::is_subset;
 
 // How many marks a head has room for, as `Marks` of `boundary` has.
@@ -77,27 +79,34 @@ fn mark_place(head: usize, mark: usize) -> usize
     head.wrapping_mul(MARKS).wrapping_add(mark)
 }
 
-// The number of the arc from the a-th angle of head j to the b-th, if that gap is an arc of the set: between neighbours
-// by who lets the head have it. No arc from or to an angle that the head does not have, and none of a head past the
-// last circle. One number says which arc it is, neighbours or others: what is held of the arcs stands in arrays by the
-// numbers below HELD, and a list of arcs is a list of numbers.
+// The number of the arc from the a-th mark of head j to the b-th, if that gap is an arc of the set: between neighbours
+// by who lets the head have it. No arc from or to a place past the end of the marks, of which the first 32 are read,
+// and none of a head past the last circle, of which the first ten are. n says how many angles there are round the head,
+// and so which place is next. It is not the slice's length: as before, a whole array of places may be handed over, of
+// which the first n stand for angles. Circles and j apart: `HeadOf` asks that j is one of them. One number says which
+// arc it is, neighbours or others: what is held of the arcs stands in arrays by the numbers below HELD, and a list of
+// arcs is a list of numbers. Inlined: called with so many parameters, it took a pass in the box 4 to 9 % more.
+#[inline(always)]
 #[tactic(auto, using(crate::proofs::Numbering::numbering), unfolding(crate::specs::Numbers::gap_number))]
 pub fn gap_number(
     mask: usize,
-    circles: &Circles,
+    circles: &[Circle],
     j: usize,
-    head: &HeadMarks,
+    marks: &[Mark],
+    n: usize,
     a: usize,
     b: usize,
 ) -> Option<usize>
-    ensures { result ≡ gap_number circles.now.items head.now mask j a b }
+    ensures { result ≡ gap_number (first_ten circles.now) (first_places marks.now) n mask j a b }
 {
+    let circles = first_ten(circles);
     if j >= circles.len() {
         return None;
     }
-    let from = head.marks.get(a)?;
-    let to = head.marks.get(b)?;
-    if b == next(a, head.marks.len()) {
+    let marks = first::<MARKS, Mark>(marks);
+    let from = marks.get(a)?;
+    let to = marks.get(b)?;
+    if b == next(a, n) {
         let arc = ArcNumber::Next { head: j, from: a };
         return is_subset(mask, from.lets).then_some(arc.number());
     }

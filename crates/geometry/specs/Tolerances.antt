@@ -6,10 +6,11 @@ use Rattle.binary64.specs.Constants.{ten_to_minus7, ten_to_minus9, ten_to_minus1
 abbrev pub arc_eps : Float
 arc_eps = ten_to_minus9
 
--- Outlines so near to each other coincide: a distance, and the least share of the squared radius.
+-- Outlines so near to each other coincide.
 abbrev pub coincidence : Float
 coincidence = ten_to_minus7
 
+-- How far from 1 the implicit form of a circle may be on its edge is never less than this.
 abbrev pub coincidence_share : Float
 coincidence_share = ten_to_minus12
 
@@ -20,6 +21,6 @@ clip_angle = ten_to_minus12
 abbrev pub clip_box : Float
 clip_box = ten_to_minus9
 
--- Areas up to this count as none.
+-- The Rust's, of a test that is left out here (docs/DIFFERENCES.md).
 abbrev pub epsilon : Float
 epsilon = ten_to_minus10

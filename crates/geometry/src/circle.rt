@@ -37,7 +37,7 @@ impl Circle {
     // Outlines at such a distance from each other coincide.
     pub const BOUNDARY_COINCIDENCE_GEOM_TOL: f64 = 1e-7;
 
-    // That distance as a share of the squared radius is at least this.
+    // How far from 1 the implicit form of a circle may be on its edge is never less than this.
     pub const IMPLICIT_VALUE_FP_TOL: f64 = 1e-12;
 
     // Where an outline meets the box: an angle so near to the end of an arc is the end.
@@ -46,7 +46,8 @@ impl Circle {
     // A point so near to the box is in it.
     pub const CLIP_BOX_TOL: f64 = 1e-9;
 
-    // Areas up to this count as none.
+    // The Rust's, of its third test of a pair in `discover_regions`, which is left out here (docs/DIFFERENCES.md):
+    // nothing reads it.
     pub const EPSILON: f64 = 1e-10;
 
     // The f64 PI.

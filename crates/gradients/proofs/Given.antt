@@ -16,8 +16,10 @@ use Rattle.binary64.specs.Constants.{zero64}
 use Rattle.geometry.specs.Rectangle.{area, bounds}
 use Rattle.geometry.specs.declared.circle.Circle.{Circle}
 use Rattle.geometry.specs.declared.rectangle.Rectangle.{Rectangle}
+use Rattle.intersections.specs.Heads.{first_ten}
 use Rattle.intersections.specs.Members.{heads_of}
 use Rattle.intersections.specs.Points.{collected}
+use Rattle.intersections.proofs.Few.{few_read}
 use Rattle.clip.specs.Gradient.{WithGradient, with_gradient}
 use Rattle.plan.specs.declared.Gradients.{Gradients}
 use Rattle.plan.specs.declared.Plan.{Plan}
@@ -67,6 +69,10 @@ module _ (p : Plan) (ten : length p.heads ≡ 10) (few : p.n ≤ 10) where
   many : length cs ≡ p.n
   many = circles_many p ten few
 
+  -- ten at most: all of them are read
+  read : first_ten cs ≡ cs
+  read = few_read cs (omega (arith, many))
+
   -- the bytes of a plan's sets
   sets : Alike p.n (stands (set_bytes cs (collected cs))) (plan_sets p)
   unfolding plan_sets
@@ -86,7 +92,7 @@ module _ (p : Plan) (ten : length p.heads ≡ 10) (few : p.n ≤ 10) where
 
   pub clipped_agree : Agree p.n (clipped_with_gradients box cs) (clipped_plan plan_sets p)
   unfolding clipped_gradients
-  clipped_agree = record {
+  clipped_agree = rw read (record {
     has_box = refl;
     width = ap (λ (m : ℕ). m * 3 + 4) many;
     sets = sets;
@@ -96,10 +102,10 @@ module _ (p : Plan) (ten : length p.heads ≡ 10) (few : p.n ≤ 10) where
     area = λ S k e. ap (λ (z : WithGradient). z.sum) (set_in_box S);
     row = λ S k e. ap (λ (z : WithGradient). z.grad) (set_in_box S)
         ∙ sym ((clipped-gradients plan_sets p).present S k e);
-  }
+  })
 
   pub open_agree : Agree p.n (open_with_gradients cs) (open_plan plan_sets p)
-  open_agree = record {
+  open_agree = rw read (record {
     has_box = refl;
     width = ap (λ (m : ℕ). 3 * m) many;
     sets = sets;
@@ -109,7 +115,7 @@ module _ (p : Plan) (ten : length p.heads ≡ 10) (few : p.n ≤ 10) where
     row = λ S k e. (plan_by_head p S few).gradient
         ∙ ap (λ (m : ℕ). scatter (heads_of m S) m (open_gradient_row p S)) many
         ∙ sym ((open-gradients plan_sets p).present S k e);
-  }
+  })
 
 -- ---- a call that is taken
 
@@ -135,13 +141,12 @@ agreed n g h t e =
 
 -- the rows are those of a plan
 pub step_left : (which : Gradients) (slopes : Plan → Slopes) (p : Plan) (t : GradientSlices) (g : Slopes)
-    → length p.heads ≡ 10 → (p.n ≤ 10 → Agree p.n g (slopes p)) → g.width ≡ width_of which (length (plan_circles p))
+    → length p.heads ≡ 10 → (p.n ≤ 10 → Agree p.n g (slopes p)) → (slopes p).width ≡ width_of which p.n
     → taken ≡ call_answer p which (lent_gradients t)
     → step_to (left (length (plan_circles p)) g t) taken ≡ gradients_step which slopes p t
 step_left which slopes p t g ten rows wide e =
-    let z = (call_taken p which (lent_gradients t) ten).0 (sym e) in let few = z.0.count in
-    let many = circles_many p ten few in
+    let z = (call_taken p which (lent_gradients t) ten).0 (sym e) in let few = z.0.count in let same = rows few in
     rw (sym e) (ap (λ (l : GradientSlices). step_to l taken)
-    (ap (λ (n : ℕ). left n g t) many
-    ∙ left_is p.n g t few (omega (arith, z.1.0)) (omega (arith, z.1.0)) (rw (wide, many) z.1.1)
-    ∙ agreed p.n g (slopes p) t (rows few)))
+    (ap (λ (n : ℕ). left n g t) (circles_many p ten few)
+    ∙ left_is p.n g t few (omega (arith, z.1.0)) (omega (arith, z.1.0)) (rw (same.width, wide) z.1.1)
+    ∙ agreed p.n g (slopes p) t same))

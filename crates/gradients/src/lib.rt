@@ -13,11 +13,12 @@ use diagram::gradients::{
     compute_exclusive_regions_clipped_with_gradient,
     compute_exclusive_regions_with_gradient_circles,
 };
-use drawn::{box_of, circles_of};
+use drawn::{box_of, plan_circles};
 use plan::check::check_call;
 use plan::{Answer, Gradients, Lent, Plan};
 
-// What a call over these slices lends.
+// What a call over these slices lends. Apart from `lent_by` of `table`, which is over four lengths and no gradients:
+// one for both would take an array of lengths and fold it, where these take `min`.
 fn lent_by(presence: usize, exclusives: usize, gradients: usize) -> Lent
     ensures { result ≡ lent_by (presence ∷ exclusives ∷ []) gradients }
 {
@@ -43,7 +44,7 @@ pub fn gradients(
 {
     let lent = lent_by(presence.len(), exclusives.len(), gradients.len());
     check_call(plan, Gradients::Clipped, lent)?;
-    let circles = circles_of(plan);
+    let circles = plan_circles(plan);
     let container = box_of(plan.ground);
     // The plan's checks have asked for the same room.
     let _ = compute_exclusive_regions_clipped_with_gradient(
@@ -65,7 +66,7 @@ pub fn open_gradients(
 {
     let lent = lent_by(presence.len(), exclusives.len(), gradients.len());
     check_call(plan, Gradients::Open, lent)?;
-    let circles = circles_of(plan);
+    let circles = plan_circles(plan);
     // The plan's checks have asked for the same room.
     let _ = compute_exclusive_regions_with_gradient_circles(
         &circles, presence, exclusives, gradients,

@@ -44,7 +44,8 @@ pub enum Relation {
     Identical,
 }
 
-// Whether an x or y of a head or of the box is within the limits.
+// Whether an x or y of a head or of the box is within the limits. This and the next two differ in their limits only:
+// each is a definition of its own, and `plan` asks them by name.
 pub fn position_in_limits(v: i32) -> bool
     ensures { result ≡ position_in_limits v }
 {
@@ -90,7 +91,7 @@ pub fn relation_at(d: u64, r1: u32, r2: u32) -> Relation
 }
 
 // Each case's place in the list apart, touching outside, crossing, touching inside, holding, identical.
-// A function and no `From`: docs/CLAIMS.md names its contract, and nothing here converts.
+// A function and no `From`: no program here calls it, and docs/CLAIMS.md names its contract.
 pub fn relation_number(r: Relation) -> usize
     ensures { result ≡ number r }
 {

@@ -1,10 +1,14 @@
 -- The heads of a set as a list, each with its number and its circle: what stands between circles and the members of a set.
-use Rattle.std.specs.Prelude.{ℕ, ◌≡◌, List, map, length}
+use Rattle.std.specs.Prelude.{ℕ, ◌≡◌, List, map, take, length}
 use mathlib.Core.List.{map-map}
 use Rattle.geometry.specs.declared.circle.Circle.{Circle}
 use Rattle.intersections.specs.declared.points.IntersectionPoint.{IntersectionPoint}
 use Rattle.intersections.specs.declared.members.HeadCircle.{HeadCircle}
 use Rattle.intersections.specs.Members.{Member, heads_of, circle_at, points_for, members_of}
+
+-- what is read of a list of circles or heads of any length: no plan has more than ten
+abbrev pub first_ten : {A : Type 0} → List A → List A
+first_ten list = take 10 list
 
 -- head j with its circle
 abbrev pub head_circle : List Circle → ℕ → HeadCircle

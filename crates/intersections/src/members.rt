@@ -1,8 +1,8 @@
 // The heads of a set, in order, and which points are counted for it there. Rests on specs/Members.antt.
-ghost use Rattle.std.specs.Prelude.{◌≡◌};
+ghost use Rattle.std.specs.Prelude.{◌≡◌, ◌≤◌, length, take};
 ghost use Rattle.std.specs.Int.Count.{ones};
 ghost use Rattle.intersections.specs.Members.{counted_for};
-ghost use Rattle.intersections.specs.Heads.{heads_with, circle_list};
+ghost use Rattle.intersections.specs.Heads.{first_ten, heads_with, circle_list};
 
 use crate::points::IntersectionPoint;
 use arrayvec::ArrayVec;
@@ -19,10 +19,28 @@ pub struct HeadCircle {
 // The heads of a set, in order.
 pub type Members = ArrayVec<HeadCircle, 10>;
 
+// The first N of a list of any length, or all of them: what is read where there is room for N.
+pub fn first<const N: usize, T>(list: &[T]) -> &[T]
+    ensures value { result.now ≡ take N list.now }
+    ensures most { length result.now ≤ N }
+{
+    &list[..list.len().min(N)]
+}
+
+// What is read of a list of circles or heads of any length: no plan has more than ten. A slice, and no struct that
+// holds the bound: it would be taken apart at each index, and made anew for the slices of `Parents` and the like.
+pub fn first_ten<T>(list: &[T]) -> &[T]
+    ensures value { result.now ≡ first_ten list.now }
+    ensures most { length result.now ≤ 10 }
+{
+    first::<10, T>(list)
+}
+
 // The heads of a set among these circles, one after another. Pushed one by one: `collect` would answer a `Result`,
 // whose error cannot come here.
-fn gathered_members(mask: usize, circles: &Circles) -> Members
-    ensures { result.items ≡ heads_with circles.now.items mask }
+fn gathered_members(mask: usize, circles: &[Circle]) -> Members
+    requires { length circles.now ≤ 10 }
+    ensures { result.items ≡ heads_with circles.now mask }
 {
     let mut members = Members::new();
     for (head, &circle) in circles.iter().enumerate() {
@@ -35,9 +53,9 @@ fn gathered_members(mask: usize, circles: &Circles) -> Members
 
 // The head of a set of one, if it is among these circles: its trailing zeros say which.
 // Apart from any other set: the trailing zeros of a single are a form that docs/DECISIONS.md names.
-fn single_member(mask: usize, circles: &Circles) -> Members
+fn single_member(mask: usize, circles: &[Circle]) -> Members
     requires { ones mask ≡ 1 }
-    ensures { result.items ≡ heads_with circles.now.items mask }
+    ensures { result.items ≡ heads_with circles.now mask }
 {
     let mut members = Members::new();
     let head = mask.trailing_zeros() as usize;
@@ -47,10 +65,11 @@ fn single_member(mask: usize, circles: &Circles) -> Members
     members
 }
 
-// The heads of a set among these circles.
-pub fn members_of(mask: usize, circles: &Circles) -> Members
-    ensures { result.items ≡ heads_with circles.now.items mask }
+// The heads of a set among these circles. Of more than ten the first ten are read.
+pub fn members_of(mask: usize, circles: &[Circle]) -> Members
+    ensures { result.items ≡ heads_with (first_ten circles.now) mask }
 {
+    let circles = first_ten(circles);
     if mask.count_ones() == 1 {
         single_member(mask, circles)
     } else {

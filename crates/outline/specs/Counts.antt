@@ -1,5 +1,5 @@
--- How many: at most 18 points are counted at one of ten heads, and so an outline has at most 180 arcs. The room that
--- the code has for arcs is never short.
+-- How many: of the meeting points of ten circles at most 18 are counted at a head, and so an outline has at most 180
+-- arcs. For these the room that the code has for arcs is never short.
 use Rattle.std.specs.Prelude.{◌≡◌, List, [], ◌∷◌, map, ℕ, suc, ◌*◌, ◌≤◌, ◌<◌, length, Float}
 use Rattle.std.proofs.Common.{arith, length-append, take_all}
 use Rattle.std.proofs.lemmas.List.{length-map}
@@ -69,7 +69,8 @@ outline_few cs S h =
     let each = every_map js (λ j g. held cs S j h g) (heads_below (length cs) S) in
     let member = member_at cs (collected cs) S in
     let ms : List Member = map member js in
-    let all = members_arcs 18 (omega arith) (circles_of ms) 0 ms (every_mapped (λ m. length m.points ≤ 18) member js each) in
+    let all = members_arcs 18 (omega arith) (circles_of ms) 0 ms
+    (every_mapped (λ m. length m.points ≤ 18) member js each) in
     omega (
       arith,
       outline_le 18 (omega arith) ms all,

@@ -2,11 +2,12 @@
 ghost use Rattle.std.specs.Prelude.{◌≡◌};
 ghost use Rattle.outline.specs.Area.{arc_terms, add_arc, area_of, open_area};
 ghost use Rattle.intersections.specs.Members.{members_of};
+ghost use Rattle.intersections.specs.Heads.{first_ten};
 
 use crate::terms::{add_three, terms_of};
 use boundary::arcs::BoundaryArc;
 use boundary::walk::outline_of;
-use geometry::circle::{Circle, Circles};
+use geometry::circle::Circle;
 use intersections::members::{circles_of, members_of};
 use intersections::points::IntersectionPoint;
 
@@ -40,11 +41,11 @@ pub fn area_from_boundary_arcs(arcs: &[BoundaryArc], circles: &[Circle]) -> f64
     0.5 * sum
 }
 
-// The area that the heads of a set water together. Set, circles and points one by one, here and in `clip`, as the
-// Rust's functions have them.
-#[tactic(auto, using(crate::proofs::Walking::open_area_is))]
-pub fn region_area(mask: usize, circles: &Circles, points: &[IntersectionPoint]) -> f64
-    ensures { result ≡ open_area (members_of circles.now.items points.now mask) }
+// The area that the heads of a set water together; of the circles the first ten are read. Set, circles and points one
+// by one, here and in `clip`, as the Rust's functions have them.
+#[tactic(auto, using(crate::proofs::Walking::open_area_is, intersections::proofs::Few::few_read))]
+pub fn region_area(mask: usize, circles: &[Circle], points: &[IntersectionPoint]) -> f64
+    ensures { result ≡ open_area (members_of (first_ten circles.now) points.now mask) }
 {
     let set = members_of(mask, circles);
     let arcs = outline_of(mask, &set, points);

@@ -2,10 +2,11 @@
 // boundary/specs/Set.antt.
 ghost use Rattle.std.specs.Prelude.{◌≡◌, map, take};
 ghost use Rattle.boundary.specs.Set.{numbered, arcs_held, region_arcs};
+ghost use Rattle.intersections.specs.Heads.{first_ten};
 
 use boundary::arcs::{Arcs, BoundaryArc};
 use boundary::walk::outline_of;
-use geometry::circle::Circles;
+use geometry::circle::Circle;
 use intersections::members::{HeadCircle, members_of};
 use intersections::points::IntersectionPoint;
 
@@ -31,10 +32,10 @@ fn numbered_arcs(arcs: &[BoundaryArc], set: &[HeadCircle]) -> Arcs
     all
 }
 
-// The arcs of a set's outline, in order, each with its head's number.
-#[tactic(auto, using(crate::proofs::Walking::region_arcs_are))]
-pub fn region_boundary_arcs(mask: usize, circles: &Circles, points: &[IntersectionPoint]) -> Arcs
-    ensures { result.items ≡ region_arcs circles.now.items points.now mask }
+// The arcs of a set's outline, in order, each with its head's number. Of the circles the first ten are read.
+#[tactic(auto, using(crate::proofs::Walking::region_arcs_are, intersections::proofs::Few::few_read))]
+pub fn region_boundary_arcs(mask: usize, circles: &[Circle], points: &[IntersectionPoint]) -> Arcs
+    ensures { result.items ≡ region_arcs (first_ten circles.now) points.now mask }
 {
     let set = members_of(mask, circles);
     let arcs = outline_of(mask, &set, points);

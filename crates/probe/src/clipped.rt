@@ -20,7 +20,7 @@ use intersections::members::members_of;
 
 // The span of the edge at y from x_min to x_max.
 #[unsafe(no_mangle)]
-#[tactic(auto, using(intersections::specs::Heads::circles_with_heads))]
+#[tactic(auto, using(intersections::specs::Heads::circles_with_heads, intersections::proofs::Few::few_read))]
 pub extern "C" fn probe_horizontal_span(
     circles: Circles,
     n_sets: usize,
@@ -37,7 +37,7 @@ pub extern "C" fn probe_horizontal_span(
 
 // The span of the edge at x from y_min to y_max.
 #[unsafe(no_mangle)]
-#[tactic(auto, using(intersections::specs::Heads::circles_with_heads))]
+#[tactic(auto, using(intersections::specs::Heads::circles_with_heads, intersections::proofs::Few::few_read))]
 pub extern "C" fn probe_vertical_span(
     circles: Circles,
     n_sets: usize,

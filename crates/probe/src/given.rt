@@ -1,14 +1,14 @@
 // Circles, meeting points, arcs and spans as the differential run hands them over and gets them, as C lays them out.
 // Rests on specs/Handed.antt.
-ghost use Rattle.std.specs.Prelude.{◌≡◌, ◌<◌};
+ghost use Rattle.std.specs.Prelude.{◌≡◌};
 ghost use Rattle.inside.specs.Span.{spans};
 ghost use Rattle.probe.specs.Handed as spec;
 
 use crate::Extents;
 use boundary::arcs::BoundaryArc;
+use gaps::places::circle_at;
 use geometry::bounds::Bounds;
-use geometry::circle::{self, Circle};
-use geometry::point::Point;
+use geometry::circle;
 use inside::span::Span;
 use intersections::points::IntersectionPoint;
 use std::array;
@@ -50,26 +50,11 @@ pub struct Ends {
     pub high: f64,
 }
 
-// Circle i of them.
-// By place and not by `as_chunks`: the definition has number k of circle i at 3 i + k, and that speaks of lists of
-// lists.
-#[tactic(auto, unfolding(crate::specs::Handed::circle_of))]
-fn circle_of(c: Circles, i: usize) -> Circle
-    requires { i < 10 }
-    ensures { result ≡ spec.circle_of c.numbers i }
-{
-    let at = i * 3;
-    Circle::new(
-        Point::new(c.numbers[at], c.numbers[at + 1]),
-        c.numbers[at + 2],
-    )
-}
-
 // The first n of them.
 pub(crate) fn circles_of(c: Circles, n: usize) -> circle::Circles
     ensures { result.items ≡ spec.circles c.numbers n }
 {
-    let mut circles = circle::Circles::from(array::from_fn(|i| circle_of(c, i)));
+    let mut circles = circle::Circles::from(array::from_fn(|i| circle_at(&c.numbers, i)));
     circles.truncate(n);
     circles
 }

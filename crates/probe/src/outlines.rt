@@ -24,6 +24,7 @@ pub extern "C" fn probe_wrap_angle(x: f64) -> f64
 }
 
 // The meeting points of the circles.
+// This and the next are over what C hands over, as the definitions of specs/Handed.antt that the contracts here name.
 pub(crate) fn points_of(circles: Circles, n_sets: usize) -> Intersections
     ensures { result.items ≡ spec.points circles.numbers n_sets }
 {

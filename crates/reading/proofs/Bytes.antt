@@ -8,10 +8,7 @@ use lib.Ieee.{Float}
 use lib.ListN.{length, get_or, take}
 use Rattle.std.proofs.lemmas.List.{take_more}
 use Rattle.std.proofs.Common.{Option, None, Some, Ok, Err}
-use Rattle.plan.specs.declared.Edit.{Edit}
 use Rattle.plan.specs.declared.Plan.{Plan}
-use Rattle.plan.specs.declared.Refused.{Refused}
-use Rattle.plan.specs.Table as Table
 use Rattle.plan.specs.Table.{Answered, number_of}
 use Rattle.file.specs.declared.reader.Completed.{Completed}
 use Rattle.file.specs.declared.reader.Completed.TheVariants.{ThePlan, AnEdit}
@@ -19,9 +16,9 @@ use Rattle.file.specs.declared.reader.Reader.{Reader}
 use Rattle.file.specs.File.{File, ends, read_file}
 use Rattle.file.specs.Reader.{start, step, finish, feed, handing, handed_over}
 use Rattle.file.proofs.Same.{reader_reads}
-use Rattle.regions.specs.Slices.{LentTables, PlanSlices, step_of, afresh_slices, edit_slices}
+use Rattle.regions.specs.Slices.{LentTables, PlanSlices}
 use Rattle.regions.specs.Table.{Method}
-use Rattle.printing.specs.Rows.{table_lines, refusal_line}
+use Rattle.printing.specs.Rows.{table_lines}
 use Rattle.printing.specs.Text.{Printed}
 use Rattle.printing.proofs.Lines.{lines_few, refusal_few}
 use Rattle.reading.specs.Whole.{over, no_plan, file_left, file_answer, plan_lines, printed_for}
@@ -116,31 +113,7 @@ module _ (m : Method) where
       → state_of r' d' ≡ read_byte m (state_of r d) b
   byte_read r r' d d' b e q = ap (state_of r') q ∙ ap (λ x. state_of x (handed_to m x.handed x.plan d)) e
 
-  -- what a byte hands out, as the code takes it to the tables
-  pub handed_nothing : (h : Option Completed) (p : Plan) (d : PlanSlices) → h ≡ None → d ≡ handed_to m h p d
-  unfolding handed_to
-  handed_nothing h p d e = rw e
-
-  pub handed_plan : (h : Option Completed) (p : Plan) (d left : PlanSlices) (a : Answered) → h ≡ Some ThePlan
-      → step_of left a ≡ afresh_slices m (over d.tables p)
-      → left ≡ handed_to m h p d
-  unfolding handed_to
-  handed_plan h p d left a e q = rw e (ap (λ x. x.left) q)
-
-  pub handed_edit : (h : Option Completed) (p : Plan) (d left : PlanSlices) (e : Edit) (a : Answered)
-      → h ≡ Some (AnEdit e) → step_of left a ≡ edit_slices m d e
-      → left ≡ handed_to m h p d
-  unfolding handed_to
-  handed_edit h p d left e a q s = rw q (ap (λ x. x.left) s)
-
 -- ---- what is printed, as the code prints it
-
-pub taken_printed : (a : Answered) (lines : List ℕ) → a ≡ Table.taken → lines ≡ printed_for a lines
-taken_printed a lines e = rw e
-
-pub refused_printed : {r : Refused} (a : Answered) (lines : List ℕ) (k : ℕ) → a ≡ Err r → k ≡ number_of r.refusal
-    → refusal_line k r.at ≡ printed_for a lines
-refused_printed {r = r} a lines k e q = rw e (ap (λ n. refusal_line n r.at) q)
 
 pub printed_as : {text text' out left : List ℕ} {count : ℕ} → text ≡ text' → Printed text out left count
     → Printed text' out left count

@@ -13,7 +13,6 @@ use Rattle.file.specs.Reader.{start, step, finish, feed}
 use Rattle.regions.specs.Slices.{LentTables, PlanSlices, afresh_answer, afresh_slices, edit_slices}
 use Rattle.regions.specs.Table.{Method}
 use Rattle.printing.specs.Rows.{table_lines}
-use Rattle.table.specs.Tables.{plan_tables}
 use Rattle.reading.specs.declared.feeding.Reading.{Reading}
 use Rattle.reading.specs.Whole.{over, no_plan, file_left, file_answer, printed_for, file_printed}
 
@@ -27,9 +26,9 @@ pub record State : Type 0 where
 abbrev pub state_of : Reader → PlanSlices → State
 state_of r d = record { reader = r; left = d }
 
--- that of the code
-abbrev pub state_in : Reading → State
-state_in r = state_of r.reader (plan_tables r.plan r.tables)
+-- that of the code, over the tables that it is handed
+abbrev pub state_in : Reading → LentTables → State
+state_in r t = state_of r.reader (over t r.plan)
 
 -- before the first byte
 abbrev pub begun : LentTables → State

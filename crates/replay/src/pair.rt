@@ -5,12 +5,12 @@
 // and their number (18); then 1 for yes: the first contains the second (19), contains the second's
 // centre (20), intersects the second (21); and the area that the two share (22).
 use crate::numbers::{float, same_all};
-use crate::plans::circle_at;
+use crate::plans::circle_of;
 use geometry::circle::Circle;
 use geometry::meeting::Meeting;
 use geometry::rectangle::Rectangle;
 
-// The places 14 to 18.
+// The places 14 to 18. (No `From`, here and in `clipped`: neither type is of this crate.)
 fn met(m: Meeting) -> [f64; 5] {
     match m {
         Meeting::None => [0.0; 5],
@@ -42,8 +42,9 @@ fn same_measures(a: Circle, b: Circle, words: &[u64]) -> bool {
 
 // Whether all answers on the line are ours.
 pub(crate) fn agrees(words: &[u64; 40]) -> bool {
-    let a = circle_at(words, 1);
-    let b = circle_at(words, 4);
+    let (threes, _) = words[1..].as_chunks::<3>();
+    let a = circle_of(threes[0]);
+    let b = circle_of(threes[1]);
     let ours = [
         yes(a.contains(b)),
         yes(a.contains_point(b.center)),

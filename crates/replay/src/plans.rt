@@ -1,8 +1,6 @@
 // The plan and the box that the lines after them are about. A line H begins a plan: the number of
 // its circles (place 1), from 1 to 10, and x, y and radius of each (from 2 on). A line X gives it a
 // box: x_min, x_max, y_min, y_max (1 to 4).
-ghost use Rattle.std.specs.Prelude.{◌<◌};
-
 use crate::numbers::float;
 use geometry::bounds::Bounds;
 use geometry::circle::{Circle, Circles};
@@ -12,7 +10,8 @@ use intersections::points::Intersections;
 use std::array;
 use stored::line::Line;
 
-// The circles, their meeting points, and the box, where it is given.
+// The circles, their meeting points, and the box, where it is given. (As `Ready` of `table`, which is private there and
+// is made of a plan of whole numbers.)
 #[derive(Drop)]
 pub struct Plan {
     pub circles: Circles,
@@ -20,12 +19,9 @@ pub struct Plan {
     pub bounds: Option<Bounds>,
 }
 
-// The circle whose x stands at this place.
-pub(crate) fn circle_at(words: &[u64; 40], at: usize) -> Circle
-    requires { at < 38 }
-{
-    let center = Point::new(float(words[at]), float(words[at + 1]));
-    Circle::new(center, float(words[at + 2]))
+// The circle of three numbers.
+pub(crate) fn circle_of([x, y, radius]: [u64; 3]) -> Circle {
+    Circle::new(Point::new(float(x), float(y)), float(radius))
 }
 
 // The plan that a line H begins, with no box: none, if the line is malformed.
@@ -35,7 +31,8 @@ fn begun(line: &Line) -> Option<Plan> {
     if !(1..=10).contains(&n) || line.last != 1 + n * 3 {
         return None;
     }
-    let mut circles = Circles::from(array::from_fn(|i| circle_at(words, 2 + i * 3)));
+    let (threes, _) = words[2..].as_chunks::<3>();
+    let mut circles = Circles::from(array::from_fn(|i| circle_of(threes[i])));
     circles.truncate(n);
     let points = collect_intersections(&circles);
     Some(Plan {

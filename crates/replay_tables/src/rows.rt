@@ -101,7 +101,8 @@ impl Table {
         row.len() <= numbers.len() && row.iter().zip(numbers).all(|(x, bits)| same(*x, *bits))
     }
 
-    // Whether row s has this presence byte throughout, and +0 throughout where it is absent.
+    // Whether row s has this presence byte throughout, and +0 throughout where it is absent. (A byte, as the tables
+    // have.)
     pub(crate) fn same_absence(&self, s: usize, presence: u8) -> bool {
         s < 1024
             && self.areas.presence[s] == presence

@@ -10,11 +10,11 @@
 //   F  of a set (1) the same without the box, 3n numbers
 //   O  the area that all heads water together (1)
 //   M  of any mask of heads (1) the area that they water together (2)
-ghost use Rattle.std.specs.Prelude.{◌<◌, ◌≤◌};
+ghost use Rattle.std.specs.Prelude.{◌≤◌};
 
 use crate::numbers::{listed, signed};
 use crate::rows::Table;
-use drawn::circles_of;
+use drawn::plan_circles;
 use heads::Head;
 use overlaps::overlaps::{compute_overlaps_circles, compute_overlaps_of};
 use plan::{Ground, Plan, rows_needed};
@@ -22,20 +22,19 @@ use std::array;
 use stored::line::Line;
 use stored::numbers::same;
 
-// The head whose x stands at this place.
-fn head_at(words: &[u64; 40], at: usize) -> Head
-    requires { at < 38 }
-{
+// The head of three numbers.
+fn head_of([x, y, radius]: [u64; 3]) -> Head {
     Head {
-        x: signed(words[at]),
-        y: signed(words[at + 1]),
-        radius: signed(words[at + 2]),
+        x: signed(x),
+        y: signed(y),
+        radius: signed(radius),
     }
 }
 
 // The plan of a line H.
 fn plan_of(words: &[u64; 40]) -> Plan {
     let [_, n, x, y, width, height, ..] = *words;
+    let (threes, _) = words[6..].as_chunks::<3>();
     Plan {
         ground: Ground {
             x: signed(x),
@@ -44,7 +43,7 @@ fn plan_of(words: &[u64; 40]) -> Plan {
             height: signed(height),
         },
         n: n as usize,
-        heads: array::from_fn(|i| head_at(words, 6 + i * 3)),
+        heads: array::from_fn(|i| head_of(threes[i])),
     }
 }
 
@@ -124,8 +123,8 @@ impl Held {
             b'U' => s < masks && self.open.same_row(words, s),
             b'G' => self.clipped.same_slopes(words, s),
             b'F' => self.open.same_slopes(words, s),
-            b'O' => same(compute_overlaps_circles(&circles_of(plan)), words[1]),
-            b'M' => same(compute_overlaps_of(s, &circles_of(plan)), words[2]),
+            b'O' => same(compute_overlaps_circles(&plan_circles(plan)), words[1]),
+            b'M' => same(compute_overlaps_of(s, &plan_circles(plan)), words[2]),
             _ => false,
         }
     }

@@ -38,30 +38,38 @@ impl fmt::Display for Trouble {
 
 // Reads to the end of the input, which is a read of no byte, and feeds what comes to the tables. A read that fails is
 // an error, and no read of no byte. A proved loop has to end: it counts up to a number that no input uses up.
-fn read_all<'a, I: Read>(from: &mut I, tables: Tables<'a>) -> Result<Reading<'a>, Trouble>
+fn read_all<I: Read>(from: &mut I, tables: &mut Tables<'_>) -> Result<Reading, Trouble>
     ensures { IfOk result (λ reading. IfSome (I.remaining from.old)
-        (λ xs. AfterBytes clipped_table (tables_in tables.entry) xs (state_in reading))) }
+        (λ xs. AfterBytes clipped_table (tables_in tables.old) xs (state_in reading (tables_in tables.new)))) }
 {
-    let mut reading = Reading::begin(tables);
+    let mut reading = Reading::begin();
     let mut buffer = [0u8; 65536];
     for _ in 0..u64::MAX {
         let n = from.read(&mut buffer).map_err(|_| Trouble::Unread)?;
         if n == 0 {
             return Ok(reading);
         }
-        reading.feed(&buffer[..n]);
+        reading.feed(&buffer[..n], tables);
     }
     Err(Trouble::Endless)
 }
 
 // What the whole file prints, put together first and then written at once. A slice and a count, as `printing` writes.
-fn print<O: Write>(out: &mut O, reading: &Reading<'_>) -> Result<(), Trouble>
-    ensures ok { OnOk result ((t : LentTables) (s : List ℕ) → AfterBytes clipped_table t s (state_in reading.now)
+fn print<O: Write>(out: &mut O, reading: Reading, tables: &Tables<'_>) -> Result<(), Trouble>
+    ensures ok { OnOk result ((t : LentTables) (s : List ℕ)
+        → AfterBytes clipped_table t s (state_in reading (tables_in tables.now))
         → Appends (O.contents out.old) (O.contents out.new) (file_printed clipped_table t (read_file s))) }
     ensures err { IfErr result (λ e. e ≡ Trouble.Unwritten) }
 {
     let mut text = [0u8; 21504];
-    let n = print_file(reading, &mut text);
+    let n = print_file(
+        reading,
+        tables.presence,
+        tables.rows,
+        tables.exclusive_presence,
+        tables.exclusives,
+        &mut text,
+    );
     out.write_all(&text[..n]).map_err(|_| Trouble::Unwritten)
 }
 
@@ -73,14 +81,14 @@ fn run<I: Read, O: Write>(from: &mut I, out: &mut O) -> Result<(), Trouble>
     ensures untouched { IfErr result (λ e. e ≢ Trouble.Unwritten
         → Keeps (O.contents out.old) (O.contents out.new)) }
 {
-    let tables = Tables {
+    let mut tables = Tables {
         presence: &mut [0; 1024],
         rows: &mut [0.0; 1024],
         exclusive_presence: &mut [0; 1024],
         exclusives: &mut [0.0; 1024],
     };
-    let reading = read_all(from, tables)?;
-    print(out, &reading)
+    let reading = read_all(from, &mut tables)?;
+    print(out, reading, &tables)
 }
 
 // No Result: the program ends with 0 whatever happened, and `tools/rows` gives the status (docs/DECISIONS.md).

@@ -28,6 +28,7 @@ impl Heads {
     }
 
     // For each head the heads that pass the test with it, as a mask.
+    // An array, 0 past n, and no list: `add_points` has one too, and notes there any parent below ten.
     pub(crate) fn masks<F: Fn(usize, usize) -> bool>(self, test: F) -> [usize; 10]
         requires { (i j : ℕ) → i < self.n → j < self.n → F.pre test i j }
         ensures { (p : ℕ → ℕ → Bool) → AnswersBothAs self.n (F.post test) p

@@ -95,6 +95,7 @@ impl Levels<'_> {
         ensures { found.new ≡ marked (joined_below self.now.heads.n (stands found.old)
             (mask_of self.now.overlapping.now) (mask_of self.now.containing.now) (2 ^ self.now.heads.n)) found.old }
     {
+        // Bytes, as the masks found are: `add_pairs` marks both.
         let mut level = [0u8; 1024];
         // The first level: the pairs found.
         self.heads

@@ -22,7 +22,8 @@ use Rattle.gaps.specs.Marks.{Few, few_points}
 -- every point of a head is counted for the set of nobody
 counted_all : (j : ℕ) (q : IntersectionPoint) → counted_for 0 j q ≡ has_parent j q
 unfolding counted_for
-counted_all j q = rw ((subset_yes 64 0 q.adopters (pow_pos 64)).1 (λ i. omega (arith, bit_of_zero i))) (and-true (has_parent j q))
+counted_all j q =
+    rw ((subset_yes 64 0 q.adopters (pow_pos 64)).1 (λ i. omega (arith, bit_of_zero i))) (and-true (has_parent j q))
 
 keep_same : (j : ℕ) (l : List IntersectionPoint) → keep (counted_for 0 j) l ≡ keep (has_parent j) l
 unfolding keep
@@ -33,7 +34,8 @@ pub few_collected : (cs : List Circle) → length cs ≤ 10 → Few cs (collecte
 few_collected cs h j k = omega (arith, counted_few cs 0 j h k, ap length (keep_same j (collected cs)))
 
 -- and so are any that pass the test
-pub few_means : (cs : List Circle) (points : List IntersectionPoint) → few_points (length cs) points ≡ true → Few cs points
+pub few_means : (cs : List Circle) (points : List IntersectionPoint) → few_points (length cs) points ≡ true
+    → Few cs points
 unfolding few_points
 few_means cs points e j h =
     ltb-false points_held (length (keep (has_parent j) points))

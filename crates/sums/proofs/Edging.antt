@@ -6,14 +6,26 @@ use lib.ListN.{length}
 use lib.Ieee.{Float}
 use Rattle.geometry.specs.declared.bounds.Bounds.{Bounds}
 use Rattle.geometry.specs.declared.circle.Circle.{Circle}
+use Rattle.intersections.specs.Heads.{first_ten}
 use Rattle.intersections.specs.Members.{heads_of, circle_at}
+use Rattle.intersections.proofs.Few.{few_read}
 use Rattle.inside.specs.Edges.{box_edges, factor_of, across_of}
 use Rattle.clip.specs.Area.{add_span, add_edges}
 use Rattle.clip.specs.Gradient.{WithGradient, add_span_with_gradient, add_edges_with_gradient}
 use Rattle.chords.specs.declared.fill.Chords.{Chords}
-use Rattle.chords.specs.Chords.{Chorded}
+use Rattle.chords.specs.Chords.{held_of, chords_of, Chorded}
+use Rattle.chords.proofs.Ends.{filled_chorded}
 use Rattle.chords.proofs.Spanning.{edge_is}
+use Rattle.sums.specs.declared.pass.Pass.{Pass}
 use Rattle.sums.specs.Edges.{edges_from, edges_with_gradient_from}
+
+-- the circles of a pass are few enough to be read whole: each needed head of it has its chords
+pub pass_chorded : (pass : Pass) (box : Bounds) (chords : Chords)
+    → map held_of chords.edges ≡ map (chords_of box (first_ten pass.circles.now) pass.needed) box_edges
+    → Chorded box pass.circles.now pass.needed chords
+pass_chorded pass box chords filled =
+    rw (few_read pass.circles.now pass.ten)
+    at (filled_chorded box (first_ten pass.circles.now) pass.needed chords filled)
 
 -- two folds of which each step does the same
 fold_same : {S A : Type 0} (f g : S → A → S) → ((s : S) (a : A) → f s a ≡ g s a) → (l : List A) (s : S)

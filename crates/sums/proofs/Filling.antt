@@ -10,7 +10,8 @@ use lib.Dec.{ltb, eqb}
 use lib.ListN.{length, get_or, set, length-set, length-append, get_or-eq_default}
 use lib.Seq.{get_or-set_same, get_or-set_other}
 use Rattle.std.specs.List.{Contains}
-use Rattle.std.proofs.lemmas.List.Elements.{Contains-append_left, Contains-push, Contains-push_cases, Contains-append_cases}
+use Rattle.std.proofs.lemmas.List.Elements.{Contains-append_left, Contains-push}
+use Rattle.std.proofs.lemmas.List.Elements.{Contains-push_cases, Contains-append_cases}
 use Rattle.masks.specs.Mask.{in_set}
 use Rattle.std.proofs.lemmas.List.{get_or_default}
 use Rattle.std.specs.Int.Bits.{bit_and}
@@ -98,12 +99,12 @@ module _ (pass : Pass) where
       standing_near pass.needed heads p u ∙ le-ltb (p % 32) (length (marks_of heads (p / 32))) (omega (arith, none))
 
   -- and the last whole circle
-  pub whole_past : (p : ℕ) → 320 + length pass.circles.now.items ≤ p → p < 330
+  pub whole_past : (p : ℕ) → 320 + length pass.circles.now ≤ p → p < 330
       → standing pass.needed pass.heads.now.items p ≡ false
   whole_past p l u =
       standing_whole pass.needed heads p (omega (arith, l))
       ∙ in_of_zero pass.needed (p - 320)
-      (bit_beyond (length pass.circles.now.items) pass.needed (p - 320) pass.below (omega (arith, l)))
+      (bit_beyond (length pass.circles.now) pass.needed (p - 320) pass.below (omega (arith, l)))
 
   -- the whole circle of head j
   whole_is : (j : ℕ) → standing pass.needed pass.heads.now.items (320 + j) ≡ in_set pass.needed j
@@ -146,7 +147,8 @@ module _ {A : Type 0} (f : ℕ → A) where
   stays : (list : List ℕ) (l : List A) (q : ℕ) (none : A) → q < length l → get_or l q none ≡ f q
       → get_or (foldl (λ l p. set l p (f p)) l list) q none ≡ f q
   stays [] l q none h e = e
-  stays (p ∷ list) l q none h e = stays list (put l p) q none (omega (arith, h, length-set l p (f p))) (by (eqb q p) refl)
+  stays (p ∷ list) l q none h e =
+      stays list (put l p) q none (omega (arith, h, length-set l p (f p))) (by (eqb q p) refl)
     where
       by : (b : Bool) → eqb q p ≡ b → get_or (set l p (f p)) q none ≡ f q
       by true t = let same = eqb-true q p t in rw same (get_or-set_same l p (f p) none (omega (arith, same, h)))
@@ -156,7 +158,8 @@ module _ {A : Type 0} (f : ℕ → A) where
       → get_or (foldl (λ l p. set l p (f p)) l list) q none ≡ f q
   filled [] l within q c none = absurd (omega (arith, c.1))
   filled (p ∷ list) l within q c none =
-      ⊎_elim (λ here. first (single here)) (λ later. filled list (put l p) (rw (length-set l p (f p)) within.1) q later none)
+      ⊎_elim (λ here. first (single here))
+      (λ later. filled list (put l p) (rw (length-set l p (f p)) within.1) q later none)
       (Contains-append_cases (p ∷ []) list q c)
     where
       single : Contains (p ∷ []) q → p ≡ q

@@ -16,7 +16,8 @@ use Rattle.binary64.specs.Floats.{◌+ᶠ◌, ◌*ᶠ◌}
 use Rattle.geometry.specs.declared.circle.Circle.{Circle}
 use Rattle.intersections.specs.Members.{heads_of, circle_at}
 use Rattle.boundary.specs.declared.arcs.BoundaryArc.{BoundaryArc}
-use Rattle.boundary.specs.Outline.{owned, gap, collapsed, point_at, midpoint, probe, between, full_circle, arc_from, arcs_at}
+use Rattle.boundary.specs.Outline.{owned, gap, collapsed, point_at, midpoint, probe}
+use Rattle.boundary.specs.Outline.{between, full_circle, arc_from, arcs_at}
 use Rattle.boundary.specs.Set.{numbered}
 use Rattle.gaps.specs.Gaps.{owned_in, is_arc}
 use Rattle.sums.specs.Walk.{rank, gap_in, whole_in, gaps_in, head_in}

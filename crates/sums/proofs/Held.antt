@@ -19,7 +19,8 @@ use Rattle.boundary.specs.declared.sort.Mark.{Mark}
 use Rattle.boundary.specs.Marks.{no_mark}
 use Rattle.boundary.specs.Outline.{probe}
 use Rattle.gaps.specs.declared.marks.HeadMarks.{HeadMarks}
-use Rattle.gaps.specs.Marks.{marks_at, adopted_by, angles_in, phi_at, letters, gap_letters, lets_at, let_at, marks_let, head_marked, unmarked}
+use Rattle.gaps.specs.Marks.{marks_at, adopted_by, angles_in, phi_at, letters, gap_letters, lets_at, let_at}
+use Rattle.gaps.specs.Marks.{marks_let, head_marked, unmarked}
 use Rattle.gaps.proofs.Next.{next_is, next_less}
 use Rattle.gaps.proofs.Marking as marking
 use Rattle.gaps.proofs.Marking.{heads_many, head_in, head_out}
@@ -86,7 +87,8 @@ module _ (circles : List Circle) (j : ℕ) (marks : List Mark) where
       (get_or l a no_mark).lets ≡ gap_letters circles j (phi_at l a) (phi_at l ((a + 1) % length l))
   unfolding let_at lets_at
   let_letters a h =
-      let next : (a + 1) % length marks < length marks = rw (sym (next_is a (length marks) h)) (next_less a (length marks) h) in
+      let next : (a + 1) % length marks < length marks =
+      rw (sym (next_is a (length marks) h)) (next_less a (length marks) h) in
       rw (let_many, let_phi a h, let_phi ((a + 1) % length marks) next)
       (ap (λ m. m.lets) (let_read a h) ∙ rw (lt-ltb a (length marks) h) refl)
 
@@ -118,41 +120,41 @@ let_angles circles S j marks =
 
 module _ (pass : Pass) where
   abbrev circles : List Circle
-  circles = pass.circles.now.items
+  circles = pass.circles.now
 
   abbrev heads : List HeadMarks
   heads = pass.heads.now.items
 
-  pub held_many : length pass.heads.now.items ≡ length pass.circles.now.items
+  pub held_many : length pass.heads.now.items ≡ length pass.circles.now
   held_many = ap length pass.held ∙ heads_many circles pass.points.now pass.needed
 
   -- as code reads a head
   pub head_read : (d : HeadMarks) {l : List HeadMarks} {j : ℕ} → l ≡ pass.heads.now.items
-      → j < length pass.circles.now.items
+      → j < length pass.circles.now
       → get_or l j d ≡ get_or pass.heads.now.items j unmarked
   head_read d {j = j} el below =
       ap (λ l. get_or l j d) el ∙ get_or_default heads j d unmarked (omega (arith, held_many, below))
 
-  module _ (j : ℕ) (below : j < length pass.circles.now.items) (in-needed : in_set pass.needed j ≡ true) where
+  module _ (j : ℕ) (below : j < length pass.circles.now) (in-needed : in_set pass.needed j ≡ true) where
     head_is : get_or heads j unmarked ≡ head_marked circles pass.points.now j
     head_is = ap (λ l. get_or l j unmarked) pass.held
         ∙ head_in circles pass.points.now pass.needed j unmarked below in-needed
 
     pub marks_held : marks_of pass.heads.now.items j
-        ≡ marks_let pass.circles.now.items j (marks_at (circle_at pass.circles.now.items j) j pass.points.now)
+        ≡ marks_let pass.circles.now j (marks_at (circle_at pass.circles.now j) j pass.points.now)
     unfolding head_marked
     marks_held = ap (λ h. h.marks.items) head_is
 
     -- who lets the head have its probe, and the gap from each mark to the next
     pub owners_held : (get_or pass.heads.now.items j unmarked).owners
-        ≡ letters pass.circles.now.items j (probe (circle_at pass.circles.now.items j))
+        ≡ letters pass.circles.now j (probe (circle_at pass.circles.now j))
     unfolding head_marked
     owners_held = ap (λ h. h.owners) head_is
 
     pub lets_held : (a : ℕ) → a < length (marks_of pass.heads.now.items j)
         → let marks = marks_of pass.heads.now.items j in
         (get_or (marks_of pass.heads.now.items j) a no_mark).lets
-        ≡ gap_letters pass.circles.now.items j (phi_at marks a) (phi_at marks ((a + 1) % length marks))
+        ≡ gap_letters pass.circles.now j (phi_at marks a) (phi_at marks ((a + 1) % length marks))
     lets_held a h =
         rw marks_held
         (let_letters circles j (marks_at (circle_at circles j) j pass.points.now) a
@@ -160,7 +162,7 @@ module _ (pass : Pass) where
 
   -- a head with a mark is one of those of `needed`
   marked : (j : ℕ) → 0 < length (marks_of pass.heads.now.items j)
-      → (j < length pass.circles.now.items) × (in_set pass.needed j ≡ true)
+      → (j < length pass.circles.now) × (in_set pass.needed j ≡ true)
   marked j h = by (ltb j (length circles)) (in_set pass.needed j) refl refl
     where
       by : (b i : Bool) → ltb j (length circles) ≡ b → in_set pass.needed j ≡ i
@@ -197,7 +199,7 @@ module _ (pass : Pass) where
         (sym (standing_near pass.needed heads p h) ∙ placed.near (omega (arith, h)))
 
     -- its arc is one of a head of `needed`, and it can be read
-    pub placed_below : head_of p < length pass.circles.now.items
+    pub placed_below : head_of p < length pass.circles.now
     placed_below = by (ltb p 320) (ltb p 330) refl refl
       where
         by : (s t : Bool) → ltb p 320 ≡ s → ltb p 330 ≡ t → head_of p < length circles
@@ -225,5 +227,5 @@ module _ (pass : Pass) where
     end_read h = rw (head_far p h, placed.same h) (placed.end h)
 
   pub list_below : (list : List ℕ) → Every (Placed pass.needed pass.heads.now.items) list
-      → Every (λ p. head_of p < length pass.circles.now.items) list
+      → Every (λ p. head_of p < length pass.circles.now) list
   list_below list placed = every_map list placed_below placed

@@ -135,7 +135,15 @@ module _ (circles : List Circle) (points : List IntersectionPoint) (S : ℕ) (fe
 heads_size : (n S : ℕ) → length (heads_of n S) ≡ size n S
 unfolding heads_of up_to size
 heads_size zero S = refl
-heads_size (suc n) S = grind (arith, heads_size n S, length-append (heads_of n S) (n ∷ []), append-nil (heads_of n S), one_of_in S n, zero_of_in S n)
+heads_size (suc n) S =
+    grind (
+      arith,
+      heads_size n S,
+      length-append (heads_of n S) (n ∷ []),
+      append-nil (heads_of n S),
+      one_of_in S n,
+      zero_of_in S n,
+    )
 
 -- the head of a single is the one that it has
 pub single_head : (n S : ℕ) → n ≤ 64 → S < 2 ^ n → ones S ≡ 1 → heads_of n S ≡ count_trailing_zeros 64 S ∷ []
@@ -193,11 +201,11 @@ arcs_same circles f g S h =
 
 -- the arcs that the walk lists are those of the outline
 pub marked_arcs : (pass : Pass) (S : ℕ) → Subset S pass.needed
-    → arcs_by pass.circles.now.items (marks_of pass.heads.now.items) S
-    ≡ outline_arcs pass.circles.now.items pass.points.now S
+    → arcs_by pass.circles.now (marks_of pass.heads.now.items) S
+    ≡ outline_arcs pass.circles.now pass.points.now S
 marked_arcs pass S within =
-    arcs_same pass.circles.now.items (marks_of pass.heads.now.items)
-    (marks_for pass.circles.now.items pass.points.now) S
+    arcs_same pass.circles.now (marks_of pass.heads.now.items)
+    (marks_for pass.circles.now pass.points.now) S
     (λ j h i. ap (angles_in S) (marks_held pass j h (subset_head S pass.needed within j i))
-    ∙ let_angles pass.circles.now.items S j (marks_for pass.circles.now.items pass.points.now j))
-    ∙ arcs_are pass.circles.now.items pass.points.now S (set_below pass S within) pass.few (omega (arith, pass.ten))
+    ∙ let_angles pass.circles.now S j (marks_for pass.circles.now pass.points.now j))
+    ∙ arcs_are pass.circles.now pass.points.now S (set_below pass S within) pass.few (omega (arith, pass.ten))

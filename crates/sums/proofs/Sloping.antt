@@ -50,7 +50,8 @@ use Rattle.sums.proofs.Valuing.{arc_head, sum_by_arcs, sum_open}
 
 module _ (circles : List Circle) (heads : List HeadMarks) where
   slopes-named : (g : List Float) (p : ℕ) → head_of p < length circles
-      → arc_slopes g (circle_at circles (head_of p)) (arc_at circles heads p) ≡ add_slopes circles g (arc_at circles heads p)
+      → arc_slopes g (circle_at circles (head_of p)) (arc_at circles heads p)
+      ≡ add_slopes circles g (arc_at circles heads p)
   unfolding add_slopes
   slopes-named g p h = rw (arc_head circles heads p, lt-ltb (head_of p) (length circles) h)
 
@@ -168,7 +169,8 @@ module _ {box : Bounds} {c : Circle} {off : ℕ} {before : List Triple} {breaks 
         → with_gradient sum (add_shares off so_far.these g)
         ≡ over_pairs (add_part_with_gradient box c off) (with_gradient zero64 g) breaks
     putting_whole none g =
-        sym (pairs_none (add_part_with_gradient box c off) (with_gradient sum (add_shares off so_far.these g)) rest none)
+        sym
+        (pairs_none (add_part_with_gradient box c off) (with_gradient sum (add_shares off so_far.these g)) rest none)
         ∙ so_far.on g
 
 pub putting_ends : {box : Bounds} {c : Circle} {arc : BoundaryArc} {before : List Triple} {angles rest : List Float}
@@ -292,28 +294,28 @@ module _ (circles : List Circle) (heads : List HeadMarks) where
 -- ---- the row of a set whose arcs the walk has listed: of them the first 180
 
 module _ (pass : Pass) (S : ℕ) {list : List ℕ}
-    (listing : Listing pass.circles.now.items pass.needed pass.heads.now.items
-    (outline_arcs pass.circles.now.items pass.points.now S) list) (g : List Float) where
+    (listing : Listing pass.circles.now pass.needed pass.heads.now.items
+    (outline_arcs pass.circles.now pass.points.now S) list) (g : List Float) where
   abbrev cs : List Circle
-  cs = pass.circles.now.items
+  cs = pass.circles.now
 
   abbrev hs : List HeadMarks
   hs = pass.heads.now.items
 
-  arcs_are : arcs_listed pass.circles.now.items pass.heads.now.items (take arcs_held list)
-      ≡ region_arcs pass.circles.now.items pass.points.now S
+  arcs_are : arcs_listed pass.circles.now pass.heads.now.items (take arcs_held list)
+      ≡ region_arcs pass.circles.now pass.points.now S
   unfolding region_arcs
   arcs_are = sym (take-map (arc_at cs hs) arcs_held list) ∙ ap (take arcs_held) listing.said
 
-  below : Every (λ p. head_of p < length pass.circles.now.items) (take arcs_held list)
+  below : Every (λ p. head_of p < length pass.circles.now) (take arcs_held list)
   below = every_take (λ p. head_of p < length cs) arcs_held list (list_below pass list listing.placed)
 
   pub row_open_with : {sum : Float} {grad : List Float}
-      → sum ≡ foldl (add_terms pass.circles.now.items pass.heads.now.items) zero64 (take arcs_held list)
-      → grad ≡ foldl (add_slopes_at pass.circles.now.items pass.heads.now.items) g (take arcs_held list)
-      → let arcs = region_arcs pass.circles.now.items pass.points.now S in
+      → sum ≡ foldl (add_terms pass.circles.now pass.heads.now.items) zero64 (take arcs_held list)
+      → grad ≡ foldl (add_slopes_at pass.circles.now pass.heads.now.items) g (take arcs_held list)
+      → let arcs = region_arcs pass.circles.now pass.points.now S in
       with_gradient (half64 *ᶠ sum) grad
-      ≡ with_gradient (area_of pass.circles.now.items arcs) (add_gradient pass.circles.now.items g arcs)
+      ≡ with_gradient (area_of pass.circles.now arcs) (add_gradient pass.circles.now g arcs)
   unfolding area_of
   row_open_with es eg =
       rw (
@@ -327,12 +329,12 @@ module _ (pass : Pass) (S : ℕ) {list : List ℕ}
   pub row_in_box_with : (box : Bounds) (own : List Circle) {total sum : Float} {grad grad' : List Float}
       → empty_box box ≡ false
       → with_gradient total grad
-      ≡ foldl (add_parts_at box pass.circles.now.items pass.heads.now.items) (with_gradient zero64 g)
+      ≡ foldl (add_parts_at box pass.circles.now pass.heads.now.items) (with_gradient zero64 g)
       (take arcs_held list)
       → with_gradient sum grad'
-      ≡ add_edges_with_gradient box own (length pass.circles.now.items * 3) (with_gradient total grad)
+      ≡ add_edges_with_gradient box own (length pass.circles.now * 3) (with_gradient total grad)
       → with_gradient (half64 *ᶠ sum) grad'
-      ≡ clipped_with_gradient box pass.circles.now.items own (region_arcs pass.circles.now.items pass.points.now S) g
+      ≡ clipped_with_gradient box pass.circles.now own (region_arcs pass.circles.now pass.points.now S) g
   row_in_box_with box own {sum = sum} {grad' = grad'} open-box ea ee =
       gradient_by_sum box cs own (region_arcs cs pass.points.now S) g (with_gradient sum grad') open-box
       (ee ∙ rw (ea, parts_sum cs hs box (take arcs_held list) below (with_gradient zero64 g), arcs_are))

@@ -49,7 +49,7 @@ any_whole k c c' = refl
 
 module _ (pass : Pass) (p : ℕ) (placed : Placed pass.needed pass.heads.now.items p) where
   abbrev circles : List Circle
-  circles = pass.circles.now.items
+  circles = pass.circles.now
 
   abbrev heads : List HeadMarks
   heads = pass.heads.now.items
@@ -74,7 +74,7 @@ module _ (pass : Pass) (p : ℕ) (placed : Placed pass.needed pass.heads.now.ite
         pub arc_near : p < 320
             → arc ≡ between j circle (phi_at marks (p % 32))
             (gap (phi_at marks (p % 32)) (phi_at marks (next_of (p % 32) (length marks))))
-            → arc ≡ arc_at pass.circles.now.items pass.heads.now.items p
+            → arc ≡ arc_at pass.circles.now pass.heads.now.items p
         arc_near h ea =
             ea ∙ any_between j circle (circle_at circles j) (phi_at marks (p % 32)) _
             ∙ rw (em, ej, head_near p h) (sym near)
@@ -103,7 +103,7 @@ module _ (pass : Pass) (p : ℕ) (placed : Placed pass.needed pass.heads.now.ite
         pub arc_far : 330 ≤ p
             → arc ≡ between j circle (phi_at marks ((p - 330) / 320 % 32))
             (gap (phi_at marks ((p - 330) / 320 % 32)) (phi_at marks ((p - 330) % 320 % 32)))
-            → arc ≡ arc_at pass.circles.now.items pass.heads.now.items p
+            → arc ≡ arc_at pass.circles.now pass.heads.now.items p
         unfolding arc_at gap_arc
         arc_far h ea =
             let wide : 320 ≤ p = omega arith in
@@ -111,7 +111,7 @@ module _ (pass : Pass) (p : ℕ) (placed : Placed pass.needed pass.heads.now.ite
             ∙ rw (em, ej, head_far p h, le-ltb p 320 wide, le-ltb p 330 h, placed.same h)
 
     pub arc_whole : (circle : Circle) {arc : BoundaryArc} → 320 ≤ p → p < 330 → arc ≡ full_circle j circle
-        → arc ≡ arc_at pass.circles.now.items pass.heads.now.items p
+        → arc ≡ arc_at pass.circles.now pass.heads.now.items p
     unfolding arc_at
     arc_whole circle h k ea =
         ea ∙ any_whole j circle (circle_at circles j) ∙ rw (ej, head_whole p h k, le-ltb p 320 h, lt-ltb p 330 k)
@@ -158,29 +158,29 @@ module _ (circles : List Circle) (heads : List HeadMarks) where
 -- ---- the area of a set whose arcs the walk has listed
 
 module _ (pass : Pass) (S : ℕ) {list : List ℕ}
-    (listing : Listing pass.circles.now.items pass.needed pass.heads.now.items
-    (outline_arcs pass.circles.now.items pass.points.now S) list) where
+    (listing : Listing pass.circles.now pass.needed pass.heads.now.items
+    (outline_arcs pass.circles.now pass.points.now S) list) where
   abbrev cs : List Circle
-  cs = pass.circles.now.items
+  cs = pass.circles.now
 
   abbrev points : List IntersectionPoint
   points = pass.points.now
 
   abbrev own : List ℕ
-  own = heads_of (length pass.circles.now.items) S
+  own = heads_of (length pass.circles.now) S
 
-  below : Every (λ p. head_of p < length pass.circles.now.items) list
+  below : Every (λ p. head_of p < length pass.circles.now) list
   below = list_below pass list listing.placed
 
-  named : Every (Below (length (heads_of (length pass.circles.now.items) S)))
-      (outline (members_of pass.circles.now.items pass.points.now S))
+  named : Every (Below (length (heads_of (length pass.circles.now) S)))
+      (outline (members_of pass.circles.now pass.points.now S))
   named = rw (sym (members_many cs points S)) (outline_named (members_of cs points S))
 
   pub row_in_box : (box : Bounds) {sum edges : Float} → empty_box box ≡ false
-      → sum ≡ foldl (add_one (term_of (clipped_arc_integral box) pass.circles.now.items pass.heads.now.items)) zero64
+      → sum ≡ foldl (add_one (term_of (clipped_arc_integral box) pass.circles.now pass.heads.now.items)) zero64
       list
-      → edges ≡ add_edges box (map (circle_at pass.circles.now.items) (heads_of (length pass.circles.now.items) S)) sum
-      → half64 *ᶠ edges ≡ clipped_area box (members_of pass.circles.now.items pass.points.now S)
+      → edges ≡ add_edges box (map (circle_at pass.circles.now) (heads_of (length pass.circles.now) S)) sum
+      → half64 *ᶠ edges ≡ clipped_area box (members_of pass.circles.now pass.points.now S)
   unfolding clipped_area_of clipped_area
   row_in_box box open-box es ee =
       rw (
@@ -193,8 +193,8 @@ module _ (pass : Pass) (S : ℕ) {list : List ℕ}
         sym ee,
       )
 
-  pub row_open : {sum : Float} → sum ≡ foldl (add_terms pass.circles.now.items pass.heads.now.items) zero64 list
-      → half64 *ᶠ sum ≡ open_area (members_of pass.circles.now.items pass.points.now S)
+  pub row_open : {sum : Float} → sum ≡ foldl (add_terms pass.circles.now pass.heads.now.items) zero64 list
+      → half64 *ᶠ sum ≡ open_area (members_of pass.circles.now pass.points.now S)
   unfolding area_of open_area
   row_open es =
       rw (

@@ -14,7 +14,7 @@ use lib.Bits.{bit_and}
 use lib.Count.{ones, count_trailing_zeros}
 use lib.Dec.{eqb, ltb}
 use lib.ListN.{length, get_or, drop, drop_of_length-le}
-use lib.Seq.{drop-cons}
+use lib.Seq.{drop-cons, take_all}
 use lib.Ieee.{Float}
 use lib.Pow.{pow_mono}
 use Rattle.masks.specs.Mask.{bit, in_set, subset, Subset}
@@ -26,13 +26,15 @@ use Rattle.lists.specs.Every.{every_append}
 use Rattle.lists.specs.Lists.{up_to, keep}
 use Rattle.geometry.specs.declared.circle.Circle.{Circle}
 use Rattle.intersections.specs.Members.{circle_at}
+use Rattle.intersections.specs.Heads.{first_ten}
+use Rattle.intersections.proofs.Few.{few_read}
 use Rattle.boundary.specs.declared.arcs.BoundaryArc.{BoundaryArc}
 use Rattle.boundary.specs.declared.sort.Mark.{Mark}
 use Rattle.boundary.specs.Marks.{no_mark}
 use Rattle.boundary.specs.Outline.{gap, between, full_circle, probe}
 use Rattle.gaps.specs.declared.marks.HeadMarks.{HeadMarks}
 use Rattle.gaps.specs.Gaps.{owned_in, is_arc, next_of}
-use Rattle.gaps.specs.Numbers.{gap_number}
+use Rattle.gaps.specs.Numbers.{first_places, gap_number}
 use Rattle.gaps.specs.Marks.{adopted_by, angles_in, phi_at, unmarked}
 use Rattle.gaps.proofs.Next.{next_is}
 use Rattle.gaps.proofs.Numbering.{by_cases}
@@ -124,7 +126,8 @@ pub whole_placed : (heads : List HeadMarks) (needed j : ℕ) → j < 10 → in_s
     → Placed needed heads (320 + j)
 whole_placed heads needed j h e =
     let same : 320 + j - 320 ≡ j = omega arith in
-    placed_near needed heads (320 + j) (omega (arith, h)) (standing_whole needed heads (320 + j) (omega arith) ∙ rw same e)
+    placed_near needed heads (320 + j) (omega (arith, h))
+    (standing_whole needed heads (320 + j) (omega arith) ∙ rw same e)
 
 -- ---- the marks of a head that a set adopts
 
@@ -175,11 +178,11 @@ module _ (S : ℕ) (marks : List Mark) where
       by true q =
           let is : first ≡ position_or_len (adopted_by S) marks = grind (arith, rw q at e) in
           let less = ltb-true (position_or_len (adopted_by S) marks) (length marks) q in
+          let p = position_or_len (adopted_by S) marks in
           rw is (
             less,
-            skip_to (position_or_len (adopted_by S) marks) (omega (arith, less))
-                (λ i h. fails_before_first (adopted_by S) marks i no_mark h)
-                ∙ next_angle (position_or_len (adopted_by S) marks) less (passes_at_first (adopted_by S) marks no_mark less),
+            skip_to p (omega (arith, less)) (λ i h. fails_before_first (adopted_by S) marks i no_mark h)
+                ∙ next_angle p less (passes_at_first (adopted_by S) marks no_mark less),
           )
       by false q = absurd (grind (arith, rw q at e))
 
@@ -187,10 +190,10 @@ module _ (S : ℕ) (marks : List Mark) where
 
 module _ (pass : Pass) (list : List ℕ) where
   pub added_one : (p : ℕ) {more : List BoundaryArc}
-      → more ≡ arc_at pass.circles.now.items pass.heads.now.items p ∷ [] → Placed pass.needed pass.heads.now.items p
+      → more ≡ arc_at pass.circles.now pass.heads.now.items p ∷ [] → Placed pass.needed pass.heads.now.items p
       → Added pass more list (list ++ (p ∷ []))
   added_one p e one =
-      let arc = arc_at pass.circles.now.items pass.heads.now.items in
+      let arc = arc_at pass.circles.now pass.heads.now.items in
       record {
         said = map-append arc list (p ∷ []) ∙ ap (λ t. map arc list ++ t) (sym e);
         placed = λ all. every_append (Placed pass.needed pass.heads.now.items) list (p ∷ []) all (one, tt);
@@ -198,7 +201,10 @@ module _ (pass : Pass) (list : List ℕ) where
 
   pub added_none : {more : List BoundaryArc} → more ≡ [] → Added pass more list list
   added_none e =
-      record { said = sym (rw e (append-nil (arcs_listed pass.circles.now.items pass.heads.now.items list))); placed = λ all. all }
+      record {
+        said = sym (rw e (append-nil (arcs_listed pass.circles.now pass.heads.now.items list)));
+        placed = λ all. all;
+      }
 
 pub added_on : {pass : Pass} {a b c : List ℕ} {x y : List BoundaryArc} → Added pass x a b → Added pass y b c
     → Added pass (x ++ y) a c
@@ -209,18 +215,18 @@ added_on {x = x} {y = y} f g =
 
 module _ (pass : Pass) (S : ℕ) (within : Subset S pass.needed) where
   abbrev circles : List Circle
-  circles = pass.circles.now.items
+  circles = pass.circles.now
 
   abbrev heads : List HeadMarks
   heads = pass.heads.now.items
 
-  pub set_below : S < 2 ^ length pass.circles.now.items
+  pub set_below : S < 2 ^ length pass.circles.now
   set_below = omega (arith, subset_le S pass.needed within, pass.below)
 
   set_wide : S < 2 ^ 64
-  set_wide = le_trans set_below (pow_mono {i = length pass.circles.now.items} {j = 64} (omega (arith, pass.ten)))
+  set_wide = le_trans set_below (pow_mono {i = length pass.circles.now} {j = 64} (omega (arith, pass.ten)))
 
-  module _ (j : ℕ) (head : j < length pass.circles.now.items) (in-S : in_set S j ≡ true) where
+  module _ (j : ℕ) (head : j < length pass.circles.now) (in-S : in_set S j ≡ true) where
     in-needed : in_set pass.needed j ≡ true
     in-needed = subset_head S pass.needed within j in-S
 
@@ -247,11 +253,11 @@ module _ (pass : Pass) (S : ℕ) (within : Subset S pass.needed) where
       abbrev pub Numbered : Option ℕ → Type 0
       Numbered None =
           let marks = marks_of pass.heads.now.items j in
-          gap_in pass.circles.now.items S j (phi_at marks a) (phi_at marks b) ≡ []
+          gap_in pass.circles.now S j (phi_at marks a) (phi_at marks b) ≡ []
       Numbered (Some p) =
           let marks = marks_of pass.heads.now.items j in
-          (gap_in pass.circles.now.items S j (phi_at marks a) (phi_at marks b)
-          ≡ arc_at pass.circles.now.items pass.heads.now.items p ∷ [])
+          (gap_in pass.circles.now S j (phi_at marks a) (phi_at marks b)
+          ≡ arc_at pass.circles.now pass.heads.now.items p ∷ [])
           × Placed pass.needed pass.heads.now.items p
 
       by_arc : (p : ℕ) → arc_at circles heads p ≡ between j (circle_at circles j) phi_a (gap phi_a phi_b)
@@ -290,11 +296,15 @@ module _ (pass : Pass) (S : ℕ) (within : Subset S pass.needed) where
           (other_arc circles heads j a (omega (arith, many, ha)) low b (omega (arith, many, hb)))
           (other_placed heads pass.needed j a b low many ha hb) s e
 
-      pub gap_listed : {number : Option ℕ} {h : HeadMarks} → number ≡ gap_number pass.circles.now.items h S j a b
-          → h ≡ get_or pass.heads.now.items j unmarked → Numbered number
-      gap_listed e eh =
-          subst Numbered (sym (e ∙ ap (λ h. gap_number circles h S j a b) eh))
-          (by_cases circles (get_or pass.heads.now.items j unmarked) S j a b head ha hb Numbered neighbour other)
+      -- circles and marks are few enough to be read whole, and all marks stand for angles
+      pub gap_listed : {number : Option ℕ} {l : List Mark} {held : HeadMarks}
+          → number ≡ gap_number (first_ten pass.circles.now) (first_places l) (length l) S j a b
+          → l ≡ held.marks.items → held ≡ get_or pass.heads.now.items j unmarked
+          → Numbered number
+      gap_listed e el eh =
+          let own : _ ≡ marks = el ∙ ap (λ h. h.marks.items) eh in
+          subst Numbered (sym (e ∙ rw (own, few_read circles pass.ten, take_all 32 marks many) refl))
+          (by_cases circles marks (length marks) S j a b head ha hb Numbered neighbour other)
 
     -- ---- no angle: the whole circle, by the mask of those that let the head have its probe
 
@@ -307,7 +317,7 @@ module _ (pass : Pass) (S : ℕ) (within : Subset S pass.needed) where
 
     module _ (none : angles_in S (marks_of pass.heads.now.items j) ≡ []) (list : List ℕ) where
       pub whole_yes : subset 64 S (get_or pass.heads.now.items j unmarked).owners ≡ true
-          → Added pass (head_in pass.circles.now.items S j (angles_in S (marks_of pass.heads.now.items j))) list
+          → Added pass (head_in pass.circles.now S j (angles_in S (marks_of pass.heads.now.items j))) list
           (list ++ ((320 + j) ∷ []))
       unfolding head_in whole_in
       whole_yes e =
@@ -315,7 +325,7 @@ module _ (pass : Pass) (S : ℕ) (within : Subset S pass.needed) where
           (whole_placed pass.heads.now.items pass.needed j low in-needed)
 
       pub whole_no : subset 64 S (get_or pass.heads.now.items j unmarked).owners ≡ false
-          → Added pass (head_in pass.circles.now.items S j (angles_in S (marks_of pass.heads.now.items j))) list list
+          → Added pass (head_in pass.circles.now S j (angles_in S (marks_of pass.heads.now.items j))) list list
       unfolding head_in whole_in
       whole_no e = added_none pass list (rw none (rw (sym whole_by ∙ e)))
 
@@ -329,7 +339,7 @@ pub record Round (pass : Pass) (S j first : ℕ) (initial list : List ℕ) (last
   pub past : last < b
   pub room : length list ≤ j * 32 + last
   pub rest : (after : List ℕ)
-      → let cs = pass.circles.now.items in let marks = marks_of pass.heads.now.items j in
+      → let cs = pass.circles.now in let marks = marks_of pass.heads.now.items j in
       Added pass (gaps_in cs S j (phi_at marks first) (phi_at marks last ∷ angles_beyond S marks b)) list after
       → Added pass (head_in cs S j (angles_in S marks)) initial after
 
@@ -341,17 +351,17 @@ module _ (pass : Pass) (S j first : ℕ) where
   beyond = angles_beyond S (marks_of pass.heads.now.items j)
 
   abbrev gaps : List Float → List BoundaryArc
-  gaps = gaps_in pass.circles.now.items S j (phi_at (marks_of pass.heads.now.items j) first)
+  gaps = gaps_in pass.circles.now S j (phi_at (marks_of pass.heads.now.items j) first)
 
-  gaps_step : (a b : Float) (l : List Float) → gaps (a ∷ (b ∷ l)) ≡ gap_in pass.circles.now.items S j a b ++ gaps (b ∷ l)
+  gaps_step : (a b : Float) (l : List Float) → gaps (a ∷ (b ∷ l)) ≡ gap_in pass.circles.now S j a b ++ gaps (b ∷ l)
   unfolding gaps_in
   gaps_step a b l = refl
 
-  gaps_last : (a : Float) → gaps (a ∷ []) ≡ gap_in pass.circles.now.items S j a (phi first)
+  gaps_last : (a : Float) → gaps (a ∷ []) ≡ gap_in pass.circles.now S j a (phi first)
   unfolding gaps_in
   gaps_last a = refl
 
-  head_gaps : (l : List Float) → head_in pass.circles.now.items S j (phi first ∷ l) ≡ gaps (phi first ∷ l)
+  head_gaps : (l : List Float) → head_in pass.circles.now S j (phi first ∷ l) ≡ gaps (phi first ∷ l)
   unfolding head_in
   head_gaps l = refl
 
@@ -365,7 +375,8 @@ module _ (pass : Pass) (S j first : ℕ) where
         past = omega arith;
         room = omega (arith, room);
         rest = λ after h.
-            subst (λ t. Added pass t list after) (sym (ap (head_in pass.circles.now.items S j) x.1 ∙ head_gaps (beyond (first + 1)))) h;
+            subst (λ t. Added pass t list after)
+            (sym (ap (head_in pass.circles.now S j) x.1 ∙ head_gaps (beyond (first + 1)))) h;
       }
 
   module _ {initial list : List ℕ} {last b : ℕ} (w : Round pass S j first initial list last b) where
@@ -381,7 +392,8 @@ module _ (pass : Pass) (S j first : ℕ) where
           room = w.room;
           rest = λ after k.
               w.rest after
-              (subst (λ t. Added pass (gaps (phi last ∷ t)) list after) (sym (no_next S (marks_of pass.heads.now.items j) b h none)) k);
+              (subst (λ t. Added pass (gaps (phi last ∷ t)) list after)
+              (sym (no_next S (marks_of pass.heads.now.items j) b h none)) k);
         }
 
     -- it does
@@ -389,7 +401,7 @@ module _ (pass : Pass) (S j first : ℕ) where
         → adopted_by S (get_or (marks_of pass.heads.now.items j) b no_mark) ≡ true
         → length list' ≤ length list + 1
         → (let marks = marks_of pass.heads.now.items j in
-        Added pass (gap_in pass.circles.now.items S j (phi_at marks last) (phi_at marks b)) list list')
+        Added pass (gap_in pass.circles.now S j (phi_at marks last) (phi_at marks b)) list list')
         → Round pass S j first initial list' b (b + 1)
     round_next h here more added =
         record {
@@ -407,22 +419,24 @@ module _ (pass : Pass) (S j first : ℕ) where
 
     pub round_end : {list' : List ℕ} → length (marks_of pass.heads.now.items j) ≤ b
         → (let marks = marks_of pass.heads.now.items j in
-        Added pass (gap_in pass.circles.now.items S j (phi_at marks last) (phi_at marks first)) list list')
-        → Added pass (head_in pass.circles.now.items S j (angles_in S (marks_of pass.heads.now.items j))) initial list'
+        Added pass (gap_in pass.circles.now S j (phi_at marks last) (phi_at marks first)) list list')
+        → Added pass (head_in pass.circles.now S j (angles_in S (marks_of pass.heads.now.items j))) initial list'
     round_end {list' = list'} h added =
         w.rest list'
         (subst (λ t. Added pass t list list')
-        (sym (ap (λ t. gaps (phi last ∷ t)) (none_left S (marks_of pass.heads.now.items j) b h) ∙ gaps_last (phi last))) added)
+        (sym (ap (λ t. gaps (phi last ∷ t)) (none_left S (marks_of pass.heads.now.items j) b h)
+        ∙ gaps_last (phi last)))
+        added)
 
 -- ---- head by head
 
 module _ (pass : Pass) (S j : ℕ) where
   -- the arcs of the heads below n
   abbrev below : ℕ → List BoundaryArc
-  below n = heads_in pass.circles.now.items (marks_of pass.heads.now.items) S n
+  below n = heads_in pass.circles.now (marks_of pass.heads.now.items) S n
 
   head_more : in_set S j ≡ true
-      → below (j + 1) ≡ below j ++ head_in pass.circles.now.items S j (angles_in S (marks_of pass.heads.now.items j))
+      → below (j + 1) ≡ below j ++ head_in pass.circles.now S j (angles_in S (marks_of pass.heads.now.items j))
   unfolding heads_in up_to part_in
   head_more e = rw (add-one j, e)
 
@@ -431,14 +445,14 @@ module _ (pass : Pass) (S j : ℕ) where
   head_same e = rw (add-one j, e) (append-nil (below j))
 
   pub heads_more : {a b c : List ℕ} → in_set S j ≡ true
-      → Added pass (heads_in pass.circles.now.items (marks_of pass.heads.now.items) S j) a b
-      → Added pass (head_in pass.circles.now.items S j (angles_in S (marks_of pass.heads.now.items j))) b c
-      → Added pass (heads_in pass.circles.now.items (marks_of pass.heads.now.items) S (j + 1)) a c
+      → Added pass (heads_in pass.circles.now (marks_of pass.heads.now.items) S j) a b
+      → Added pass (head_in pass.circles.now S j (angles_in S (marks_of pass.heads.now.items j))) b c
+      → Added pass (heads_in pass.circles.now (marks_of pass.heads.now.items) S (j + 1)) a c
   heads_more {a = a} {c = c} e f g = subst (λ t. Added pass t a c) (sym (head_more e)) (added_on f g)
 
   pub heads_same : {a b : List ℕ} → in_set S j ≡ false
-      → Added pass (heads_in pass.circles.now.items (marks_of pass.heads.now.items) S j) a b
-      → Added pass (heads_in pass.circles.now.items (marks_of pass.heads.now.items) S (j + 1)) a b
+      → Added pass (heads_in pass.circles.now (marks_of pass.heads.now.items) S j) a b
+      → Added pass (heads_in pass.circles.now (marks_of pass.heads.now.items) S (j + 1)) a b
   heads_same {a = a} {b = b} e f = subst (λ t. Added pass t a b) (sym (head_same e)) f
 
 module _ (circles : List Circle) (heads : List HeadMarks) (S : ℕ) where

@@ -25,7 +25,8 @@ use Rattle.inside.specs.Span.{Interval}
 use Rattle.outline.specs.Area.{arc_slopes, add_slopes, add_gradient}
 use Rattle.clip.specs.Area.{empty_box}
 use Rattle.clip.specs.Gradient.{WithGradient, with_gradient, onto, clipped_with_gradient}
-use Rattle.clip.specs.Gradient.{sub_arc_with_gradient, part_slopes, add_part_with_gradient, clipped_arc_integral_with_gradient}
+use Rattle.clip.specs.Gradient.{sub_arc_with_gradient, part_slopes, add_part_with_gradient}
+use Rattle.clip.specs.Gradient.{clipped_arc_integral_with_gradient}
 use Rattle.clip.specs.Gradient.{add_clipped_arc_with_gradient, add_clipped_arcs_with_gradient}
 use Rattle.clip.specs.Gradient.{moved, edge_slopes, add_span_with_gradient, add_edges_with_gradient}
 use Rattle.sums.specs.Gradients.{row_with}
@@ -39,7 +40,8 @@ either f n true x y e e' = e
 either f n false x y e e' = e'
 
 -- one step after another, each of which keeps the width
-fold_wide : {S A : Type 0} (f : S → ℕ) (step : S → A → S) → ((s : S) (a : A) → f (step s a) ≡ f s) → (l : List A) (s : S)
+fold_wide : {S A : Type 0} (f : S → ℕ) (step : S → A → S) → ((s : S) (a : A) → f (step s a) ≡ f s)
+    → (l : List A) (s : S)
     → f (foldl step s l) ≡ f s
 fold_wide f step keeps [] s = refl
 fold_wide f step keeps (a ∷ l) s = fold_wide f step keeps l (step s a) ∙ keeps s a
@@ -63,14 +65,16 @@ arcs_open cs = fold_wide length (add_slopes cs) (arc_open cs)
 
 module _ (box : Bounds) where
   module _ (c : Circle) (off : ℕ) where
-    share : (sa ca sb cb delta : Float) (s : WithGradient) → width (sub_arc_with_gradient c off sa ca sb cb delta s) ≡ width s
+    share : (sa ca sb cb delta : Float) (s : WithGradient)
+        → width (sub_arc_with_gradient c off sa ca sb cb delta s) ≡ width s
     unfolding sub_arc_with_gradient part_slopes
     share sa ca sb cb delta s = simp length-set
 
     part : (s : WithGradient) (a b : Float) → width (add_part_with_gradient box c off s a b) ≡ width s
     unfolding add_part_with_gradient
     part s a b =
-        either width (width s) (summed box c a b) (sub_arc_with_gradient c off (sin a) (cos a) (sin b) (cos b) (b -ᶠ a) s) s
+        either width (width s) (summed box c a b)
+        (sub_arc_with_gradient c off (sin a) (cos a) (sin b) (cos b) (b -ᶠ a) s) s
         (share (sin a) (cos a) (sin b) (cos b) (b -ᶠ a) s) refl
 
     parts : (l : List Float) (s : WithGradient) → width (over_pairs (add_part_with_gradient box c off) s l) ≡ width s
@@ -79,7 +83,8 @@ module _ (box : Bounds) where
     parts (a ∷ []) s = refl
     parts (a ∷ (b ∷ l)) s = parts (b ∷ l) (add_part_with_gradient box c off s a b) ∙ part s a b
 
-  arc_whole : (c : Circle) (arc : BoundaryArc) (g : List Float) → width (clipped_arc_integral_with_gradient box c arc g) ≡ length g
+  arc_whole : (c : Circle) (arc : BoundaryArc) (g : List Float)
+      → width (clipped_arc_integral_with_gradient box c arc g) ≡ length g
   unfolding clipped_arc_integral_with_gradient
   arc_whole c arc g = parts c (arc.circle * 3) (breaks box c arc) (with_gradient zero64 g)
 
@@ -88,10 +93,12 @@ module _ (box : Bounds) where
     unfolding add_clipped_arc_with_gradient
     arc_clipped s arc =
         let c = get_or cs arc.circle no_circle in
-        either width (width s) (ltb arc.circle (length cs)) (onto s.sum (clipped_arc_integral_with_gradient box c arc s.grad)) s
+        either width (width s) (ltb arc.circle (length cs))
+        (onto s.sum (clipped_arc_integral_with_gradient box c arc s.grad)) s
         (arc_whole c arc s.grad) refl
 
-    arcs_clipped : (arcs : List BoundaryArc) (s : WithGradient) → width (add_clipped_arcs_with_gradient box cs s arcs) ≡ width s
+    arcs_clipped : (arcs : List BoundaryArc) (s : WithGradient)
+        → width (add_clipped_arcs_with_gradient box cs s arcs) ≡ width s
     arcs_clipped = fold_wide width (add_clipped_arc_with_gradient box cs) arc_clipped
 
 -- ---- edges

@@ -15,4 +15,5 @@ edges_from box chords S total = foldl (λ sum e. add_span (factor_of box e) sum 
 -- the same with the box's entries of a gradient
 abbrev pub edges_with_gradient_from : Bounds → Chords → ℕ → ℕ → WithGradient → WithGradient
 edges_with_gradient_from box chords S at s =
-    foldl (λ so e. add_span_with_gradient e (factor_of box e) (across_of box e) at so (edge_from chords S e)) s box_edges
+    foldl (λ so e. add_span_with_gradient e (factor_of box e) (across_of box e) at so (edge_from chords S e)) s
+    box_edges

@@ -1,5 +1,7 @@
--- The areas of the rows of a pass with their gradients, written in place: those that are wanted are worked out, every other number stays.
-use Rattle.std.specs.Prelude.{ℕ, min, ◌*◌, ◌/◌, Bool, cond, Option, None, Some, List, map, eqb, Float, length, replicate, take, drop}
+-- The areas of the rows of a pass with their gradients, written in place: those that are wanted are worked out, every
+-- other number stays.
+use Rattle.std.specs.Prelude.{ℕ, min, ◌*◌, ◌/◌, Bool, cond, Option, None, Some, List, map, eqb, Float}
+use Rattle.std.specs.Prelude.{length, replicate, take, drop}
 use Rattle.std.specs.Float.{nan}
 use Rattle.lists.specs.Written.{written}
 use Rattle.binary64.specs.Constants.{zero64}
@@ -15,10 +17,14 @@ use Rattle.sums.specs.Rows.{rows_of, number_at}
 
 -- the area of S as it comes with its gradient by head, which is added to one: without a box, in it, and either
 abbrev pub open_onto : List Circle → List IntersectionPoint → ℕ → List Float → WithGradient
-open_onto circles points S g = with_gradient (area_of circles (region_arcs circles points S)) (add_gradient circles g (region_arcs circles points S))
+open_onto circles points S g =
+    with_gradient (area_of circles (region_arcs circles points S))
+    (add_gradient circles g (region_arcs circles points S))
 
 abbrev pub clipped_onto : Bounds → List Circle → List IntersectionPoint → ℕ → List Float → WithGradient
-clipped_onto box circles points S g = clipped_with_gradient box circles (map (circle_at circles) (heads_of (length circles) S)) (region_arcs circles points S) g
+clipped_onto box circles points S g =
+    clipped_with_gradient box circles (map (circle_at circles) (heads_of (length circles) S))
+    (region_arcs circles points S) g
 
 abbrev pub set_onto : Option Bounds → List Circle → List IntersectionPoint → ℕ → List Float → WithGradient
 set_onto None circles points S g = open_onto circles points S g
@@ -54,4 +60,5 @@ abbrev pub areas_to : (ℕ → Bool) → (ℕ → WithGradient) → ℕ → List
 areas_to wanted row count areas = written (number_at wanted (λ S. (row S).sum) areas) count areas
 
 abbrev pub rows_to : (ℕ → Bool) → (ℕ → WithGradient) → ℕ → ℕ → List Float → List Float
-rows_to wanted row width count gradients = written (by_row width nan (row_after wanted row width gradients)) (count * width) gradients
+rows_to wanted row width count gradients =
+    written (by_row width nan (row_after wanted row width gradients)) (count * width) gradients

@@ -17,4 +17,5 @@ bytes_written n there bytes = written (λ S. byte (there S)) (min (rows_of n) (l
 
 -- "an absent row holds +0"; a row that is there keeps its number
 abbrev pub absent_cleared : ℕ → (ℕ → Bool) → List Float → List Float
-absent_cleared n there numbers = written (λ S. cond (there S) (get_or numbers S nan) zero64) (min (rows_of n) (length numbers)) numbers
+absent_cleared n there numbers =
+    written (λ S. cond (there S) (get_or numbers S nan) zero64) (min (rows_of n) (length numbers)) numbers

@@ -1,5 +1,5 @@
 -- What each arc adds to the sum of a set, by the arc's number: in the box one number, without it three, and three to a
--- gradient. Those of an arc between neighbours and of a whole circle are the same for every set, and are held in arrays.
+-- gradient. Those of an arc between neighbours and of a whole circle are the same for every set, and held in arrays.
 use Rattle.std.specs.Prelude.{ℕ, ◌<◌, ◌≡◌, true, List, get_or, Float}
 use Rattle.std.specs.List.{Contains}
 use mathlib.Core.List.{foldl}

@@ -131,8 +131,8 @@ arcs_listed circles heads list = map (arc_at circles heads) list
 -- After those of `before` come numbers of these arcs, of heads of `needed`.
 pub record Added (pass : Pass) (arcs : List BoundaryArc) (before after : List ℕ) : Type 0 where
   pub said :
-      arcs_listed pass.circles.now.items pass.heads.now.items after
-      ≡ arcs_listed pass.circles.now.items pass.heads.now.items before ++ arcs
+      arcs_listed pass.circles.now pass.heads.now.items after
+      ≡ arcs_listed pass.circles.now pass.heads.now.items before ++ arcs
   pub placed : Every (Placed pass.needed pass.heads.now.items) before
       → Every (Placed pass.needed pass.heads.now.items) after
 

@@ -36,7 +36,7 @@ impl<'a> ArcOf<'a> {
     #[tactic(auto, using(crate::proofs::Held::heads_named, crate::proofs::Held::placed_below))]
     pub(crate) fn head(&self) -> usize
         ensures value { result ≡ head_of self.now.place }
-        ensures below { result < length self.now.pass.circles.now.items }
+        ensures below { result < length self.now.pass.circles.now }
     {
         match ArcNumber::of(self.place) {
             ArcNumber::Next { head, .. }
@@ -47,14 +47,14 @@ impl<'a> ArcOf<'a> {
 
     // The circle of its head.
     pub(crate) fn circle(&self) -> Circle
-        ensures { result ≡ circle_at self.now.pass.circles.now.items (head_of self.now.place) }
+        ensures { result ≡ circle_at self.now.pass.circles.now (head_of self.now.place) }
     {
         self.pass.circles[self.head()]
     }
 
     // The arc itself.
     pub(crate) fn arc(&self) -> BoundaryArc
-        ensures { result ≡ arc_at self.now.pass.circles.now.items self.now.pass.heads.now.items self.now.place }
+        ensures { result ≡ arc_at self.now.pass.circles.now self.now.pass.heads.now.items self.now.place }
     {
         let j = self.head();
         let circle = self.pass.circles[j];

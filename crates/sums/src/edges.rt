@@ -17,7 +17,11 @@ pub(crate) fn add_edges(total: f64, bounds: Bounds, mask: usize, chords: &Chords
 {
     let mut sum = total;
     for edge in BoxEdge::ALL {
-        sum = add_span(edge.factor(bounds), sum, chord_span(chords, mask, edge));
+        sum = add_span(
+            edge.factor(bounds),
+            sum,
+            chord_span(chords.edge(edge.number()), mask),
+        );
     }
     sum
 }
@@ -35,7 +39,7 @@ pub(crate) fn add_edges_with_gradient(
     ensures added { so_far sum.new ≡ edges_with_gradient_from bounds chords.now mask place.at (so_far sum.old) }
 {
     for edge in BoxEdge::ALL {
-        let span = chord_span(chords, mask, edge);
+        let span = chord_span(chords.edge(edge.number()), mask);
         sum.add_edge(edge, edge.factor(bounds), edge.across(bounds), place, span);
     }
 }

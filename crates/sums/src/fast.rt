@@ -16,7 +16,7 @@ use crate::row::{Areas, BoxRows};
 use crate::rows::PlainRows;
 use crate::terms::{Integrals, Terms};
 use crate::walk::Listed;
-use chords::fill::fill_chords;
+use chords::fill::Chords;
 use gaps::marks::heads_marked;
 use gaps::numbers::HELD;
 use geometry::bounds::Bounds;
@@ -37,8 +37,9 @@ pub(crate) fn wanted_heads(wanted: &[u8]) -> usize
     heads
 }
 
-// The area of each set that is wanted, at the place of its mask. That there is a place for each row is asked of the
-// lent slice where it is written, as of any slice.
+// The area of each set that is wanted, at the place of its mask. That there is a place for each row is asked here and
+// below. With a struct that says so each contract would say beside what the slice holds that it is the same slice as
+// before.
 pub(crate) fn write_rows<R: Areas>(rows: &R, wanted: &[u8], areas: &mut [f64])
     requires places { length wanted.now ≤ length areas.old }
     requires has { OfWanted wanted.now (R.Has rows.now) }
@@ -60,7 +61,7 @@ fn write_open(pass: &Pass, wanted: &[u8], areas: &mut [f64])
     requires places { length wanted.now ≤ length areas.old }
     requires within { OfWanted wanted.now (λ S. Subset S pass.now.needed) }
     ensures { areas.new ≡ written (number_at (stands wanted.now)
-        (λ S. open_area (members_of pass.now.circles.now.items pass.now.points.now S)) areas.old)
+        (λ S. open_area (members_of pass.now.circles.now pass.now.points.now S)) areas.old)
         (length wanted.now) areas.old }
 {
     let mut terms = [Triple::ZERO; HELD];
@@ -74,11 +75,12 @@ fn write_open(pass: &Pass, wanted: &[u8], areas: &mut [f64])
 }
 
 // The same in the box.
+#[tactic(auto, using(crate::proofs::Edging::pass_chorded))]
 fn write_in_box(pass: &Pass, bounds: Bounds, wanted: &[u8], areas: &mut [f64])
     requires places { length wanted.now ≤ length areas.old }
     requires within { OfWanted wanted.now (λ S. Subset S pass.now.needed) }
     ensures { areas.new ≡ written (number_at (stands wanted.now)
-        (λ S. clipped_area bounds (members_of pass.now.circles.now.items pass.now.points.now S)) areas.old)
+        (λ S. clipped_area bounds (members_of pass.now.circles.now pass.now.points.now S)) areas.old)
         (length wanted.now) areas.old }
 {
     let of = Integrals { bounds };
@@ -89,7 +91,7 @@ fn write_in_box(pass: &Pass, bounds: Bounds, wanted: &[u8], areas: &mut [f64])
         of,
         values: &values,
     };
-    let chords = fill_chords(pass.circles, bounds, pass.needed);
+    let chords = Chords::of(pass.circles, bounds, pass.needed);
     let rows = BoxRows {
         integrals: &integrals,
         chords: &chords,
@@ -101,11 +103,10 @@ fn write_in_box(pass: &Pass, bounds: Bounds, wanted: &[u8], areas: &mut [f64])
 // The pass is put together here and in `gradients`: it borrows its heads, so no function can make both and give it
 // back.
 pub(crate) fn write_fast(rows: &PlainRows<'_>, wanted: &[u8], areas: &mut [f64])
-    requires few { (length rows.now.circles.now.items ≤ 10) × Few rows.now.circles.now.items rows.now.points.now }
-    requires places { (length wanted.now ≤ 2 ^ length rows.now.circles.now.items) ×
-        (length wanted.now ≤ length areas.old) }
+    requires few { Few rows.now.circles.now rows.now.points.now }
+    requires places { (length wanted.now ≤ 2 ^ length rows.now.circles.now) × (length wanted.now ≤ length areas.old) }
     ensures { areas.new ≡ written (number_at (stands wanted.now)
-        (λ S. area_of rows.now.bounds (members_of rows.now.circles.now.items rows.now.points.now S)) areas.old)
+        (λ S. area_of rows.now.bounds (members_of rows.now.circles.now rows.now.points.now S)) areas.old)
         (length wanted.now) areas.old }
 {
     let needed = wanted_heads(wanted);

@@ -2,6 +2,7 @@
 ghost use Rattle.std.specs.Prelude.{◌≡◌, ◌*◌, ◌^◌, ◌<◌, ◌≤◌, length};
 ghost use Rattle.masks.specs.Mask.{Subset};
 ghost use Rattle.masks.specs.Presence.{stands};
+ghost use Rattle.intersections.specs.Heads.{first_ten};
 ghost use Rattle.clip.specs.Gradient.{with_gradient};
 ghost use Rattle.gaps.specs.Marks.{Few};
 ghost use Rattle.sums.specs.Fast.{OfWanted};
@@ -16,12 +17,13 @@ use crate::rows::{PlainRows, row_count};
 use crate::shares::{Parts, fill_parts};
 use crate::terms::{TermsAndSlopes, WithSlopes};
 use crate::walk::Listed;
-use chords::fill::fill_chords;
+use chords::fill::Chords;
 use clip::gradient::area_and_gradient_from_clipped_arcs;
 use gaps::marks::{few, heads_marked};
 use gaps::numbers::HELD;
 use geometry::bounds::Bounds;
-use geometry::circle::Circles;
+use geometry::circle::Circle;
+use intersections::members::first_ten;
 use intersections::points::IntersectionPoint;
 use outline::area::area_from_boundary_arcs;
 use outline::gradient::accumulate_region_overlap_gradient;
@@ -30,7 +32,7 @@ use outline::outline::region_boundary_arcs;
 impl<'a> Gradients for PlainRows<'a> {
     ghost Has = { λ r S. Unit {0} };
 
-    ghost given = { λ r S g. set_onto r.bounds r.circles.now.items r.points.now S g };
+    ghost given = { λ r S g. set_onto r.bounds r.circles.now r.points.now S g };
 
     // from the arcs of its outline, made once
     fn add(&self, mask: usize, grad: &mut [f64], _list: &mut Listed) -> f64 {
@@ -47,7 +49,7 @@ impl<'a> Gradients for PlainRows<'a> {
 fn rows_held(width: usize, places: usize) -> usize
     ensures { result ≡ rows_held width places }
 {
-    if width == 0 { 1024 } else { places / width }
+    places.checked_div(width).unwrap_or(1024)
 }
 
 // How many rows of the first n_sets of ten circles have a place in both slices.
@@ -68,7 +70,7 @@ fn write_row<R: Gradients>(rows: &R, mask: usize, grad: &mut [f64], list: &mut L
     rows.add(mask, grad, list)
 }
 
-// The row of each set that is wanted, at the place of its mask.
+// The row of each set that is wanted, at the place of its mask. (`places` and `within`, here and below, as in `fast`.)
 // The width and the two slices are handed on one by one: as a struct, each contract would have to say beside what they
 // hold that they are the same slices as before.
 fn write_rows<R: Gradients>(
@@ -101,10 +103,9 @@ fn write_open(pass: &Pass, wanted: &[u8], width: usize, areas: &mut [f64], gradi
     requires places { (length wanted.now ≤ length areas.old) × (length wanted.now * width ≤ length gradients.old) }
     requires within { OfWanted wanted.now (λ S. Subset S pass.now.needed) }
     ensures areas_after { areas.new ≡ areas_to (stands wanted.now)
-        (row_anew (open_onto pass.now.circles.now.items pass.now.points.now) width) (length wanted.now) areas.old }
+        (row_anew (open_onto pass.now.circles.now pass.now.points.now) width) (length wanted.now) areas.old }
     ensures gradients_after { gradients.new ≡ rows_to (stands wanted.now)
-        (row_anew (open_onto pass.now.circles.now.items pass.now.points.now) width) width (length wanted.now)
-        gradients.old }
+        (row_anew (open_onto pass.now.circles.now pass.now.points.now) width) width (length wanted.now) gradients.old }
 {
     let mut values = [TermsAndSlopes::default(); HELD];
     fill(pass, &WithSlopes, &mut values);
@@ -117,6 +118,7 @@ fn write_open(pass: &Pass, wanted: &[u8], width: usize, areas: &mut [f64], gradi
 }
 
 // The same in the box.
+#[tactic(auto, using(crate::proofs::Edging::pass_chorded))]
 fn write_in_box(
     pass: &Pass,
     bounds: Bounds,
@@ -128,15 +130,14 @@ fn write_in_box(
     requires places { (length wanted.now ≤ length areas.old) × (length wanted.now * width ≤ length gradients.old) }
     requires within { OfWanted wanted.now (λ S. Subset S pass.now.needed) }
     ensures areas_after { areas.new ≡ areas_to (stands wanted.now)
-        (row_anew (clipped_onto bounds pass.now.circles.now.items pass.now.points.now) width) (length wanted.now)
-        areas.old }
+        (row_anew (clipped_onto bounds pass.now.circles.now pass.now.points.now) width) (length wanted.now) areas.old }
     ensures gradients_after { gradients.new ≡ rows_to (stands wanted.now)
-        (row_anew (clipped_onto bounds pass.now.circles.now.items pass.now.points.now) width) width
+        (row_anew (clipped_onto bounds pass.now.circles.now pass.now.points.now) width) width
         (length wanted.now) gradients.old }
 {
     let mut parts = Parts::new();
     fill_parts(pass, bounds, &mut parts);
-    let chords = fill_chords(pass.circles, bounds, pass.needed);
+    let chords = Chords::of(pass.circles, bounds, pass.needed);
     let rows = BoxRowsWithGradients {
         pass: *pass,
         bounds,
@@ -154,13 +155,13 @@ fn write_fast(
     areas: &mut [f64],
     gradients: &mut [f64],
 )
-    requires few { (length rows.now.circles.now.items ≤ 10) × Few rows.now.circles.now.items rows.now.points.now }
-    requires places { (length wanted.now ≤ 2 ^ length rows.now.circles.now.items) ×
+    requires few { Few rows.now.circles.now rows.now.points.now }
+    requires places { (length wanted.now ≤ 2 ^ length rows.now.circles.now) ×
         ((length wanted.now ≤ length areas.old) × (length wanted.now * width ≤ length gradients.old)) }
     ensures areas_after { areas.new ≡ areas_to (stands wanted.now)
-        (row_with rows.now.bounds rows.now.circles.now.items rows.now.points.now width) (length wanted.now) areas.old }
+        (row_with rows.now.bounds rows.now.circles.now rows.now.points.now width) (length wanted.now) areas.old }
     ensures gradients_after { gradients.new ≡ rows_to (stands wanted.now)
-        (row_with rows.now.bounds rows.now.circles.now.items rows.now.points.now width) width (length wanted.now)
+        (row_with rows.now.bounds rows.now.circles.now rows.now.points.now width) width (length wanted.now)
         gradients.old }
 {
     let needed = wanted_heads(wanted);
@@ -177,12 +178,12 @@ fn write_fast(
     }
 }
 
-// The areas of the sets whose byte in `wanted` is 1, in the box if there is one, each at the place of its mask, as
-// they come with their gradients, of which each is written onto +0 in the `width` numbers of its row. Every other
-// number stays.
+// The areas of the sets of the first ten circles whose byte in `wanted` is 1, in the box if there is one, each at the
+// place of its mask, as they come with their gradients, of which each is written onto +0 in the `width` numbers of its
+// row. Every other number stays.
 pub fn write_gradients(
     bounds: Option<Bounds>,
-    circles: &Circles,
+    circles: &[Circle],
     points: &[IntersectionPoint],
     wanted: &[u8; 1024],
     width: usize,
@@ -190,12 +191,13 @@ pub fn write_gradients(
     gradients: &mut [f64],
 )
     ensures areas_after { areas.new ≡ areas_to (stands wanted.now)
-        (row_with bounds circles.now.items points.now width)
-        (rows_in (length circles.now.items) width areas.old gradients.old) areas.old }
+        (row_with bounds (first_ten circles.now) points.now width)
+        (rows_in (length (first_ten circles.now)) width areas.old gradients.old) areas.old }
     ensures gradients_after { gradients.new ≡ rows_to (stands wanted.now)
-        (row_with bounds circles.now.items points.now width) width
-        (rows_in (length circles.now.items) width areas.old gradients.old) gradients.old }
+        (row_with bounds (first_ten circles.now) points.now width) width
+        (rows_in (length (first_ten circles.now)) width areas.old gradients.old) gradients.old }
 {
+    let circles = first_ten(circles);
     let rows = PlainRows {
         bounds,
         circles,

@@ -3,7 +3,6 @@
 ghost use Rattle.std.specs.Prelude.{◌≡◌, ◌*◌, ◌<◌, length};
 ghost use mathlib.Core.List.{foldl};
 ghost use Rattle.lists.specs.Every.{Every};
-ghost use Rattle.binary64.specs.Constants.{zero64};
 ghost use Rattle.sums.specs.Walk.{Placed};
 ghost use Rattle.sums.specs.Values.{term_of, Standing, Valued, sum_of};
 ghost use Rattle.sums.specs.Slopes.{add_slopes_at};
@@ -42,7 +41,7 @@ pub(crate) fn standing_arcs(pass: &Pass) -> ArrayVec<usize, HELD>
 pub(crate) fn fill<N: OfArc>(pass: &Pass, of: &N, values: &mut [N::Value])
     requires { length values.old ≡ 330 }
     ensures long { length values.new ≡ 330 }
-    ensures valued { (none : N.Value) → Valued pass.now.needed pass.now.circles.now.items pass.now.heads.now.items
+    ensures valued { (none : N.Value) → Valued pass.now.needed pass.now.circles.now pass.now.heads.now.items
         (N.value of.now) none values.new }
 {
     let places = standing_arcs(pass);
@@ -64,17 +63,17 @@ pub(crate) struct Held<'a, N: OfArc> {
     pub(crate) of: N,
     pub(crate) values: &'a [N::Value],
     ghost long: { length values.now ≡ 330 },
-    ghost valued: { (none : N.Value) → Valued pass.needed pass.circles.now.items pass.heads.now.items
-        (N.value of) none values.now },
+    ghost valued: { (none : N.Value) → Valued pass.needed pass.circles.now pass.heads.now.items (N.value of) none
+        values.now },
 }
 
 impl<'a, N: OfArc> Held<'a, N> {
-    // What the arc of a number adds: looked up, or worked out where its angles are no neighbours.
+    // What the arc of a number adds: looked up, or worked out where its angles are no neighbours. By number, here and
+    // below and in `shares`, and not by `ArcOf`: nothing there says that its pass is that of `self`.
     #[tactic(auto, unfolding(crate::specs::Values::term_of))]
     fn at(&self, place: usize) -> N::Value
         requires { Placed self.now.pass.needed self.now.pass.heads.now.items place }
-        ensures { result ≡ term_of (N.value self.now.of) self.now.pass.circles.now.items
-            self.now.pass.heads.now.items place }
+        ensures { result ≡ term_of (N.value self.now.of) self.now.pass.circles.now self.now.pass.heads.now.items place }
     {
         match self.values.get(place) {
             Some(value) => *value,
@@ -91,7 +90,7 @@ impl<'a, N: OfArc> Held<'a, N> {
     // What the arcs of a list add, added up.
     pub(crate) fn sum(&self, arcs: &[usize]) -> f64
         requires { Every (Placed self.now.pass.needed self.now.pass.heads.now.items) arcs.now }
-        ensures { result ≡ sum_of N.added (term_of (N.value self.now.of) self.now.pass.circles.now.items
+        ensures { result ≡ sum_of N.added (term_of (N.value self.now.of) self.now.pass.circles.now
             self.now.pass.heads.now.items) arcs.now }
     {
         let mut total = 0.0;
@@ -106,7 +105,7 @@ impl<'a, N: OfArc> Held<'a, N> {
 // nothing else.
 pub(crate) fn add_slopes(grad: &mut [f64], arcs: &[usize], held: &Held<'_, WithSlopes>)
     requires { Every (Placed held.now.pass.needed held.now.pass.heads.now.items) arcs.now }
-    ensures { grad.new ≡ foldl (add_slopes_at held.now.pass.circles.now.items held.now.pass.heads.now.items) grad.old
+    ensures { grad.new ≡ foldl (add_slopes_at held.now.pass.circles.now held.now.pass.heads.now.items) grad.old
         arcs.now }
 {
     for place in arcs {

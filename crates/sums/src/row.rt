@@ -15,12 +15,18 @@ use crate::lookup::{Held, add_slopes};
 use crate::pass::Pass;
 use crate::shares::Parts;
 use crate::terms::{Integrals, Terms, WithSlopes};
-use crate::walk::{Listed, first_arcs, walk};
+use crate::walk::{Listed, walk};
 use chords::fill::Chords;
 use clip::area::empty_box;
 use clip::slopes::Sum;
 use geometry::bounds::Bounds;
+use intersections::members::first;
 use outline::place::Place;
+
+// How many arcs of a set a gradient is worked out from: the first 180, for which the list of arcs of `boundary` has
+// room. The definition of the gradient cuts there, and no outline of ten heads with their own meeting points has more
+// (`outline_few`). For areas alone nothing is cut.
+const ARCS: usize = 180;
 
 // The rows of a pass, each with its area.
 pub(crate) trait Areas {
@@ -55,7 +61,7 @@ pub(crate) trait Gradients {
 pub(crate) struct BoxRows<'a> {
     pub(crate) integrals: &'a Held<'a, Integrals>,
     pub(crate) chords: &'a Chords,
-    ghost chorded: { Chorded integrals.now.of.bounds integrals.now.pass.circles.now.items integrals.now.pass.needed
+    ghost chorded: { Chorded integrals.now.of.bounds integrals.now.pass.circles.now integrals.now.pass.needed
         chords.now },
 }
 
@@ -66,16 +72,15 @@ pub(crate) struct BoxRowsWithGradients<'a> {
     pub(crate) bounds: Bounds,
     pub(crate) parts: &'a Parts,
     pub(crate) chords: &'a Chords,
-    ghost valued: { PartsValued bounds pass.circles.now.items pass.heads.now.items parts.now.shares.items
-        parts.now.along },
-    ghost chorded: { Chorded bounds pass.circles.now.items pass.needed chords.now },
+    ghost valued: { PartsValued bounds pass.circles.now pass.heads.now.items parts.now.shares.items parts.now.along },
+    ghost chorded: { Chorded bounds pass.circles.now pass.needed chords.now },
 }
 
 // The rows without a box, from the terms of each arc.
 impl<'a> Areas for Held<'a, Terms> {
     ghost Has = { λ r S. Subset S r.pass.needed };
 
-    ghost given = { λ r S. open_area (members_of r.pass.circles.now.items r.pass.points.now S) };
+    ghost given = { λ r S. open_area (members_of r.pass.circles.now r.pass.points.now S) };
 
     fn area(&self, mask: usize, list: &mut Listed) -> f64 {
         walk(&self.pass, mask, list);
@@ -88,7 +93,7 @@ impl<'a> Areas for BoxRows<'a> {
     ghost Has = { λ r S. Subset S r.integrals.now.pass.needed };
 
     ghost given = { λ r S. clipped_area r.integrals.now.of.bounds
-        (members_of r.integrals.now.pass.circles.now.items r.integrals.now.pass.points.now S) };
+        (members_of r.integrals.now.pass.circles.now r.integrals.now.pass.points.now S) };
 
     fn area(&self, mask: usize, list: &mut Listed) -> f64 {
         let bounds = self.integrals.of.bounds;
@@ -104,11 +109,11 @@ impl<'a> Areas for BoxRows<'a> {
 impl<'a> Gradients for Held<'a, WithSlopes> {
     ghost Has = { λ r S. Subset S r.pass.needed };
 
-    ghost given = { λ r S g. open_onto r.pass.circles.now.items r.pass.points.now S g };
+    ghost given = { λ r S g. open_onto r.pass.circles.now r.pass.points.now S g };
 
     fn add(&self, mask: usize, grad: &mut [f64], list: &mut Listed) -> f64 {
         walk(&self.pass, mask, list);
-        let arcs = first_arcs(list);
+        let arcs = first::<ARCS, usize>(list);
         add_slopes(grad, arcs, self);
         0.5 * self.sum(arcs)
     }
@@ -118,14 +123,14 @@ impl<'a> Gradients for Held<'a, WithSlopes> {
 impl<'a> Gradients for BoxRowsWithGradients<'a> {
     ghost Has = { λ r S. Subset S r.pass.needed };
 
-    ghost given = { λ r S g. clipped_onto r.bounds r.pass.circles.now.items r.pass.points.now S g };
+    ghost given = { λ r S g. clipped_onto r.bounds r.pass.circles.now r.pass.points.now S g };
 
     fn add(&self, mask: usize, grad: &mut [f64], list: &mut Listed) -> f64 {
         if empty_box(self.bounds) {
             return 0.0;
         }
         walk(&self.pass, mask, list);
-        let total = self.add_parts(grad, first_arcs(list));
+        let total = self.add_parts(grad, first::<ARCS, usize>(list));
         let mut sum = Sum { total, grad };
         let place = Place::after(self.pass.circles.len());
         add_edges_with_gradient(&mut sum, self.bounds, mask, place, self.chords);

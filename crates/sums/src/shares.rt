@@ -84,7 +84,7 @@ fn put_parts(arc: BoundaryArc, c: Circle, bounds: Bounds, shares: &mut Shares) -
 // there is room. Filled where it is kept: returned, 26 kB would be copied.
 pub(crate) fn fill_parts(pass: &Pass, bounds: Bounds, parts: &mut Parts)
     requires { (p : ℕ) → get_or parts.old.along p None ≡ None }
-    ensures { PartsValued bounds pass.now.circles.now.items pass.now.heads.now.items parts.new.shares.items
+    ensures { PartsValued bounds pass.now.circles.now pass.now.heads.now.items parts.new.shares.items
         parts.new.along }
 {
     let places = standing_arcs(pass);
@@ -117,10 +117,10 @@ fn add_shares(grad: &mut [f64], place: Place, shares: &[Triple])
 
 impl<'a> BoxRowsWithGradients<'a> {
     // The arc of a number, its integral added to a sum and its shares to a gradient: looked up, or worked out where
-    // they are not held.
+    // they are not held. (By number, here and below, as in `lookup`.)
     fn add_parts_at(&self, total: f64, grad: &mut [f64], place: usize) -> f64
         requires { Placed self.now.pass.needed self.now.pass.heads.now.items place }
-        ensures { with_gradient result grad.new ≡ add_parts_at self.now.bounds self.now.pass.circles.now.items
+        ensures { with_gradient result grad.new ≡ add_parts_at self.now.bounds self.now.pass.circles.now
             self.now.pass.heads.now.items (with_gradient total grad.old) place }
     {
         let arc = ArcOf {
@@ -139,7 +139,7 @@ impl<'a> BoxRowsWithGradients<'a> {
     pub(crate) fn add_parts(&self, grad: &mut [f64], arcs: &[usize]) -> f64
         requires { Every (Placed self.now.pass.needed self.now.pass.heads.now.items) arcs.now }
         ensures { with_gradient result grad.new
-            ≡ foldl (add_parts_at self.now.bounds self.now.pass.circles.now.items self.now.pass.heads.now.items)
+            ≡ foldl (add_parts_at self.now.bounds self.now.pass.circles.now self.now.pass.heads.now.items)
             (with_gradient zero64 grad.old) arcs.now }
     {
         let mut total = 0.0;

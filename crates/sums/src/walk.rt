@@ -1,8 +1,7 @@
 // The arcs of a set's outline as a list of their numbers, from what is held of its heads. Rests on specs/Walk.antt.
-ghost use Rattle.std.specs.Prelude.{◌≡◌, true, ◌+◌, ◌*◌, ◌<◌, ◌≤◌, length, take};
+ghost use Rattle.std.specs.Prelude.{◌≡◌, true, ◌+◌, ◌*◌, ◌<◌, ◌≤◌, length};
 ghost use Rattle.std.specs.List.{position};
 ghost use Rattle.masks.specs.Mask.{in_set, Subset};
-ghost use Rattle.boundary.specs.Set.{arcs_held};
 ghost use Rattle.gaps.specs.Marks.{adopted_by, phi_at, angles_in};
 ghost use Rattle.sums.specs.Walk.{marks_of, gap_in, head_in, outline_arcs, Added, Listing};
 
@@ -15,14 +14,6 @@ use masks::is_subset;
 // The numbers of the arcs of a set. A plain list, lent from row to row: a struct that keeps that all are of one pass
 // would hold the pass, which not every kind of rows has.
 pub(crate) type Listed = ArrayVec<usize, GAPS>;
-
-// The first 180 of them, as the list of arcs of `boundary` has room for: the definition of the gradient cuts there,
-// and no plan of ten heads reaches it. For areas alone nothing is cut.
-pub(crate) fn first_arcs(list: &Listed) -> &[usize]
-    ensures { result.now ≡ take arcs_held list.now.items }
-{
-    &list[..list.len().min(180)]
-}
 
 // The first mark whose point the set adopts.
 #[tactic(auto, unfolding(gaps::specs::Marks::adopted_by))]
@@ -39,23 +30,32 @@ struct HeadOfSet<'a> {
     mask: usize,
     j: usize,
     ghost within: { Subset mask pass.needed },
-    ghost head: { j < length pass.circles.now.items },
+    ghost head: { j < length pass.circles.now },
     ghost has: { in_set mask j ≡ true },
 }
 
 impl<'a> HeadOfSet<'a> {
-    // The gap from its a-th mark to its b-th, listed if it is an arc of the set.
+    // The gap from its a-th mark to its b-th, listed if it is an arc of the set. All marks stand for angles, so n is
+    // their number.
     #[inline(always)]
     fn list_gap(&self, a: usize, b: usize, list: &mut Listed)
         requires marks { let n = length (marks_of self.now.pass.heads.now.items self.now.j) in (a < n) × (b < n) }
         requires room { length list.old.items < 320 }
         ensures count { length list.new.items ≤ length list.old.items + 1 }
         ensures added { let p = self.now.pass in let marks = marks_of p.heads.now.items self.now.j in
-            Added p (gap_in p.circles.now.items self.now.mask self.now.j (phi_at marks a) (phi_at marks b))
+            Added p (gap_in p.circles.now self.now.mask self.now.j (phi_at marks a) (phi_at marks b))
             list.old.items list.new.items }
     {
-        let head = self.pass.head(self.j);
-        if let Some(place) = gap_number(self.mask, self.pass.circles, self.j, head, a, b) {
+        let marks = self.pass.head(self.j).marks.as_slice();
+        if let Some(place) = gap_number(
+            self.mask,
+            self.pass.circles,
+            self.j,
+            marks,
+            marks.len(),
+            a,
+            b,
+        ) {
             list.push(place);
         }
     }
@@ -65,7 +65,7 @@ impl<'a> HeadOfSet<'a> {
         requires room { length list.old.items ≤ self.now.j * 32 }
         ensures count { length list.new.items ≤ self.now.j * 32 + 32 }
         ensures added { let p = self.now.pass in
-            Added p (head_in p.circles.now.items self.now.mask self.now.j
+            Added p (head_in p.circles.now self.now.mask self.now.j
             (angles_in self.now.mask (marks_of p.heads.now.items self.now.j))) list.old.items list.new.items }
     {
         let mask = self.mask;
@@ -93,7 +93,7 @@ impl<'a> HeadOfSet<'a> {
 #[tactic(auto, using(crate::proofs::Walking::heads_none))]
 pub(crate) fn walk(pass: &Pass, mask: usize, list: &mut Listed)
     requires { Subset mask pass.now.needed }
-    ensures { let cs = pass.now.circles.now.items in
+    ensures { let cs = pass.now.circles.now in
         Listing cs pass.now.needed pass.now.heads.now.items (outline_arcs cs pass.now.points.now mask) list.new.items }
 {
     list.clear();

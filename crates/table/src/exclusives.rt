@@ -6,7 +6,8 @@ ghost use Rattle.regions.specs.Slices.{slices_of, row_at, written_bytes, written
 use exclusive::areas::to_exclusive_areas;
 use plan::rows_needed;
 
-// Rows 0 to 2^n - 1 of the second table: the bytes of the first, and the exclusive areas.
+// Rows 0 to 2^n - 1 of the second table: the bytes of the first, and the exclusive areas. Slices one by one: of
+// `Tables` the contract would also say that the first table stays, and that each slice is the same as before.
 pub(crate) fn write_exclusives(
     n: usize,
     presence: &[u8],

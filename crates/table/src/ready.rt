@@ -3,7 +3,7 @@
 ghost use Rattle.std.specs.Prelude.{◌≡◌, Option};
 ghost use Rattle.table.specs.Ready as spec;
 
-use drawn::circles_of;
+use drawn::plan_circles;
 use geometry::bounds::Bounds;
 use geometry::circle::Circles;
 use intersections::collect::collect_intersections;
@@ -12,7 +12,8 @@ use plan::Plan;
 use sets::discover::discover_regions;
 
 // Circles and their meeting points; and the box, if the rows are those in it.
-// Not `Drawing` of diagram: that has the box, whose area goes into row 0, and this its bounds alone.
+// Not `Drawing` of diagram: that lends its circles, which are made of the plan here, and has the box, whose area goes
+// into row 0, and this its bounds alone.
 #[derive(Drop)]
 pub struct Ready {
     pub circles: Circles,
@@ -25,7 +26,7 @@ impl Ready {
     pub(crate) fn of(plan: Plan, bounds: Option<Bounds>) -> Self
         ensures { spec.Of plan bounds result }
     {
-        let circles = circles_of(plan);
+        let circles = plan_circles(plan);
         let points = collect_intersections(&circles);
         Self {
             circles,

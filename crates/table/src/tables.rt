@@ -1,7 +1,8 @@
 // Both lent tables written in one pass: the rows, and from them the exclusives. Every call that writes a
 // table goes through here, with the sets before and after handed in as bytes, so that another list of sets
 // needs no other pass.
-ghost use Rattle.std.specs.Prelude.{◌≡◌};
+ghost use Rattle.std.specs.Prelude.{◌≡◌, [], ◌∷◌};
+ghost use Rattle.plan.specs.Table.{lent_by};
 ghost use Rattle.regions.proofs.Slices.{Room};
 ghost use Rattle.regions.specs.Slices.{lent_of};
 ghost use Rattle.table.specs.Ready.{heads_in};
@@ -26,17 +27,28 @@ pub struct Tables<'a> {
     pub exclusives: &'a mut [f64],
 }
 
+// What four slices of these lengths lend, to be written or to be read alone: as many rows as the shortest has. Four
+// lengths and no slices, as the call has taken them before: whoever only reads has shared slices, and no `Tables`.
+pub fn lent_by(presence: usize, rows: usize, exclusive_presence: usize, exclusives: usize) -> Lent
+    ensures { result ≡ lent_by (presence ∷ rows ∷ exclusive_presence ∷ exclusives ∷ []) 0 }
+{
+    Lent {
+        rows: presence.min(rows).min(exclusive_presence).min(exclusives),
+        gradients: 0,
+    }
+}
+
 impl Tables<'_> {
-    // As many rows as the shortest slice has.
+    // What the four slices lend.
     pub fn lent(&self) -> Lent
         ensures { result ≡ lent_of (tables_in self.now) }
     {
-        let rows = self.presence.len().min(self.rows.len());
-        let exclusives = self.exclusive_presence.len().min(self.exclusives.len());
-        Lent {
-            rows: rows.min(exclusives),
-            gradients: 0,
-        }
+        lent_by(
+            self.presence.len(),
+            self.rows.len(),
+            self.exclusive_presence.len(),
+            self.exclusives.len(),
+        )
     }
 }
 

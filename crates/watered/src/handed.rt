@@ -8,6 +8,7 @@ use plan::{Answer, Ground, Plan, answer_number};
 use std::array;
 
 // Head i of ten: x, y and radius of each in turn.
+// No `From`, here and below: neither type is of this crate.
 // By place, here and in `number_at`, and not by `as_chunks` and `as_flattened`: the definition has number i at i / 3
 // and i % 3, and those speak of lists of lists.
 #[tactic(auto, unfolding(crate::specs::Handed::head_of))]

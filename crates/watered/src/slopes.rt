@@ -10,7 +10,7 @@ ghost use Rattle.watered.specs.Handed as spec;
 ghost use Rattle.watered.specs.Overlap.{overlap_left};
 
 use crate::handed::{number_of, plan_of};
-use drawn::circles_of;
+use drawn::plan_circles;
 use overlaps::overlaps::compute_overlaps_circles;
 use plan::check::check;
 
@@ -64,7 +64,7 @@ pub fn watered_overlap(n: usize, sides: &[i32; 4], heads: &[i32; 30], overlap: &
     let plan = plan_of(n, sides, heads);
     let answer = check(plan);
     if answer.is_ok() {
-        *overlap = compute_overlaps_circles(&circles_of(plan));
+        *overlap = compute_overlaps_circles(&plan_circles(plan));
     }
     number_of(answer)
 }

@@ -1,6 +1,6 @@
 // The calls of the C interface for a plan's tables: afresh, without the box, and edited. Each makes the plan and the
-// tables of what C lends, calls `table`, whose definitions it has, and gives the answer's number. Those with and without
-// the box are two, as C has two names.
+// tables of what C lends, calls `table`, whose definitions it has, and gives the answer's number. Those with and
+// without the box are two, as C has two names.
 ghost use Rattle.std.specs.Prelude.{◌≡◌};
 ghost use Rattle.plan.specs.Table.{answer_number};
 ghost use Rattle.regions.specs.Slices.{tables_of, plan_slices, afresh_slices, edit_slices};

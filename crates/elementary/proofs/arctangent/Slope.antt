@@ -54,6 +54,9 @@ above_diagonal {x} {y} p t = record {
     less : (a b c d m n : ℕ) → (a ≡ m) × (b ≡ 0) → (c ≡ n) × (d ≡ 0) → c + b ≤ a + d → n ≤ m
     less a b c d m n p q h = omega arith
 
+-- the smaller over the larger, on either side of the diagonal
+pub ruleset ordered = (below_diagonal, above_diagonal)
+
 module _ {low high : Float} (o : Ordered low high) where
   abbrev q : Float
   q = div binary64 low high
@@ -208,3 +211,6 @@ module _ {low high : Float} (o : Ordered low high) where
       at : (n m a c u e : ℕ) → u ≡ 2 ^ 54 * e → m * 2 ^ 64 * c ≤ (n * u + u) * c → a * u ≤ m * c + e * c
           → 2 ^ 64 * a * u ≤ (n * c + 1025 * c) * u
       at n m a c u e p h k = omega (arith, ap (λ (x : ℕ). x * c) p)
+
+-- the scaled quotient is cut to a u64
+pub ruleset in_u64 = (above_minus_one, below_top)

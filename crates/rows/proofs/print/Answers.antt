@@ -3,6 +3,7 @@ use Rattle.std.specs.declared.option.Option.{Option}
 use Rattle.std.specs.Io.KnownBytes.{Appends}
 use Rattle.regions.specs.Slices.{LentTables}
 use Rattle.table.specs.Method.{clipped_table}
+use Rattle.table.specs.Tables.{tables_in}
 use Rattle.file.specs.File.{read_file}
 use Rattle.printing.specs.Text.{Printed}
 use Rattle.reading.specs.Whole.{file_printed}
@@ -22,7 +23,7 @@ texts_written (Err e) old new out left n Of text h few p = tt
 
 pub returns-clause-ok : goal.returns-clause-ok
 returns-clause-ok g c =
-    let state = state_in c.args.reading.now in
+    let state = state_in c.args.reading (tables_in c.args.tables.now) in
     let n = c.print_file-n in
     let written : OnOk c.map_err.result
     (Appends (g.O.Write.contents c.args.out.now) (g.O.Write.contents c.write_all.new.self)

@@ -6,4 +6,4 @@ use Rattle.boundary.proofs.Walking.{before_member}
 use Rattle.boundary.proofs.walk.walk.Given as goal
 
 abbrev pub invariant-loop-k : goal.invariant-loop-k
-invariant-loop-k l = (l.all.items ≡ before_member l.points l.mask l.set.items l.k) × (length l.all.items ≤ 32 * l.k)
+invariant-loop-k l = (l.all.items ≡ before_member l.points l.mask l.set l.k) × (length l.all.items ≤ 32 * l.k)

@@ -3,5 +3,5 @@ use Rattle.diagram.proofs.gradients.compute_exclusive_regions_clipped_with_gradi
 
 pub returns-clause-gradients_after : goal.returns-clause-gradients_after
 returns-clause-gradients_after c =
-    let o = c.in_ok-drawing.ensures in let e = c.exclusive_areas_and_gradients_of.ensures in
+    let o = c.of-drawing.ensures in let e = c.exclusive_areas_and_gradients_of.ensures in
     rw (c.sets.ensures, o.circles, o.points, o.container) at e.gradients_after

@@ -11,7 +11,7 @@ loop-j-preserved c =
     c.push.ensures.items
     ∙ elim c.if-needed-j-eq1.branch [
       | then-needed-j-eq1 w ↦ rw (w.marked-is, w.mark.ensures, c.loop-j.invariant)
-          (heads_with a.circles.now.items a.points.now a.needed c.loop-j.j w.if-needed-j-eq1.true)
+          (heads_with c.first_ten-circles.result.now a.points.now a.needed c.loop-j.j w.if-needed-j-eq1.true)
       | else-needed-j-eq1 w ↦ rw (w.marked-is, unmarked_is d.0 d.1, c.loop-j.invariant)
-          (heads_without a.circles.now.items a.points.now a.needed c.loop-j.j w.if-needed-j-eq1.false)
+          (heads_without c.first_ten-circles.result.now a.points.now a.needed c.loop-j.j w.if-needed-j-eq1.false)
     ]

@@ -4,4 +4,4 @@ use Rattle.gaps.proofs.Marking.{heads_to}
 use Rattle.gaps.proofs.marks.heads_marked.Given as goal
 
 abbrev pub invariant-loop-j : goal.invariant-loop-j
-invariant-loop-j l = l.heads.items ≡ heads_to l.circles.items l.points l.needed l.j
+invariant-loop-j l = l.heads.items ≡ heads_to l.circles l.points l.needed l.j

@@ -13,11 +13,12 @@ loop-j-init c = row_start _ _ c.loop-i.invariant
 
 pub push_points-requires : goal.push_points-requires
 push_points-requires c =
-    rw c.loop-j.invariant (row_room c.as_slice-heads.result.now c.loop-i.i c.loop-j.j c.as_slice-heads.ensures.fits (omega arith) (omega arith))
+    rw c.loop-j.invariant (row_room c.first_ten-heads.result.now c.loop-i.i c.loop-j.j c.first_ten-heads.ensures.most
+    (omega arith) (omega arith))
 
 pub loop-j-preserved : goal.loop-j-preserved
 loop-j-preserved c =
-    let pair = c.new-pair.ensures in
+    let pair = c.new.ensures in
     let pushed = rw (pair.0, pair.1, pair.2) at c.push_points.ensures in
     row_on _ _ c.loop-j.j (omega arith) pushed c.loop-j.invariant
 
@@ -25,4 +26,5 @@ pub loop-i-preserved : goal.loop-i-preserved
 loop-i-preserved c = row_end _ _ c.loop-j.j (omega arith) c.loop-j.invariant
 
 pub returns : goal.returns
-returns c = rows_end _ c.loop-i.i (omega arith) (omega arith) c.loop-i.invariant ∙ ap collected c.as_slice-heads.ensures.value
+returns c =
+    rows_end _ c.loop-i.i (omega arith) (omega arith) c.loop-i.invariant ∙ ap collected c.first_ten-heads.ensures.value

@@ -4,4 +4,4 @@ use Rattle.intersections.proofs.Gathering.{heads_to}
 use Rattle.intersections.proofs.members.gathered_members.Given as goal
 
 abbrev pub invariant-loop-head : goal.invariant-loop-head
-invariant-loop-head l = l.members.items ≡ heads_to l.circles.items l.mask l.head
+invariant-loop-head l = l.members.items ≡ heads_to l.circles l.mask l.head

@@ -6,4 +6,4 @@ use Rattle.outline.specs.Area.{add_slopes}
 use Rattle.outline.proofs.gradient.accumulate_region_overlap_gradient.Given as goal
 
 abbrev pub invariant-loop-arc : goal.invariant-loop-arc
-invariant-loop-arc l = l.grad ≡ foldl (add_slopes l.circles.items) l.initial.grad (take l.arc-index l.arcs)
+invariant-loop-arc l = l.grad ≡ foldl (add_slopes l.circles) l.initial.grad (take l.arc-index l.arcs)

@@ -19,7 +19,8 @@ room m count width n lt le = let more = mul-le-mul_right {m = suc m} {n = count}
 pub loop-mask-init : goal.loop-mask-init
 loop-mask-init g c =
     let a = c.args in
-    none_laid (stands a.wanted.now) (row_anew (g.R.Gradients.given a.rows.now) a.width) a.width a.areas.now a.gradients.now
+    none_laid (stands a.wanted.now) (row_anew (g.R.Gradients.given a.rows.now) a.width) a.width a.areas.now
+    a.gradients.now
 
 pub loop-mask-preserved : goal.loop-mask-preserved
 loop-mask-preserved g c =
@@ -36,7 +37,8 @@ loop-mask-preserved g c =
     let many = part_many S w l.gradients (omega (arith, place, wide)) in
     elim c.if-byte-eq1.branch [
       | then-byte-eq1 t ↦ let is = eq-eqb _ 1 t.if-byte-eq1.true in
-          let er = t.write_row-area.ensures.row ∙ ap (λ (k : ℕ). row_anew (g.R.Gradients.given a.rows.now) k S) many in (
+          let er = t.write_row-area.ensures.row
+          ∙ ap (λ (k : ℕ). row_anew (g.R.Gradients.given a.rows.now) k S) many in (
             t.areas-is ∙ area_put wanted row w a.areas.now a.gradients.now S er is more l.areas l.invariant.0,
             row_laid wanted row w a.areas.now a.gradients.now S er is place (t.write_row-area.ensures.grad_len ∙ many)
                 l.gradients _ l.invariant.1 t.gradients-is,

@@ -7,4 +7,5 @@ use Rattle.sums.proofs.gradients.write_rows.Given as goal
 abbrev pub invariant-loop-mask : goal.invariant-loop-mask
 invariant-loop-mask g l =
     (l.areas ≡ areas_to (stands l.wanted) (row_anew (g.R.Gradients.given l.rows) l.width) l.mask l.initial.areas)
-    × (l.gradients ≡ rows_to (stands l.wanted) (row_anew (g.R.Gradients.given l.rows) l.width) l.width l.mask l.initial.gradients)
+    × (l.gradients
+    ≡ rows_to (stands l.wanted) (row_anew (g.R.Gradients.given l.rows) l.width) l.width l.mask l.initial.gradients)

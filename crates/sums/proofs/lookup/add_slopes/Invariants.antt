@@ -7,5 +7,5 @@ use Rattle.sums.proofs.lookup.add_slopes.Given as goal
 
 abbrev pub invariant-loop-place : goal.invariant-loop-place
 invariant-loop-place l =
-    l.grad ≡ foldl (add_slopes_at l.held.pass.circles.now.items l.held.pass.heads.now.items) l.initial.grad
+    l.grad ≡ foldl (add_slopes_at l.held.pass.circles.now l.held.pass.heads.now.items) l.initial.grad
     (take l.place-index l.arcs)

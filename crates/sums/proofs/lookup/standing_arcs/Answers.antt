@@ -16,7 +16,8 @@ loop-mark-preserved c =
     let p = c.args.pass.now in
     let j = c.loop-j.j in
     let low : c.loop-j.j < 10 = head_few p c.deref-head-items.ensures.0 c.loop-j-test.true in
-    let many = marks_counted p c.deref-head-items.ensures.0 c.head-item.is c.loop-j-test.true c.len-mark-end.ensures.value in
+    let many = marks_counted p c.deref-head-items.ensures.0 c.head-item.is c.loop-j-test.true
+    c.len-mark-end.ensures.value in
     let few = marks_few p c.loop-j.j in
     rw c.push.ensures.items
     (below_next c.loop-mark.invariant
@@ -29,7 +30,8 @@ loop-j-preserved c =
     let p = c.args.pass.now in
     let j = c.loop-j.j in
     let low : c.loop-j.j < 10 = head_few p c.deref-head-items.ensures.0 c.loop-j-test.true in
-    let many = marks_counted p c.deref-head-items.ensures.0 c.head-item.is c.loop-j-test.true c.len-mark-end.ensures.value in
+    let many = marks_counted p c.deref-head-items.ensures.0 c.head-item.is c.loop-j-test.true
+    c.len-mark-end.ensures.value in
     let few = marks_few p c.loop-j.j in
     let all : c.loop-mark.mark ≡ length (marks_of p.heads.now.items c.loop-j.j) =
     omega (arith, many, c.loop-mark-test.false, c.loop-mark.auto.mark-end) in
@@ -51,8 +53,8 @@ loop-j-2-preserved c =
       | then-pass-j-eq1 w ↦ rw (w.places-is, w.push-then-pass-j-eq1.ensures.items)
           (below_next l.invariant
           (w.number-then-pass-j-eq1.ensures
-          ∙ mod-eq_of_lt (omega (arith, p.ten, c.loop-j-2-test.true, c.len-j-end.ensures.value)))
-          (omega arith) (omega (arith, p.ten, c.loop-j-2-test.true, c.len-j-end.ensures.value))
+          ∙ mod-eq_of_lt (omega (arith, p.ten, c.loop-j-2-test.true)))
+          (omega arith) (omega (arith, p.ten, c.loop-j-2-test.true))
           (whole_stands p l.j w.if-pass-j-eq1.true))
       | else-pass-j-eq1 w ↦ rw w.places-is
           (below_past l.invariant (omega arith) (whole_stands_not p l.j w.if-pass-j-eq1.false))
@@ -62,5 +64,5 @@ pub returns : goal.returns
 returns c =
     let p = c.args.pass.now in
     below_all (below_past c.loop-j-2.invariant
-    (omega (arith, p.ten, c.loop-j-2.auto.j-end, c.len-j-end.ensures.value))
-    (λ q l u. whole_past p q (omega (arith, l, c.loop-j-2-test.false, c.len-j-end.ensures.value)) u))
+    (omega (arith, p.ten, c.loop-j-2.auto.j-end))
+    (λ q l u. whole_past p q (omega (arith, l, c.loop-j-2-test.false)) u))

@@ -50,5 +50,7 @@ returns c =
     let all : c.loop-mask.mask ≡ c.row_count-count.result = omega (arith, long, c.loop-mask-test.false) in
     ap (λ t. t ++ drop n a.areas.now)
     (c.loop-mask.invariant ∙ written_whole F c.loop-mask.mask n part all long
-    ∙ tab_cong F G n (λ i h. ap (λ (x : Float). cond (among a.has_box (stands a.sets.now) i) x zero64) (get_or-take n a.areas.now i nan h)))
+    ∙ tab_cong F G n
+    (λ i h. ap (λ (x : Float). cond (among a.has_box (stands a.sets.now) i) x zero64)
+    (get_or-take n a.areas.now i nan h)))
     ∙ ap (λ (m : ℕ). written G m a.areas.now) c.row_count-count.ensures.value

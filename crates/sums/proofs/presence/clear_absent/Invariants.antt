@@ -12,4 +12,5 @@ use Rattle.sums.proofs.presence.clear_absent.Given as goal
 abbrev pub invariant-loop-mask : goal.invariant-loop-mask
 invariant-loop-mask l =
     l.area-items
-    ≡ written (λ S. cond (among l.has_box (stands l.sets) S) (get_or l.initial.area-items S nan) zero64) l.mask l.initial.area-items
+    ≡ written (λ S. cond (among l.has_box (stands l.sets) S) (get_or l.initial.area-items S nan) zero64) l.mask
+    l.initial.area-items

@@ -15,5 +15,6 @@ loop-mask-preserved c =
     let l = c.loop-mask in
     let a = c.args in
     rw l.invariant
-    (write_next (λ S. byte (among a.has_box (stands a.sets.now) S)) l.mask (take c.row_count-count.result a.presence.now) _ 0
+    (write_next (λ S. byte (among a.has_box (stands a.sets.now) S)) l.mask
+    (take c.row_count-count.result a.presence.now) _ 0
     c.loop-mask-test.true (c.row_byte.ensures ∙ ap byte (among_own a.has_box (stands a.sets.now) l.mask)))

@@ -6,4 +6,5 @@ use Rattle.sums.specs.Presence.{among}
 use Rattle.sums.proofs.presence.write_presence.Given as goal
 
 abbrev pub invariant-loop-mask : goal.invariant-loop-mask
-invariant-loop-mask l = l.byte-items ≡ written (λ S. byte (among l.has_box (stands l.sets) S)) l.mask l.initial.byte-items
+invariant-loop-mask l =
+    l.byte-items ≡ written (λ S. byte (among l.has_box (stands l.sets) S)) l.mask l.initial.byte-items

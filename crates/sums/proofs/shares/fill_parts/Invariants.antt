@@ -7,4 +7,4 @@ use Rattle.sums.proofs.shares.fill_parts.Given as goal
 abbrev pub invariant-loop-place : goal.invariant-loop-place
 invariant-loop-place l =
     (length l.parts.along ≡ 330)
-    × PartsValued l.bounds l.pass.circles.now.items l.pass.heads.now.items l.parts.shares.items l.parts.along
+    × PartsValued l.bounds l.pass.circles.now l.pass.heads.now.items l.parts.shares.items l.parts.along

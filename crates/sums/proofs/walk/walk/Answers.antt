@@ -25,7 +25,7 @@ returns-then-mask-eq1 c =
     let low : count_trailing_zeros 64 a.mask < 10 = omega (arith, head, p.ten) in
     rw (c.push.ensures.items, c.clear.ensures, c.number.ensures ∙ mod-eq_of_lt (omega (arith, low)))
     (record {
-      said = arcs_one p.circles.now.items p.heads.now.items a.mask one low ∙ marked_arcs p a.mask c.requires;
+      said = arcs_one p.circles.now p.heads.now.items a.mask one low ∙ marked_arcs p a.mask c.requires;
       placed = (
         whole_placed p.heads.now.items p.needed (count_trailing_zeros 64 a.mask) low
             (subset_head a.mask p.needed c.requires (count_trailing_zeros 64 a.mask) (single_in _ a.mask p.ten n one)),
@@ -38,13 +38,13 @@ loop-j-init c =
     let a = c.args in
     let p = a.pass.now in
     rw c.clear.ensures
-    (omega arith, added_none p [] (sym (heads_none p.circles.now.items p.heads.now.items a.mask)))
+    (omega arith, added_none p [] (sym (heads_none p.circles.now p.heads.now.items a.mask)))
 
 pub invariant_of-head : goal.invariant_of-head
 invariant_of-head c =
     record {
       within = c.requires;
-      head = omega (arith, c.loop-j-test.true, c.len-j-end.ensures.value);
+      head = omega (arith, c.loop-j-test.true);
       has = sym (in_by_shift _ _) ∙ eq-eqb _ _ c.if-mask-j-eq1.true;
     }
 
@@ -56,7 +56,8 @@ loop-j-preserved c =
     elim c.if-mask-j-eq1.branch [
       | then-mask-j-eq1 w ↦ rw w.list-is (
         omega (arith, w.list.ensures.count),
-        heads_more p S l.j (sym (in_by_shift S l.j) ∙ eq-eqb _ _ w.if-mask-j-eq1.true) l.invariant.1 w.list.ensures.added,
+        heads_more p S l.j (sym (in_by_shift S l.j) ∙ eq-eqb _ _ w.if-mask-j-eq1.true) l.invariant.1
+            w.list.ensures.added,
       )
       | else-mask-j-eq1 w ↦ rw w.list-is (
         omega (arith, l.invariant.0),
@@ -69,10 +70,10 @@ returns c =
     let l = c.loop-j in
     let a = c.args in
     let p = a.pass.now in
-    let all : l.j ≡ length p.circles.now.items =
-    omega (arith, c.loop-j-test.false, l.auto.j-end, c.len-j-end.ensures.value) in
+    let all : l.j ≡ length p.circles.now =
+    omega (arith, c.loop-j-test.false, l.auto.j-end) in
     record {
-      said = arcs_many p.circles.now.items p.heads.now.items a.mask c.if-mask-eq1.false
+      said = arcs_many p.circles.now p.heads.now.items a.mask c.if-mask-eq1.false
           (rw all at l.invariant.1.said) ∙ marked_arcs p a.mask c.requires;
       placed = l.invariant.1.placed tt;
     }

@@ -8,4 +8,4 @@ use Rattle.sums.proofs.walk.walk.Given as goal
 abbrev pub invariant-loop-j : goal.invariant-loop-j
 invariant-loop-j l =
     (length l.list.items ≤ l.j * 32)
-    × Added l.pass (heads_in l.pass.circles.now.items (marks_of l.pass.heads.now.items) l.mask l.j) [] l.list.items
+    × Added l.pass (heads_in l.pass.circles.now (marks_of l.pass.heads.now.items) l.mask l.j) [] l.list.items

@@ -8,7 +8,8 @@ use Rattle.regions.proofs.Slices.{edit_room}
 use Rattle.table.specs.Method.{clipped_table}
 use Rattle.table.specs.Ready.{Of, plan_bounds}
 use Rattle.table.specs.Tables.{plan_tables}
-use Rattle.table.proofs.Calls.{edit_says, entered_taken, answered, edit_refused, sets_say, edited_pass, edit_step, edit_reworks}
+use Rattle.table.proofs.Calls.{edit_says, entered_taken, answered, edit_refused, sets_say}
+use Rattle.table.proofs.Calls.{edited_pass, edit_step, edit_reworks}
 use Rattle.table.proofs.edit.edit.Goals as goal
 
 pub change_of-requires : goal.change_of-requires

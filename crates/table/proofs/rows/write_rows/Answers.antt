@@ -12,6 +12,7 @@ use Rattle.binary64.specs.Constants.{zero64}
 use Rattle.lists.specs.Written.{written}
 use Rattle.lists.proofs.Writing.{written_before, written_cong, drop_written}
 use Rattle.masks.specs.Presence.{byte, stands, byte_stands}
+use Rattle.intersections.proofs.Few.{few_read}
 use Rattle.sums.specs.Rows.{number_at}
 use Rattle.sums.specs.Presence.{among}
 use Rattle.sums.proofs.Passes.{areas_all, bytes_all, cleared_all}
@@ -47,7 +48,8 @@ returns c =
     let room : 2 ^ n ≤ length a.rows.now = c.requires.1 in
     let worked : List Float = c.write_areas.new.areas in
     let areas : worked ≡ written number (2 ^ n) a.rows.now =
-    rw (c.write_areas.ensures, c.deref.ensures.0) (areas_all n few wanted (area_of r) a.rows.now room) in
+    rw (c.write_areas.ensures, few_read _ c.deref.ensures.1, c.deref.ensures.0, c.deref-2.ensures.0)
+    (areas_all n few wanted (area_of r) a.rows.now room) in
     let row : (S : ℕ) → S < 2 ^ n → cond (there S) (get_or worked S nan) zero64 ≡ (row_of S).number =
     λ S h. rw (areas, written_before number (2 ^ n) S a.rows.now nan h)
     (number_left box a.update.change (area_of r) earlier later a.presence.now a.rows.now wanted S

@@ -5,4 +5,4 @@ use Rattle.intersections.specs.Points.{adopts}
 use Rattle.intersections.proofs.collect.Parents.adopters.Given as goal
 
 abbrev pub invariant-loop-l : goal.invariant-loop-l
-invariant-loop-l l = l.mask ≡ gather l.l (adopts l.self.circles.now l.self.first l.self.second l.p)
+invariant-loop-l l = l.mask ≡ gather l.l (adopts l.self.circles.now l.self.pair.first l.self.pair.second l.p)

@@ -7,5 +7,5 @@ use Rattle.sums.proofs.lookup.Held.sum.Given as goal
 abbrev pub invariant-loop-place : goal.invariant-loop-place
 invariant-loop-place g l =
     l.total
-    ≡ sum_of g.N.OfArc.added (term_of (g.N.OfArc.value l.self.of) l.self.pass.circles.now.items l.self.pass.heads.now.items)
+    ≡ sum_of g.N.OfArc.added (term_of (g.N.OfArc.value l.self.of) l.self.pass.circles.now l.self.pass.heads.now.items)
     (take l.place-index l.arcs)

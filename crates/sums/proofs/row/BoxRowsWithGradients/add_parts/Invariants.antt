@@ -10,6 +10,6 @@ use Rattle.sums.proofs.row.BoxRowsWithGradients.add_parts.Given as goal
 abbrev pub invariant-loop-place : goal.invariant-loop-place
 invariant-loop-place l =
     with_gradient l.total l.grad
-    ≡ foldl (add_parts_at l.self.bounds l.self.pass.circles.now.items l.self.pass.heads.now.items)
+    ≡ foldl (add_parts_at l.self.bounds l.self.pass.circles.now l.self.pass.heads.now.items)
     (with_gradient zero64 l.initial.grad)
     (take l.place-index l.arcs)

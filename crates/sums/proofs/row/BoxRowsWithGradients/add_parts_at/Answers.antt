@@ -18,5 +18,5 @@ returns-in-Some c =
 pub returns : goal.returns
 returns c =
     let p = c.args.self.now.pass in
-    full_is c.args.self.now.bounds p.circles.now.items p.heads.now.items c.args.place c.circle.ensures c.arc.ensures
+    full_is c.args.self.now.bounds p.circles.now p.heads.now.items c.args.place c.circle.ensures c.arc.ensures
     (placed_ten p c.args.place c.requires) c.args.total c.args.grad.now c.head_arc_integral_with_gradient.ensures

@@ -45,7 +45,8 @@ loop-b-preserved c =
     let h = c.args.self.now in
     let l = c.loop-b in
     let marks = c.as_slice-marks.ensures.value ∙ ap (λ h. h.marks.items) c.head-head.ensures in
-    let below : l.b < length (marks_of h.pass.heads.now.items h.j) = omega (arith, c.loop-b-test.true, ap length marks) in
+    let below : l.b < length (marks_of h.pass.heads.now.items h.j) =
+    omega (arith, c.loop-b-test.true, ap length marks) in
     let tested = ap (λ t. adopted_by h.mask (get_or t l.b no_mark)) (sym marks) ∙ sym c.is_subset-in-loop-b.ensures in
     elim c.if-is_subset-2.branch [
       | then-is_subset-2 w ↦ rw (w.list-is, w.last-is)

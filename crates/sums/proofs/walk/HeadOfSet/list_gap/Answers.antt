@@ -8,9 +8,9 @@ pub returns-in-Some : goal.returns-in-Some
 returns-in-Some c =
     let h = c.args.self.now in
     let p = h.pass in
-    let marks = c.requires.marks in
-    let arc = gap_listed p h.mask h.within h.j h.head h.has c.args.a c.args.b marks.0 marks.1
-    (sym c.in-Some.is ∙ c.gap_number.ensures) c.head-head.ensures in
+    let below = c.requires.marks in
+    let arc = gap_listed p h.mask h.within h.j h.head h.has c.args.a c.args.b below.0 below.1
+    (sym c.in-Some.is ∙ c.gap_number.ensures) c.as_slice-marks.ensures.value c.head.ensures in
     record {
       count = omega (arith, c.push.ensures.len);
       added = rw c.push.ensures.items (added_one p c.args.list.now.items c.in-Some.place arc.0 arc.1);
@@ -19,7 +19,7 @@ returns-in-Some c =
 pub returns-in_default-clause-added : goal.returns-in_default-clause-added
 returns-in_default-clause-added c =
     let h = c.args.self.now in
-    let marks = c.requires.marks in
+    let below = c.requires.marks in
     added_none h.pass c.args.list.now.items
-    (gap_listed h.pass h.mask h.within h.j h.head h.has c.args.a c.args.b marks.0 marks.1
-    (sym c.in_default.is ∙ c.gap_number.ensures) c.head-head.ensures)
+    (gap_listed h.pass h.mask h.within h.j h.head h.has c.args.a c.args.b below.0 below.1
+    (sym c.in_default.is ∙ c.gap_number.ensures) c.as_slice-marks.ensures.value c.head.ensures)

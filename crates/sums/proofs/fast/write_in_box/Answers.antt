@@ -1,7 +1,0 @@
--- `fast::write_in_box`: what the rows in the box hold is filled.
-use Rattle.chords.proofs.Ends.{filled_chorded}
-use Rattle.sums.proofs.fast.write_in_box.Goals as goal
-
-pub invariant_of-rows : goal.invariant_of-rows
-invariant_of-rows c =
-    record { chorded = filled_chorded _ _ _ _ c.fill_chords-chords.ensures.filled }
