@@ -27,7 +27,7 @@ pub struct Circle {
     pub radius: f64,
 }
 
-// The circles of a plan's heads, by head number: at most ten.
+// At most ten circles: of a plan's heads by head number, or of the heads of a set in order.
 pub type Circles = ArrayVec<Circle, 10>;
 
 impl Circle {
