@@ -64,9 +64,8 @@ pub fn reach_of(circles: &[Circle], bounds: Bounds, edge: BoxEdge) -> usize
 }
 
 // The chords of the heads of `needed` with an edge, each at its head's place. What stands in any other place stays,
-// and a head for which there is no place is left out. Of the circles the first ten are read. Written by place: tried
-// with `zip` and `iter_mut`, and the proof did not close, since the loop's invariant sees the places handed out there,
-// and not the slice.
+// and a head for which there is no place is left out. Of the circles the first ten are read. Written by place: over
+// a `zip` with `iter_mut` the loop's invariant has no name for the slice, which the contract speaks of.
 pub fn write_chords(
     circles: &[Circle],
     bounds: Bounds,
