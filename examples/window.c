@@ -1,5 +1,5 @@
-/* The life of a drawing window: a plan is opened, heads are dragged, one drag is refused, and in the end the window asks which way to drag
- * next. examples/README.md says how it is built; window.rs and window.py are the same and print the same. */
+/* The life of a drawing window: a plan is opened, heads are dragged, one drag is refused, a head is switched off and on again, and in the end the
+ * window asks which way to drag next. examples/README.md says how it is built; window.rs and window.py are the same and print the same. */
 #include <watered.h>
 
 #include <stdio.h>
@@ -29,7 +29,7 @@ static const char *words(uint32_t answer)
     case WATERED_TAKEN: return "taken";
     case WATERED_TOO_MANY_HEADS: return "there are more than ten heads";
     case WATERED_COORDINATE_OUTSIDE: return "x or y is outside -20000 to 20000";
-    case WATERED_SIZE_OUTSIDE: return "a side is outside 1 to 40000 or a radius outside 1 to 20000";
+    case WATERED_SIZE_OUTSIDE: return "a side is outside 1 to 40000 or a radius outside 0 to 20000";
     case WATERED_NO_SUCH_HEAD: return "there is no head of this number";
     case WATERED_TABLES_TOO_SHORT: return "the tables are too short";
     default: return "a number that this program does not know";
@@ -87,6 +87,17 @@ static void drag(window *w, size_t head, int32_t x, int32_t y, int32_t radius)
     }
 }
 
+/* A head is switched off and on again. With radius 0 it is closed: it keeps its number and its place, and its rows are absent. It is the window that
+ * remembers the radius. Opened again, it leaves plan and tables as they were before. */
+static void switch_off_and_on(window *w, size_t head)
+{
+    const window before = *w;
+    const int32_t *it = &before.heads[3 * head];
+    drag(w, head, it[0], it[1], 0);
+    drag(w, head, it[0], it[1], it[2]);
+    printf("  plan and tables %s those from before head %zu was closed\n", memcmp(&before, w, sizeof before) ? "ARE NOT" : "are, bit for bit,", head);
+}
+
 /* How the ground that only the heads of a set water grows with every number of the plan. By a length it is square centimetres for each
  * centimetre, and a hundredth of that in metres. The gradients of ten heads would be 272 KB: they are asked for when they are needed, not kept. */
 static void show_gradient(const window *w, size_t mask)
@@ -128,7 +139,8 @@ int main(void)
     show(&w);
 
     drag(&w, 2, 450, 300, 300);
-    drag(&w, 1, 150, -80, 0);
+    drag(&w, 1, 150, -80, -1);
+    switch_off_and_on(&w, 1);
     drag(&w, 2, -120, 150, 320);
     hold_against_afresh(&w);
 

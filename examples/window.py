@@ -13,7 +13,7 @@ HEADS = 10
 WORDS = {
     2: 'there are more than ten heads',
     4: 'x or y is outside -20000 to 20000',
-    5: 'a side is outside 1 to 40000 or a radius outside 1 to 20000',
+    5: 'a side is outside 1 to 40000 or a radius outside 0 to 20000',
     6: 'there is no head of this number',
     7: 'the tables are too short',
 }
@@ -113,6 +113,15 @@ class Window:
             print(refused)
             print('  ' + ('nothing changed' if self.state() == before else 'SOMETHING CHANGED'))
 
+    def switch_off_and_on(self, head):
+        """With radius 0 a head is closed: it keeps its number and its place, and its rows are absent. It is the window that remembers the radius.
+        Opened again, it leaves plan and tables as they were before."""
+        before, (x, y, radius) = self.state(), self.heads[3 * head:3 * head + 3]
+        self.drag(head, x, y, 0)
+        self.drag(head, x, y, radius)
+        same = self.state() == before
+        print('  plan and tables %s those from before head %d was closed' % ('are, bit for bit,' if same else 'ARE NOT', head))
+
     def show_gradient(self, mask):
         """How the ground that only the heads of a set water grows with every number of the plan."""
         count, width = 2 ** self.n, 3 * self.n + 4
@@ -145,7 +154,8 @@ def life(library):
     w.show()
 
     w.drag(2, 450, 300, 300)
-    w.drag(1, 150, -80, 0)
+    w.drag(1, 150, -80, -1)
+    w.switch_off_and_on(1)
     w.drag(2, -120, 150, 320)
     w.hold_against_afresh()
 

@@ -41,7 +41,7 @@ mod watered {
             let words = match self.0 {
                 2 => "there are more than ten heads",
                 4 => "x or y is outside -20000 to 20000",
-                5 => "a side is outside 1 to 40000 or a radius outside 1 to 20000",
+                5 => "a side is outside 1 to 40000 or a radius outside 0 to 20000",
                 6 => "there is no head of this number",
                 7 => "the tables are too short",
                 _ => "a number that this program does not know",
@@ -149,6 +149,17 @@ impl Window {
         }
     }
 
+    /// With radius 0 a head is closed: it keeps its number and its place, and its rows are absent. It is the window that remembers the radius. Opened
+    /// again, it leaves plan and tables as they were before.
+    fn switch_off_and_on(&mut self, head: usize) {
+        let before = self.clone();
+        let [x, y, radius] = [0, 1, 2].map(|i| before.plan.heads[3 * head + i]);
+        self.drag(head, [x, y, 0]);
+        self.drag(head, [x, y, radius]);
+        let same = if self.same(&before) { "are, bit for bit," } else { "ARE NOT" };
+        println!("  plan and tables {same} those from before head {head} was closed");
+    }
+
     /// How the ground that only the heads of a set water grows with every number of the plan.
     fn show_gradient(&self, mask: usize) -> Result<(), Refused> {
         let n = self.plan.n;
@@ -186,7 +197,8 @@ fn life() -> Result<(), Refused> {
     w.show();
 
     w.drag(2, [450, 300, 300]);
-    w.drag(1, [150, -80, 0]);
+    w.drag(1, [150, -80, -1]);
+    w.switch_off_and_on(1);
     w.drag(2, [-120, 150, 320]);
     w.hold_against_afresh()?;
 

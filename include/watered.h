@@ -7,8 +7,11 @@
  *
  *   n      how many heads there are, 0 to 10;
  *   box    centre x, centre y, width, height: x and y from -20000 to 20000, width and height from 1 to 40000;
- *   heads  x, y and radius of head 0, then of head 1, and so on: x and y from -20000 to 20000, radius from 1 to 20000. ALWAYS 30 readable
+ *   heads  x, y and radius of head 0, then of head 1, and so on: x and y from -20000 to 20000, radius from 0 to 20000. ALWAYS 30 readable
  *          numbers: those past the n heads may be anything, change nothing and stay.
+ *
+ * A head of radius 0 is CLOSED: it keeps its number and its place, but waters nothing. It meets no head, contains none, lies in none and is in no
+ * set: rows that name it are absent, and everything else is as if it were not there. An edit to another radius opens it.
  *
  * A SET of heads is a mask: bit i stands if head i is in the set. A TABLE has one row for each mask, row S at index S: a presence byte, 0 or 1,
  * and a number, an area in square centimetres. An absent row has byte 0 and the number +0. There are two tables of a plan with the same bytes:
@@ -16,9 +19,9 @@
  *   rows        row S is the area that all heads of S water together; row 0 is the area of the box;
  *   exclusives  row S is the area that exactly the heads of S water and no other does; row 0 is what no head waters. Never below zero.
  *
- * All numbers are finite. Only ground in the box counts, but for the calls named `open`, which have no box and no row 0. Present are row 0, each
- * head by itself, each two heads that touch, cross or contain one another, and of the larger sets those that share ground, by the rule of the Rust
- * crate eunoia, from which the geometry is carried over. Two things of that rule are to be known:
+ * All numbers are finite. Only ground in the box counts, but for the calls named `open`, which have no box and no row 0. Present are row 0, and of
+ * the heads that are not closed each by itself, each two that touch, cross or contain one another, and of the larger sets those that share ground,
+ * by the rule of the Rust crate eunoia, from which the geometry is carried over. Two things of that rule are to be known:
  *
  *   - a set of three heads or more may be absent although its heads share ground, where further heads cover that ground (example/corner.txt of
  *     the sources);
@@ -79,7 +82,7 @@ extern "C" {
 #define WATERED_TOO_MANY_HEADS 2
 /* x or y of the box, of a head or of the edit is outside -20000 to 20000 */
 #define WATERED_COORDINATE_OUTSIDE 4
-/* a side of the box is outside 1 to 40000, or a radius, the edit's too, outside 1 to 20000 */
+/* a side of the box is outside 1 to 40000, or a radius, the edit's too, is below 0 or above 20000; radius 0 is taken, that of a closed head */
 #define WATERED_SIZE_OUTSIDE 5
 /* the edit's head number is not below n */
 #define WATERED_NO_SUCH_HEAD 6
@@ -112,7 +115,8 @@ uint32_t watered_open_afresh(size_t n, const int32_t box[4], const int32_t heads
  *   gradients[S*(3n+4) + 3*n + 0, 1]      by the box's centre x and centre y, likewise;
  *   gradients[S*(3n+4) + 3*n + 2, 3]      by ln(width*height) and ln(width/height), in square centimetres.
  *
- * Absent rows have +0 throughout. An exclusive below zero becomes +0, and its gradient row all +0; no other number is replaced.
+ * Absent rows have +0 throughout, and every row, row 0 too, has +0 by the three numbers of a closed head. An exclusive below zero becomes +0, and
+ * its gradient row all +0; no other number is replaced.
  * `gradients_count` is a number of numbers, at least WATERED_GRADIENTS(n). Refusals 2, 4, 5, 7. */
 uint32_t watered_gradients(size_t n, const int32_t box[4], const int32_t heads[30],
                            uint8_t *presence, size_t presence_count, double *exclusives, size_t exclusives_count,
@@ -124,14 +128,15 @@ uint32_t watered_open_gradients(size_t n, const int32_t box[4], const int32_t he
                                 uint8_t *presence, size_t presence_count, double *exclusives, size_t exclusives_count,
                                 double *gradients, size_t gradients_count);
 
-/* Writes *overlap: the area that all n heads water together, without the box, whose fields are checked all the same, in square centimetres; 0 for
- * no heads. Refusals 2, 4, 5. */
+/* Writes *overlap: the area that all heads but the closed ones water together, without the box, whose fields are checked all the same, in square
+ * centimetres; 0 where there is no such head. Refusals 2, 4, 5. */
 uint32_t watered_overlap(size_t n, const int32_t box[4], const int32_t heads[30], double *overlap);
 
 /* ---- edits
  *
- * Begin with watered_afresh, and hand the same heads and tables to each edit. An edit moves one head and brings both tables of the plan in its box
- * up to it. After any list of edits, refused ones among them, they are, bit for bit, what watered_afresh gives of the plan left.
+ * Begin with watered_afresh, and hand the same heads and tables to each edit. An edit moves one head, closes it by radius 0 or opens it by another,
+ * and brings both tables of the plan in its box up to it. After any list of edits, refused ones among them, they are, bit for bit, what
+ * watered_afresh gives of the plan left.
  *
  * The calls do not look whether the tables handed in are the plan's. The presence bytes are not read but written anew. Worked out are a row with
  * the head, a row of two heads or more with a head that the moved one meets before or after, and a row newly present; every other row still

@@ -123,7 +123,7 @@ typedef struct {
 /* Heads that overlap, touch, hold each other and lie apart; past the n heads stands what no head may have. */
 static plan plan_of(size_t n, int32_t past)
 {
-    static const int32_t all[30] = {0,   0,  500, 300, 0,  400, 0, 300, 450, 10,    20,    60,  800, 0,  400,
+    static const int32_t all[30] = {0,   0,  500, 300, 0,  400, 0, 300, 450, 10,    20,    60,  800, 0,  500,
                                     -40, 30, 200, 0,   0,  500, 0, 0,   499, -9000, 12000, 700, 150, 90, 1000};
     plan p = {n, {100, -50, 2000, 1500}, {0}};
     for (size_t i = 0; i < 30; i++)
@@ -221,7 +221,8 @@ static void afresh(afresh_call *call, size_t n, int boxed)
     give_back_tables(&exact);
 }
 
-static const int32_t moves[6][3] = {{20, 10, 480}, {300, 300, 1}, {-20000, 20000, 20000}, {0, 0, 500}, {1000, 0, 500}, {7, -7, 77}};
+static const int32_t moves[8][3] = {{20, 10, 480}, {300, 300, 1}, {-20000, 20000, 20000}, {0, 0, 500},
+                                    {1000, 0, 500}, {7, -7, 77},  {0, 0, 0},               {300, 0, 0}};
 
 static void edits(size_t n)
 {
@@ -230,7 +231,7 @@ static void edits(size_t n)
     tables t = lend_same(rows + 3);
     expect(watered_afresh(p.n, p.box, p.heads, LENT(&t)) == WATERED_TAKEN, "a plan was refused", n, 0);
     for (size_t k = 0; k < n; k++) {
-        const int32_t *to = moves[k % 6];
+        const int32_t *to = moves[k % 8];
         plan after = p;
         memcpy(&after.heads[3 * k], to, 3 * sizeof *to);
         for (int i = 0; i < 8; i++) {
@@ -257,9 +258,11 @@ static void edits(size_t n)
 
 static void runs(size_t n)
 {
-    enum { EDITS = 7 };
-    size_t edit_heads[EDITS] = {0, 1, 2, n, 0, 3, SIZE_MAX}, rows = WATERED_ROWS(n);
-    int32_t x[EDITS] = {20, 300, 20001, 0, 0, 7, 0}, y[EDITS] = {10, 300, 0, 0, -20001, -7, 0}, radius[EDITS] = {480, 1, 5, 5, 5, 0, 5};
+    /* the head that edit 1 leaves at radius 1 is closed by edit 7, moved closed by edit 8 and opened by edit 9 */
+    enum { EDITS = 10 };
+    size_t edit_heads[EDITS] = {0, 1, 2, n, 0, 3, SIZE_MAX, 1, 1, 1}, rows = WATERED_ROWS(n);
+    int32_t x[EDITS] = {20, 300, 20001, 0, 0, 7, 0, 300, -9, 30}, y[EDITS] = {10, 300, 0, 0, -20001, -7, 0, 300, 9, 30};
+    int32_t radius[EDITS] = {480, 1, 5, 5, 5, -1, 5, 0, 0, 444};
     for (size_t room = 0; room <= EDITS + 2; room++) {
         plan p = plan_of(n, -3), one = p;
         tables t = lend_same(rows + 2), by_one = lend_same(rows + 2);
@@ -305,13 +308,15 @@ static const struct {
     uint32_t answer;
 } wrong[] = {
     {0, 11, 2},     {0, INT64_MAX, 2}, {1, 20001, 4}, {2, -20001, 4},    {3, 0, 5},     {3, 40001, 5},  {4, -1, 5}, {4, INT32_MAX, 5},
-    {5, 20001, 4},  {6, -20001, 4},    {7, 0, 5},     {7, 20001, 5},     {32, 20001, 4}, {34, 0, 5},    {33, INT32_MIN, 4},
+    {5, 20001, 4},  {6, -20001, 4},    {7, -1, 5},    {7, 20001, 5},     {32, 20001, 4}, {34, -1, 5},   {33, INT32_MIN, 4},
+    {7, INT32_MIN, 5},
 };
 
 static const struct {
     int at;
     int64_t value;
-} taken[] = {{0, 10}, {1, 20000}, {2, -20000}, {3, 1}, {3, 40000}, {4, 40000}, {5, 20000}, {6, -20000}, {7, 1}, {7, 20000}, {34, 20000}};
+} taken[] = {{0, 10}, {1, 20000}, {2, -20000}, {3, 1}, {3, 40000}, {4, 40000}, {5, 20000}, {6, -20000}, {7, 0},
+             {7, 1},  {7, 20000}, {34, 0},     {34, 20000}};
 
 static plan changed(int at, int64_t value)
 {
@@ -425,6 +430,128 @@ static void overlaps(void)
 
 
 
+/* ---- closed heads: a plan with some of its heads closed is held against the plan that lacks these heads */
+
+/* The number that mask S of a plan has where the heads of `left` alone are left in, in their order; S is a part of `left`. */
+static size_t without_closed(size_t s, size_t left)
+{
+    size_t small = 0;
+    for (int i = 0, bit = 0; i < WATERED_HEADS; i++)
+        if (left >> i & 1)
+            small |= (s >> i & 1) << bit++;
+    return small;
+}
+
+static int same_double(const double *a, const double *b) { return !memcmp(a, b, sizeof *a); }
+
+static double *doubles(const slice *s) { return (double *)(void *)start(s); }
+
+/* plan_of(n), its heads closed but for those of `left`, with and without the closed ones. These stand where they stood, which for head 0 is the
+ * middle of others, on the point (400, 300) that heads 0 and 4 have in common, or at (500, 0) on the edge of head 0. */
+static void plans_with_closed(size_t n, size_t left, plan *with, plan *without)
+{
+    static const int32_t places[2][3] = {{400, 300, 0}, {500, 0, 0}};
+    *with = *without = plan_of(n, 3);
+    without->n = 0;
+    for (size_t i = 0; i < n; i++)
+        if (left >> i & 1)
+            memcpy(&without->heads[3 * without->n++], &with->heads[3 * i], 3 * sizeof(int32_t));
+        else if (i % 3)
+            memcpy(&with->heads[3 * i], places[i % 3 - 1], sizeof places[0]);
+        else
+            with->heads[3 * i + 2] = 0;
+}
+
+static void closed_tables(afresh_call *call, size_t n, size_t left)
+{
+    plan with, without;
+    plans_with_closed(n, left, &with, &without);
+    tables t = lend_same(WATERED_ROWS(n)), u = lend_same(WATERED_ROWS(without.n));
+    const double zero = 0.0;
+    expect(work_out(call, &with, &t) == WATERED_TAKEN && work_out(call, &without, &u) == WATERED_TAKEN, "a closed head was refused", n, (long)left);
+    for (size_t s = 0; s < WATERED_ROWS(n); s++) {
+        size_t small = without_closed(s, left);
+        for (int i = 0; i < 4; i += 2) {
+            int named = (s & ~left) != 0;
+            uint8_t byte = named ? 0 : start(&u.of[i])[small];
+            const double *number = named ? &zero : doubles(&u.of[i + 1]) + small;
+            expect(start(&t.of[i])[s] == byte && same_double(doubles(&t.of[i + 1]) + s, number), "a row of a plan with closed heads", n, (long)s);
+        }
+    }
+    give_back_tables(&t);
+    give_back_tables(&u);
+}
+
+static void closed_gradients(gradient_call *call, size_t n, size_t left, size_t of_box)
+{
+    plan with, without;
+    plans_with_closed(n, left, &with, &without);
+    const size_t wide = 3 * n + of_box, narrow = 3 * without.n + of_box, rows = WATERED_ROWS(n), few = WATERED_ROWS(without.n);
+    slopes a = lend_slopes(rows, rows, rows * wide), b = lend_slopes(few, few, few * narrow);
+    const double zero = 0.0, *entries = doubles(&a.gradients), *wanted = doubles(&b.gradients);
+    expect(slope(call, &with, &a) == WATERED_TAKEN && slope(call, &without, &b) == WATERED_TAKEN, "a closed head was refused", n, (long)left);
+    for (size_t s = 0; s < rows; s++) {
+        const size_t small = without_closed(s, left);
+        const int named = (s & ~left) != 0;
+        expect(start(&a.presence)[s] == (named ? 0 : start(&b.presence)[small]), "the byte of a gradient row", n, (long)s);
+        expect(same_double(doubles(&a.exclusives) + s, named ? &zero : doubles(&b.exclusives) + small), "an exclusive", n, (long)s);
+        for (size_t e = 0, from = 0; e < wide; e++) {
+            int closed = e < 3 * n && !(left >> e / 3 & 1);
+            const double *want = named || closed ? &zero : wanted + small * narrow + from;
+            from += !closed;
+            expect(same_double(entries + s * wide + e, want), "a gradient entry of a plan with closed heads", n, (long)(s * wide + e));
+        }
+    }
+    give_back_slopes(&a);
+    give_back_slopes(&b);
+}
+
+static void closed_overlap(size_t n, size_t left)
+{
+    plan with, without;
+    plans_with_closed(n, left, &with, &without);
+    double of_all = -1.0, of_left = -2.0;
+    expect(watered_overlap(with.n, with.box, with.heads, &of_all) == WATERED_TAKEN, "a closed head was refused", n, (long)left);
+    expect(watered_overlap(without.n, without.box, without.heads, &of_left) == WATERED_TAKEN, "an overlap was refused", n, (long)left);
+    expect(same_double(&of_all, &of_left), "the overlap of a plan with closed heads", n, (long)left);
+}
+
+/* Each head is closed where it stands and opened again: the tables on the way are those afresh, and in the end the first ones. */
+static void off_and_on(size_t n)
+{
+    plan p = plan_of(n, 0);
+    size_t rows = WATERED_ROWS(n);
+    tables t = lend_same(rows), first = lend_same(rows), fresh = lend_same(rows);
+    expect(work_out(watered_afresh, &p, &t) == WATERED_TAKEN && work_out(watered_afresh, &p, &first) == WATERED_TAKEN, "a plan was refused", n, 0);
+    for (int turn = 0; turn < 2; turn++)
+        for (size_t k = 0; k < n; k++) {
+            const int32_t *at = &p.heads[3 * k], radius = turn ? plan_of(n, 0).heads[3 * k + 2] : 0;
+            uint32_t answer = watered_edit(p.n, p.box, p.heads, k, at[0], at[1], radius, LENT(&t));
+            expect(answer == WATERED_TAKEN && p.heads[3 * k + 2] == radius, "a head was not closed or opened", n, (long)k);
+            expect(work_out(watered_afresh, &p, &fresh) == WATERED_TAKEN && same_rows(&t, &fresh, rows), "a stale table", n, (long)k);
+            if (turn == 0 && k + 1 == n)
+                for (size_t s = 1; s < rows; s++)
+                    expect(start(&t.of[0])[s] == 0, "a row of closed heads", n, (long)s);
+        }
+    expect(same_rows(&t, &first, rows), "the tables once all heads are opened again", n, 0);
+    give_back_tables(&t);
+    give_back_tables(&first);
+    give_back_tables(&fresh);
+}
+
+/* Every choice of closed heads up to six heads, and some of more. */
+static void closed_heads(size_t n)
+{
+    off_and_on(n);
+    for (size_t left = 0; left < WATERED_ROWS(n); left += n > 6 ? 29 : 1) {
+        closed_tables(watered_afresh, n, left);
+        closed_tables(watered_open_afresh, n, left);
+        closed_gradients(watered_gradients, n, left, 4);
+        closed_gradients(watered_open_gradients, n, left, 0);
+        closed_overlap(n, left);
+    }
+}
+
 static void refusals(void)
 {
     for (size_t i = 0; i < sizeof wrong / sizeof *wrong; i++) {
@@ -459,9 +586,10 @@ static void edit_refusals(void)
         size_t rows;
         uint32_t answer;
     } tried[] = {
-        {3, 20001, 0, 0, 0, 6},   {SIZE_MAX, 0, 0, 1, 8, 6}, {0, 20001, 0, 0, 0, 4}, {0, 0, -20001, 0, 0, 4}, {1, 0, 0, 0, 0, 5},
-        {1, 0, 0, 20001, 8, 5},   {2, 0, 0, 1, 7, 7},        {2, 0, 0, 1, 0, 7},     {2, 20000, -20000, 20000, 8, 0},
-        {2, INT32_MIN, 0, 1, 8, 4}, {2, 0, 0, INT32_MIN, 8, 5},
+        {3, 20001, 0, -1, 0, 6},  {SIZE_MAX, 0, 0, 1, 8, 6}, {0, 20001, 0, -1, 0, 4}, {0, 0, -20001, -1, 0, 4}, {1, 0, 0, -1, 0, 5},
+        {1, 0, 0, 20001, 8, 5},   {2, 0, 0, 1, 7, 7},        {2, 0, 0, 1, 0, 7},      {2, 20000, -20000, 20000, 8, 0},
+        {2, INT32_MIN, 0, 1, 8, 4}, {2, 0, 0, INT32_MIN, 8, 5}, {1, 0, 0, -1, 8, 5},  {1, 0, 0, 0, 7, 7},       {1, 0, 0, 0, 8, 0},
+        {1, 20001, 0, 0, 8, 4},   {3, 0, 0, 0, 8, 6},
     };
     for (size_t i = 0; i < sizeof tried / sizeof *tried; i++) {
         plan p = plan_of(3, 0), handed = p;
@@ -495,6 +623,7 @@ int main(void)
         gradients(watered_open_gradients, watered_open_afresh, n, 3 * n, WATERED_OPEN_GRADIENTS(n));
         edits(n);
         runs(n);
+        closed_heads(n);
     }
     overlaps();
     refusals();

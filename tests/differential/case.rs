@@ -23,6 +23,17 @@ pub struct OurCircles {
     pub numbers: [f64; 30],
 }
 
+impl OurCircles {
+    // What stands past the circles is looked at by neither side: a circle that covers all others.
+    pub fn of(heads: &[Head]) -> Self {
+        let mut numbers = [40000.0; 30];
+        for (i, h) in heads.iter().enumerate() {
+            numbers[3 * i..3 * i + 3].copy_from_slice(&[h.x, h.y, h.r]);
+        }
+        OurCircles { numbers }
+    }
+}
+
 #[repr(C)]
 pub struct OurBounds {
     pub x_min: f64,
@@ -48,6 +59,12 @@ pub fn circle(h: Head) -> Circle {
 
 pub fn words(numbers: &[f64]) -> String {
     numbers.iter().map(|n| format!(" {:016X}", n.to_bits())).collect()
+}
+
+// The numbers of a plan, as differences print them.
+pub fn input(heads: &[Head], s: Sides) -> String {
+    let heads: Vec<String> = heads.iter().map(|h| words(&[h.x, h.y, h.r])).collect();
+    format!("heads{}, box{}", heads.join(","), words(&[s.x, s.y, s.width, s.height]))
 }
 
 // The Rust's meeting points of heads of which some may be identical, less those of two identical ones: document 01 has none there,
@@ -84,20 +101,14 @@ impl Case {
         let s = plan.sides;
         let container = Rectangle::new(Point::new(s.x, s.y), s.width, s.height);
         let n = circles.len();
-        // what stands past the n circles is looked at by neither: a circle that covers all others
-        let mut numbers = [40000.0; 30];
-        for (i, h) in plan.heads.iter().enumerate() {
-            numbers[3 * i..3 * i + 3].copy_from_slice(&[h.x, h.y, h.r]);
-        }
+        let ours = OurCircles::of(&plan.heads);
         let points = points_of_twins(&plan.heads, &circles);
         let bounds = container.bounds();
-        Case { n, heads: plan.heads, sides: s, circles, container, bounds, points, ours: OurCircles { numbers } }
+        Case { n, heads: plan.heads, sides: s, circles, container, bounds, points, ours }
     }
 
     pub fn input(&self) -> String {
-        let heads: Vec<String> = self.heads.iter().map(|h| words(&[h.x, h.y, h.r])).collect();
-        let s = self.sides;
-        format!("heads{}, box{}", heads.join(","), words(&[s.x, s.y, s.width, s.height]))
+        input(&self.heads, self.sides)
     }
 
     pub fn our_bounds(&self) -> OurBounds {

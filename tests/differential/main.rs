@@ -1,13 +1,16 @@
 // The differential run: the Rust's files as modules of this program, and our functions beside them.
 // `differential COUNT SEED PLANS` compares on about COUNT ordered pairs of circles and about PLANS plans; `differential list ..`
-// prints the Rust's answers for so many. What is compared stands in files of its own (pairs.rs, outlines.rs, sets.rs, regions.rs, twins.rs),
-// with the exports of crate `probe` that it calls.
+// prints the Rust's answers for so many. What is compared stands in files of its own (pairs.rs, outlines.rs, sets.rs, regions.rs, twins.rs,
+// left_out.rs), with the exports of crate `probe` that it calls.
 
 include!("modules.rs");
 
 mod case;
+#[allow(dead_code)]
+mod closed;
 mod hold;
 mod inputs;
+mod left_out;
 mod ours;
 mod outlines;
 mod pairs;
@@ -37,11 +40,13 @@ fn main() {
             regions::FUNCTIONS.as_slice(),
             hold::FUNCTIONS.as_slice(),
             twins::FUNCTIONS.as_slice(),
+            left_out::FUNCTIONS.as_slice(),
         ]
         .concat(),
     );
     println!("seed {seed}");
     pairs::compare(count, seed, &mut tally);
     outlines::compare(plans, seed, &mut tally);
+    left_out::compare(plans, seed, &mut tally);
     tally.end();
 }

@@ -2,6 +2,7 @@
 // Ours get the box by the Rust's bounds of it. Our exports of lists give one value at a time.
 
 use crate::case::{words, Case, OurBounds, OurCircles};
+use crate::closed::Given;
 use crate::geometry::diagram::{adopters_to_mask, mask_to_indices};
 use crate::geometry::primitives::Bounds;
 use crate::geometry::shapes::circle::{
@@ -124,18 +125,18 @@ impl Case {
     }
 }
 
-fn points(tally: &mut Tally, case: &Case) {
-    let input = || case.input();
-    let number = unsafe { probe_number_of_points(case.ours, case.n) };
+pub fn points(tally: &mut Tally, case: &Case, given: &Given) {
+    let (input, place) = (|| given.input.clone(), |head: usize| given.spread.places[head]);
+    let number = unsafe { probe_number_of_points(given.ours, given.n) };
     tally.things("meeting points", case.points.len());
     tally.whole("collect_intersections, how many", number as u64, case.points.len() as u64, input);
     for (k, theirs) in case.points.iter().enumerate() {
-        let ours = unsafe { probe_point(case.ours, case.n, k) };
+        let ours = unsafe { probe_point(given.ours, given.n, k) };
         let p = theirs.point();
         tally.floats("collect_intersections, coordinates", &[ours.x, ours.y], &[p.x(), p.y()], input);
-        let (first, second) = theirs.parents();
+        let (first, second) = (place(theirs.parents().0), place(theirs.parents().1));
         tally.whole("collect_intersections, parents", (ours.first * 16 + ours.second) as u64, (first * 16 + second) as u64, input);
-        let mask = adopters_to_mask(theirs.adopters());
+        let mask = given.spread.mask(adopters_to_mask(theirs.adopters()));
         tally.whole("collect_intersections, adopters as a mask", ours.adopters as u64, mask as u64, input);
         // the Rust's adopters ascend, so that their mask says all of them
         assert!(theirs.adopters().windows(2).all(|w| w[0] < w[1]), "adopters {:?} of {}", theirs.adopters(), input());
@@ -247,7 +248,7 @@ fn arc_integrals(tally: &mut Tally, case: &Case, mask: usize, theirs: &[Boundary
 fn plan(tally: &mut Tally, case: &Case, random: &mut Random) {
     tally.input();
     tally.things(NUMBERS[case.n], 1);
-    points(tally, case);
+    points(tally, case, &Given::same(case));
     for mask in case.masks(random) {
         let theirs = case.arcs(mask);
         tally.things("sets", 1);

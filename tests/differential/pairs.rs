@@ -57,6 +57,32 @@ fn rectangle(tally: &mut Tally, x: f64, y: f64, width: f64, height: f64) {
     }
 }
 
+// The Rust's, of circles that it takes.
+pub fn common_points(a: Head, b: Head) -> Vec<(f64, f64)> {
+    circle(a).intersection_points(&circle(b)).iter().map(|p| (p.x(), p.y())).collect()
+}
+
+// A circle that is closed beside any other: neither holds the other, they have no point in common, and the closed one holds no point, the
+// other's centre and those it has in common with a third among them. The Rust has no such circle: `Circle::new` takes none.
+pub fn closed(tally: &mut Tally, c: Head, other: Head, third: Head) {
+    let input = || words(&[c.x, c.y, c.r, other.x, other.y, other.r]);
+    let holds = |a: Head, b: Head| unsafe { probe_contains(a.x, a.y, a.r, b.x, b.y, b.r) } as u64;
+    let points = |a: Head, b: Head| unsafe { probe_intersection_points(a.x, a.y, a.r, b.x, b.y, b.r) }.number as u64;
+    let held = |x: f64, y: f64| unsafe { probe_contains_point(c.x, c.y, c.r, x, y) } as u64;
+    tally.wholes("closed circles: contains", &[holds(c, other), holds(other, c), holds(c, c)], &[0; 3], input);
+    tally.wholes("closed circles: intersection_points, how many", &[points(c, other), points(other, c), points(c, c)], &[0; 3], input);
+    let shared = unsafe { probe_intersection_points(other.x, other.y, other.r, third.x, third.y, third.r) };
+    let ours = [held(c.x, c.y), held(other.x, other.y), held(shared.x1, shared.y1), held(shared.x2, shared.y2)];
+    tally.wholes("closed circles: contains_point", &ours, &[0; 4], input);
+    if c.r == 0.0 {
+        let area = |a: Head, b: Head| unsafe { probe_intersection_area(a.x, a.y, a.r, b.x, b.y, b.r) };
+        let areas = [unsafe { probe_circle_area(c.x, c.y, c.r) }, area(c, other), area(other, c), area(c, c)];
+        tally.floats("circles of radius 0: area, intersection_area", &areas, &[0.0; 4], input);
+        let intersect = |a: Head, b: Head| unsafe { probe_intersects(a.x, a.y, a.r, b.x, b.y, b.r) } as u64;
+        tally.wholes("circles of radius 0: intersects", &[intersect(c, other), intersect(other, c), intersect(c, c)], &[0; 3], input);
+    }
+}
+
 fn contains_point(tally: &mut Tally, a: Head, p: &Point) {
     let ours = unsafe { probe_contains_point(a.x, a.y, a.r, p.x(), p.y()) };
     tally.whole("contains_point", ours as u64, circle(a).contains_point(p) as u64, || words(&[a.x, a.y, a.r, p.x(), p.y()]));

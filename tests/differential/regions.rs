@@ -2,6 +2,7 @@
 // to_exclusive_areas_and_gradients over any tables.
 
 use crate::case::{Case, OurCircles, Rows, Slopes};
+use crate::closed::Given;
 use crate::geometry::diagram::to_exclusive_areas_and_gradients;
 use crate::hold;
 use crate::inputs::Random;
@@ -55,25 +56,26 @@ impl Lent {
     }
 }
 
-fn without_gradients(tally: &mut Tally, case: &Case, boxed: bool, random: &mut Random) {
-    let (count, input, s) = (1 << case.n, || case.input(), case.sides);
+fn without_gradients(tally: &mut Tally, case: &Case, given: &Given, boxed: bool, random: &mut Random) {
+    let (count, input, s) = (1 << given.n, || given.input.clone(), case.sides);
     let before = Lent::of(count, 0, random);
     let (mut p, mut e) = (before.presence.clone(), before.exclusives.clone());
     let (pp, pn, ep, en) = (p.as_mut_ptr(), p.len(), e.as_mut_ptr(), e.len());
     let (answer, name, theirs) = if boxed {
-        let answer = unsafe { probe_compute_exclusive_regions_clipped(case.ours, case.n, s.x, s.y, s.width, s.height, pp, pn, ep, en) };
-        (answer, "compute_exclusive_regions_clipped", case.exclusives_in_the_box())
+        let answer = unsafe { probe_compute_exclusive_regions_clipped(given.ours, given.n, s.x, s.y, s.width, s.height, pp, pn, ep, en) };
+        (answer, "compute_exclusive_regions_clipped", given.spread.rows(case.exclusives_in_the_box()))
     } else {
-        (unsafe { probe_compute_exclusive_regions(case.ours, case.n, pp, pn, ep, en) }, "compute_exclusive_regions", case.open_exclusives())
+        let answer = unsafe { probe_compute_exclusive_regions(given.ours, given.n, pp, pn, ep, en) };
+        (answer, "compute_exclusive_regions", given.spread.rows(case.open_exclusives()))
     };
     tally.whole("diagrams, answers", answer as u64, 0, input);
     hold::bytes(tally, &p, &before.presence, &theirs, count, &input);
     hold::numbers(tally, name, true, &e, &before.exclusives, &theirs, count, &input);
 }
 
-fn with_gradients(tally: &mut Tally, case: &Case, boxed: bool, random: &mut Random) {
-    let (count, input, s) = (1 << case.n, || case.input(), case.sides);
-    let width = 3 * case.n + if boxed { 4 } else { 0 };
+fn with_gradients(tally: &mut Tally, case: &Case, given: &Given, boxed: bool, random: &mut Random) {
+    let (count, input, s) = (1 << given.n, || given.input.clone(), case.sides);
+    let width = 3 * given.n + if boxed { 4 } else { 0 };
     let before = Lent::of(count, count * width, random);
     let (mut p, mut e, mut g) = (before.presence.clone(), before.exclusives.clone(), before.gradients.clone());
     let (pp, pn, ep, en, gp, gn) = (p.as_mut_ptr(), p.len(), e.as_mut_ptr(), e.len(), g.as_mut_ptr(), g.len());
@@ -81,17 +83,17 @@ fn with_gradients(tally: &mut Tally, case: &Case, boxed: bool, random: &mut Rand
         (
             unsafe {
                 probe_compute_exclusive_regions_clipped_with_gradient(
-                    case.ours, case.n, s.x, s.y, s.width, s.height, pp, pn, ep, en, gp, gn,
+                    given.ours, given.n, s.x, s.y, s.width, s.height, pp, pn, ep, en, gp, gn,
                 )
             },
             ["compute_exclusive_regions_clipped_with_gradient, areas", "compute_exclusive_regions_clipped_with_gradient, gradients"],
-            case.slopes_in_the_box(),
+            given.spread.slopes(case.slopes_in_the_box()),
         )
     } else {
         (
-            unsafe { probe_compute_exclusive_regions_with_gradient_circles(case.ours, case.n, pp, pn, ep, en, gp, gn) },
+            unsafe { probe_compute_exclusive_regions_with_gradient_circles(given.ours, given.n, pp, pn, ep, en, gp, gn) },
             ["compute_exclusive_regions_with_gradient_circles, areas", "compute_exclusive_regions_with_gradient_circles, gradients"],
-            case.open_slopes(),
+            given.spread.slopes(case.open_slopes()),
         )
     };
     tally.whole("diagrams, answers", answer as u64, 0, input);
@@ -126,9 +128,9 @@ pub fn any_tables(tally: &mut Tally, n: usize, areas: &Rows, random: &mut Random
     hold::gradients(tally, "to_exclusive_areas_and_gradients, gradients", &g, &before.gradients, &theirs.1, (count, width), &input);
 }
 
-pub fn compare(tally: &mut Tally, case: &Case, random: &mut Random) {
+pub fn compare(tally: &mut Tally, case: &Case, given: &Given, random: &mut Random) {
     for boxed in [true, false] {
-        without_gradients(tally, case, boxed, random);
-        with_gradients(tally, case, boxed, random);
+        without_gradients(tally, case, given, boxed, random);
+        with_gradients(tally, case, given, boxed, random);
     }
 }

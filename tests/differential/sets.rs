@@ -1,6 +1,7 @@
 // What stands above the outlines of a plan: discover_regions, to_exclusive_areas, compute_overlaps_circles.
 
 use crate::case::{overlap, Case, OurCircles, Rows};
+use crate::closed::Given;
 use crate::geometry::diagram::to_exclusive_areas;
 use crate::inputs::Random;
 use crate::regions;
@@ -48,16 +49,16 @@ fn any_rows(n: usize, random: &mut Random) -> Rows {
     numbers.into_iter().enumerate().filter(|_| random.whole(1, 8) <= share).collect()
 }
 
-fn sets(tally: &mut Tally, case: &Case) {
-    let ours = unsafe { probe_sets(case.ours, case.n) }.bytes.map(u64::from);
+pub fn sets(tally: &mut Tally, case: &Case, given: &Given) {
+    let ours = unsafe { probe_sets(given.ours, given.n) }.bytes.map(u64::from);
     let found = case.found();
     let mut theirs = [0; 1024];
     for mask in &found {
-        theirs[*mask] = 1;
+        theirs[given.spread.mask(*mask)] = 1;
     }
-    let masks = 1 << case.n;
-    tally.wholes("discover_regions, every mask", &ours[..masks], &theirs[..masks], || case.input());
-    tally.wholes("discover_regions, numbers that are no mask of the heads", &ours[masks..], &theirs[masks..], || case.input());
+    let (masks, input) = (1 << given.n, || given.input.clone());
+    tally.wholes("discover_regions, every mask", &ours[..masks], &theirs[..masks], input);
+    tally.wholes("discover_regions, numbers that are no mask of the heads", &ours[masks..], &theirs[masks..], input);
     tally.things("sets found", found.len());
 }
 
@@ -126,26 +127,32 @@ fn refused(tally: &mut Tally, case: &Case, rows: &Rows, random: &mut Random) {
     tally.floats("to_exclusive_areas, refused: the table as it was", &tables.exclusives, &as_it_was, || case.input());
 }
 
-fn overlaps(tally: &mut Tally, case: &Case, masks: &[usize]) {
-    let ours = unsafe { probe_compute_overlaps_circles(case.ours, case.n) };
-    tally.float("compute_overlaps_circles", ours, overlap(&case.heads, &case.circles), || case.input());
+pub fn of_all(tally: &mut Tally, case: &Case, given: &Given) {
+    let ours = unsafe { probe_compute_overlaps_circles(given.ours, given.n) };
+    tally.float("compute_overlaps_circles", ours, overlap(&case.heads, &case.circles), || given.input.clone());
+}
+
+// Of masks of the heads that are given.
+pub fn of_masks(tally: &mut Tally, case: &Case, given: &Given, masks: &[usize]) {
     for &mask in masks {
-        let ours = unsafe { probe_compute_overlaps_of(case.ours, case.n, mask) };
-        let input = || format!("{}, set {mask:X}", case.input());
-        tally.float("compute_overlaps_circles of the heads of a mask", ours, case.overlap_of(mask), input);
+        let ours = unsafe { probe_compute_overlaps_of(given.ours, given.n, mask) };
+        let input = || format!("{}, set {mask:X}", given.input);
+        tally.float("compute_overlaps_circles of the heads of a mask", ours, case.overlap_of(given.spread.back(mask)), input);
     }
 }
 
 pub fn compare(tally: &mut Tally, case: &Case, random: &mut Random) {
-    sets(tally, case);
+    let given = Given::same(case);
+    sets(tally, case, &given);
     let (boxed, open, any) = (case.rows_in_the_box(), case.open_rows(), any_rows(case.n, random));
     exclusives(tally, "to_exclusive_areas of the areas in the box", case, &boxed, random);
     exclusives(tally, "to_exclusive_areas of the open areas", case, &open, random);
     exclusives(tally, "to_exclusive_areas of any sets with any numbers", case, &any, random);
     refused(tally, case, &any, random);
     regions::any_tables(tally, case.n, &any, random);
-    regions::compare(tally, case, random);
+    regions::compare(tally, case, &given, random);
     let mut masks = case.masks(random);
     masks.truncate(16);
-    overlaps(tally, case, &masks);
+    of_all(tally, case, &given);
+    of_masks(tally, case, &given, &masks);
 }

@@ -1,8 +1,8 @@
 // The float decisions about two circles against the whole-number ones, where they are hardest: at squared distances D = s², s² ± 1, t² and t² ± 1,
-// for every pair of radii of a grid in both orders, s being the sum and t the difference of the radii. Where D is a sum of two squares the centres are placed
-// so, at both ends of the coordinates' range, and our own functions are called, through the static library of crate `probe`. Where it is not, no heads have that
-// D: the formulas of the tests, and the steps up to the root of what is left across, are compared at the root of D, by the machine's square root, which ours
-// equals bit for bit (tests/root).
+// for every pair of radii of a grid in both orders, s being the sum and t the difference of the radii; a circle of radius 0 is closed: it has no point and
+// contains nothing. Where D is a sum of two squares the centres are placed so, at both ends of the coordinates' range, and our own functions are called, through
+// the static library of crate `probe`. Where it is not, no heads have that D: the formulas of the tests, and the steps up to the root of what is left across, are
+// compared at the root of D, by the machine's square root, which ours equals bit for bit (tests/root).
 use std::process::exit;
 
 const REACH: i64 = 20000;
@@ -42,8 +42,12 @@ fn circle(h: Head) -> Circle {
 
 // ---- the formulas of the float decisions, for a distance that no two heads have
 
+fn closed(a: f64, b: f64) -> bool {
+    a == 0.0 || b == 0.0
+}
+
 fn contains(d: f64, a: f64, b: f64) -> bool {
-    d + b <= a
+    !closed(a, b) && d + b <= a
 }
 
 fn intersects(d: f64, a: f64, b: f64) -> bool {
@@ -59,7 +63,7 @@ fn within(d: f64, a: f64, b: f64) -> bool {
 }
 
 fn apart(d: f64, a: f64, b: f64) -> bool {
-    d > a + b || d < (a - b).abs()
+    closed(a, b) || d > a + b || d < (a - b).abs()
 }
 
 // How far the foot of the chord lies from the first centre, and how far the points lie from the foot.
@@ -80,9 +84,10 @@ struct Exact {
 
 fn exact(d: i64, a: i64, b: i64) -> Exact {
     let (s2, t2) = ((a + b) * (a + b), (a - b) * (a - b));
-    let meets = t2 <= d && d <= s2 && !(d == 0 && a == b);
+    let closed = a == 0 || b == 0;
+    let meets = !closed && t2 <= d && d <= s2 && !(d == 0 && a == b);
     Exact {
-        contains: a >= b && d <= t2,
+        contains: !closed && a >= b && d <= t2,
         intersects: t2 < d && d < s2,
         beyond: d >= s2,
         within: d <= t2,
@@ -189,16 +194,16 @@ fn legs(d: i64) -> Vec<(i64, i64)> {
 
 // n radii: both ends of the range, powers of two with their neighbours, and between them evenly.
 fn grid(n: i64) -> Vec<i64> {
-    let mut radii: Vec<i64> = (1..=12).chain(REACH - 11..=REACH).collect();
+    let mut radii: Vec<i64> = (0..=12).chain(REACH - 11..=REACH).collect();
     for k in 4..15 {
         radii.extend([(1 << k) - 1, 1 << k, (1 << k) + 1]);
     }
     let rest = (n - radii.len() as i64).max(0);
     radii.extend((1..=rest).map(|i| 1 + (i * (REACH - 1)) / (rest + 1)));
     if n >= REACH {
-        radii = (1..=REACH).collect();
+        radii = (0..=REACH).collect();
     }
-    radii.retain(|&r| 1 <= r && r <= REACH);
+    radii.retain(|&r| 0 <= r && r <= REACH);
     radii.sort();
     radii.dedup();
     radii

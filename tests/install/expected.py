@@ -1,5 +1,5 @@
 """Prints examples/window.txt, what the programs of examples/ print: every number worked out by ground.py, apart from the library. The plans are
-such that a set is present exactly if its heads share ground."""
+such that a set is present exactly if its heads share ground; a closed head is left out of what ground.py is asked."""
 import ground
 
 BOX = [0, 0, 1200, 900]
@@ -12,12 +12,14 @@ def set_of(mask):
     return ','.join(str(i) for i in range(10) if mask >> i & 1) or 'none'
 
 
-def table(heads):
+def table(heads, numbers=(0, 1, 2)):
+    """The rows of heads that have these numbers in the plan."""
     inside, open_ground = ground.exclusives(BOX, heads), ground.exclusives(ALL, heads)
     yield '  heads        together        alone'
     for mask in inside:
         if mask == 0 or ground.together(open_ground, mask) > 1e-3:
-            yield '  %-8s %12.2f %12.2f' % (set_of(mask), ground.together(inside, mask) / 1e4, inside[mask] / 1e4)
+            named = sum(1 << number for i, number in enumerate(numbers) if mask >> i & 1)
+            yield '  %-8s %12.2f %12.2f' % (set_of(named), ground.together(inside, mask) / 1e4, inside[mask] / 1e4)
 
 
 def lines():
@@ -29,8 +31,15 @@ def lines():
     heads[2] = [450, 300, 300]
     yield from table(heads)
     yield ''
-    yield 'head 1 to (150, -80), radius 0: refused 5, a side is outside 1 to 40000 or a radius outside 1 to 20000'
+    yield 'head 1 to (150, -80), radius -1: refused 5, a side is outside 1 to 40000 or a radius outside 0 to 20000'
     yield '  nothing changed'
+    yield ''
+    yield 'head 1 to (150, -80), radius 0: taken'
+    yield from table([heads[0], heads[2]], [0, 2])
+    yield ''
+    yield 'head 1 to (150, -80), radius 350: taken'
+    yield from table(heads)
+    yield '  plan and tables are, bit for bit, those from before head 1 was closed'
     yield ''
     yield 'head 2 to (-120, 150), radius 320: taken'
     heads[2] = [-120, 150, 320]

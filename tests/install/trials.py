@@ -204,7 +204,7 @@ def unlike(printed, path):
     return ', '.join('%03X' % mask for mask in areas if not abs(rows.get(mask, 0.0) - areas[mask]) < 1)
 
 
-for name in ('corner.txt', 'strip.txt'):
+for name in ('corner.txt', 'strip.txt', 'closed.txt'):
     plan = ROOT / 'example' / name
     done = subprocess.run([PLAN, plan], stdout=subprocess.PIPE, check=True, cwd='/', env=ENVIRONMENT)
     see('rows of %s' % name, unlike(must(ROWS, input=done.stdout), plan))

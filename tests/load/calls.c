@@ -99,6 +99,9 @@ uint64_t next(uint64_t *state)
 
 static int32_t between(uint64_t *state, int32_t low, int32_t high) { return low + (int32_t)(next(state) % (uint64_t)(high - low + 1)); }
 
+/* A radius: one in six is that of a closed head. */
+static int32_t radius_to(uint64_t *state, int32_t reach) { return next(state) % 6 == 0 ? 0 : between(state, 1, reach); }
+
 /* n heads within the limits, near each other; past them stands what no head may have. One of the edits in five is refused, the first only
  * where there is no head. */
 plan random_plan(uint64_t *state, size_t n)
@@ -111,12 +114,12 @@ plan random_plan(uint64_t *state, size_t n)
         p.box[2 + i] = between(state, 1, 2 * reach);
     }
     for (size_t i = 0; i < 30; i++)
-        p.heads[i] = i >= 3 * n ? INT32_MIN : i % 3 == 2 ? between(state, 1, reach) : between(state, -reach, reach);
+        p.heads[i] = i >= 3 * n ? INT32_MIN : i % 3 == 2 ? radius_to(state, reach) : between(state, -reach, reach);
     for (int i = 0; i < EDITS; i++) {
         p.edit_heads[i] = n ? next(state) % n : 0;
         p.x[i] = between(state, -reach, reach);
         p.y[i] = i && next(state) % 5 == 0 ? 20001 : between(state, -reach, reach);
-        p.radius[i] = between(state, 1, reach);
+        p.radius[i] = radius_to(state, reach);
     }
     return p;
 }

@@ -62,10 +62,10 @@ def wrong_in(program, data, wanted, limit=checks.LIMIT):
 # ---- files
 
 def close_file(chance):
-    """A file within the limits, of heads near each other, so that many of them share ground."""
+    """A file within the limits, of heads near each other, so that many of them share ground; one in six is closed."""
     reach = chance.choice([3, 8, 60, 400, 3000])
     spot = lambda: chance.randint(-reach, reach)
-    head = lambda: [spot(), spot(), chance.randint(1, chance.choice([reach, 2 * reach]))]
+    head = lambda: [spot(), spot(), chance.choice([0, 1, 1, 1, 1, 1]) * chance.randint(1, chance.choice([reach, 2 * reach]))]
     some = lambda values: [value if chance.random() < 0.7 else None for value in values]
     n = chance.randint(0, 10)
     edits = [(chance.randrange(n), some(head())) for _ in range(chance.choice([0, 0, 1, 2, 5, 30]))] if n else []

@@ -1,5 +1,5 @@
 """Trials of the plan library, with the answers worked out here from document 01 ("Plan file and checks in order", "Edits in
-a list") and from nothing of the library's own code.
+a list") as it stands now (docs/SCOPE.md: a radius begins at 0), and from nothing of the library's own code.
 
 A trial is a plan file or a call in memory, in the form that the program `cases` reads (crates/cases/src/main.rt).
 
@@ -15,9 +15,9 @@ import sys
 
 ROOT = os.path.dirname(os.path.dirname(os.path.dirname(os.path.abspath(__file__))))
 
-# Document 01's table.
+# Document 01's table; a head of radius 0 is closed, and taken like any other.
 ENDED, TOO_MANY, BIT, COORDINATE, SIDE, RADIUS, NO_HEAD, TABLES = 1, 2, 3, 4, 5, 5, 6, 7
-LIMITS = {'coordinate': (-20000, 20000, COORDINATE), 'side': (1, 40000, SIDE), 'radius': (1, 20000, RADIUS)}
+LIMITS = {'coordinate': (-20000, 20000, COORDINATE), 'side': (1, 40000, SIDE), 'radius': (0, 20000, RADIUS)}
 BOX = ['coordinate', 'coordinate', 'side', 'side']
 HEAD = ['coordinate', 'coordinate', 'radius']
 
@@ -181,12 +181,43 @@ def at_limits(kind):
     return [low - 1, low, high, high + 1]
 
 
+def closed_files():
+    """Heads that are closed, or nearly: by a field, by the radius of the head before, by an edit; and what is cut off or not quite 0."""
+    # a head without a radius has that of the head before, whether or not its place is given; one with a radius ends the row of closed ones
+    for fields in range(4):
+        bare = [v if fields >> i & 1 else None for i, v in enumerate([21, 22])] + [None]
+        yield plan_file(SAMPLE_BOX, [[1, 2, 0], bare])
+        yield plan_file(SAMPLE_BOX, [[1, 2, 3], [4, 5, 0], bare, [None, None, 7], bare])
+    yield plan_file([None] * 4, [[None, None, 0]] + [[None] * 3] * 9)
+    yield plan_file([None] * 4, [[None] * 3, [None, None, 0]] + [[None] * 3] * 8)
+    yield plan_file([None] * 4, [[None, None, 0]] + [[None] * 3] * 8 + [[None, None, -1]])
+    # an edit closes a head, moves it closed, opens it, and closes one that is closed; the first that is refused refuses the file
+    closing = [(1, [None, None, 0]), (1, [30, None, None]), (1, [None, None, 60]), (2, [1, 1, 0]), (2, [None, None, 0]), (2, [None] * 3)]
+    sample = plan_file(SAMPLE_BOX, SAMPLE_HEADS, closing)
+    yield sample
+    for at in range(len(closing)):
+        for radius in (-1, 20001):
+            yield plan_file(SAMPLE_BOX, SAMPLE_HEADS, closing[:at] + [(closing[at][0], [None, None, radius])] + closing[at:])
+    # the same cut short at every byte of its edits
+    for end in range(57, len(sample)):
+        yield sample[:end]
+    # a radius 0 with one bit turned, and a head that has it too
+    first = plan_file(SAMPLE_BOX, [[1, 2, 0], [4, 5, None]])
+    for bit in range(32):
+        number = struct.pack('<I', 1 << bit)
+        yield first[:27] + number + first[31:]
+    # four bytes of zeros in other places than a radius, and a head of zeros alone
+    yield plan_file(SAMPLE_BOX, [[0, 0, 0], [0, None, None], [None, 0, None], [0, 0, 1]])
+    yield plan_file([0, 0, 1, 0], [[0, 0, 0]])
+    yield plan_file([0, 0, 0, 1], [[0, 0, 0]])
+
+
 def fixed_files():
     sample = plan_file(SAMPLE_BOX, SAMPLE_HEADS, SAMPLE_EDITS)
     yield sample
     # document 01's example, and its "also run" cases
     yield bytes.fromhex('010C140000000A00000003E8030000E8030000')
-    for radius in (20000, 20001, 0):
+    for radius in (20000, 20001, 0, -1):
         yield plan_file([None] * 4, [[None, None, radius]])
     for n in (0, 10, 11):
         yield plan_file([None] * 4, [[None] * 3] * n)
@@ -221,6 +252,7 @@ def fixed_files():
         yield plan_file(SAMPLE_BOX, [pick] + SAMPLE_HEADS)
         yield plan_file(SAMPLE_BOX, SAMPLE_HEADS + [pick])
         yield plan_file(SAMPLE_BOX, SAMPLE_HEADS, SAMPLE_EDITS + [(1, pick), (0, pick), (2, [None] * 3)])
+    yield from closed_files()
     # the largest file without edits, and many edits
     yield plan_file([0, 0, 1, 1], [[i, -i, i + 1] for i in range(10)])
     yield plan_file(SAMPLE_BOX, SAMPLE_HEADS, [(i % 3, [i, None, None]) for i in range(40)])
@@ -270,7 +302,12 @@ def fixed_calls():
     yield call(box=[0, 0, 0, 0], head=200, edit=[30000, 0, 0], rows=0)
     yield call(head=200, edit=[30000, 0, 0], rows=0)
     yield call(edit=[30000, 0, 0], rows=0)
+    yield call(edit=[0, 0, -1], rows=0)
     yield call(edit=[0, 0, 0], rows=0)
+    # all heads closed, and an edit of one of them, which opens it or does not
+    for n in (1, 2, 10):
+        for radius in (-1, 0, 1):
+            yield call(n=n, head=n - 1, heads=[[i, -i, 0] for i in range(10)], edit=[5, 6, radius], kind=NONE, rows=1024, gradients=0)
 
 
 # ---- random trials
@@ -290,7 +327,9 @@ def random_record(chance, kinds):
 
 
 def within(chance, kinds):
-    return [chance.randint(*LIMITS[kind][:2]) if chance.random() < 0.7 else None for kind in kinds]
+    """A record within the limits; one given radius in six is that of a closed head."""
+    value = lambda kind: 0 if kind == 'radius' and chance.random() < 1 / 6 else chance.randint(*LIMITS[kind][:2])
+    return [value(kind) if chance.random() < 0.7 else None for kind in kinds]
 
 
 def random_file(chance, of):

@@ -1,11 +1,13 @@
 """rows.py ORACLE: runs the program target/bin/rows over plan files and compares what it prints: document 01's example and its
 "also run" cases, the files of tests/plan (answers worked out there from document 01), input that comes in small pieces, input of any
-length, ends that cannot be read or written; and, where ORACLE names the program of oracle.rs, 2,000 taken files line by line with the
-Rust's compute_exclusive_regions_clipped of the last plan."""
+length, ends that cannot be read or written; and, where ORACLE names the program of oracle.rs, 4,000 taken files line by line with the
+Rust's compute_exclusive_regions_clipped of the last plan. Half of these have closed heads: the Rust is given the plan without them, and its masks
+are spread back to the numbers that the heads have in the file."""
 import os
 import random
 import re
 import resource
+import struct
 import subprocess
 import sys
 import time
@@ -59,9 +61,11 @@ see("document 01's example", 1, None if rows(EXAMPLE) == (EXAMPLE_PRINTS, '') el
 head = lambda radius: trials.plan_file([None] * 4, [[None, None, radius]])
 heads = lambda n: trials.plan_file([None] * 4, [[None] * 3] * n)
 side = lambda v: trials.plan_file([None, None, v, None], [])
-ALSO = [(head(20000), None), (head(20001), 'refused 5 at 3\n'), (head(0), 'refused 5 at 3\n'), (heads(10), None),
+# a closed head alone leaves the box, 40,000 by 40,000, to row 0
+CLOSED_PRINTS = '000 %s\n' % struct.pack('>d', 40000.0 * 40000.0).hex().upper()
+ALSO = [(head(20000), None), (head(20001), 'refused 5 at 3\n'), (head(0), CLOSED_PRINTS), (head(-1), 'refused 5 at 3\n'), (heads(10), None),
         (heads(11), 'refused 2 at 0\n'), (side(40000), None), (side(40001), 'refused 5 at 2\n')]
-wrong = [(data.hex(), rows(data)) for data, refusal in ALSO if not (TABLE.match(rows(data)[0]) if refusal is None else rows(data)[0] == refusal)]
+wrong = [(data.hex(), rows(data)) for data, printed in ALSO if not (TABLE.match(rows(data)[0]) if printed is None else rows(data)[0] == printed)]
 see('"also run" cases', len(ALSO), wrong)
 
 # ---- the files of tests/plan
@@ -116,11 +120,12 @@ if os.path.exists('/dev/full'):
 # ---- the Rust
 
 
-def taken_file(chance):
-    """A taken file whose last plan has no two identical heads, and that plan's numbers."""
+def taken_file(chance, closed):
+    """A taken file whose last plan has no two identical heads but closed ones, that plan's box, and its heads. The part `closed` of its radii is 0."""
     reach = chance.choice([8, 60, 400, 3000, 20000])
     spot = lambda: chance.randint(-reach, reach)
-    radius = lambda: chance.randint(1, min(20000, chance.choice([reach, reach, 2 * reach, max(1, reach // 5)])))
+    some = lambda: chance.randint(1, min(20000, chance.choice([reach, reach, 2 * reach, max(1, reach // 5)])))
+    radius = lambda: 0 if closed and chance.random() < closed else some()
     while True:
         n = chance.choice([0, 1, 2, 3, 4, 5, 6, 7, 8, 9, 10, 10])
         box = [spot(), spot(), chance.randint(1, min(40000, 3 * reach)), chance.randint(1, min(40000, 3 * reach))]
@@ -134,22 +139,50 @@ def taken_file(chance):
         data = trials.plan_file(box, plan, edits)
         for k, fields in edits:
             plan[k] = [old if new is None else new for old, new in zip(plan[k], fields)]
-        if len(set(map(tuple, plan))) == n:
-            return data, box + sum(plan, [])
+        if len(set(map(tuple, left_in(plan)))) == len(left_in(plan)):
+            return data, box, plan
+
+
+def left_in(plan):
+    """The heads that are not closed: the plan that the Rust is asked about, which takes no radius 0."""
+    return [head for head in plan if head[2] != 0]
+
+
+def spread(answer, plan):
+    """The Rust's lines with its masks, which know the heads left in alone, spread back: its bit i goes to the place of the i-th of these heads."""
+    places = [k for k, head in enumerate(plan) if head[2] != 0]
+    mask = lambda small: sum(1 << k for i, k in enumerate(places) if small >> i & 1)
+    return ''.join('%03X%s\n' % (mask(int(line[:3], 16)), line[3:]) for line in answer.split('\n'))
+
+
+# closed heads on a meeting point of two others, on an edge, in the middle of a head, on one another
+STANDING = [[[0, 0, 5], [8, 0, 5], [4, 3, 0]], [[4, -3, 0], [0, 0, 5], [4, 3, 0], [8, 0, 5]], [[0, 0, 5], [5, 0, 0]], [[3, 4, 0], [0, 0, 5], [0, 5, 4]],
+            [[1, 1, 0], [1, 1, 5]], [[1, 1, 5], [1, 1, 0], [1, 1, 0], [6, 1, 0], [11, 1, 5]]]
+
+
+def as_the_rust(made):
+    """How many lines the program prints for these taken files, each as the Rust has it; how many of them have 0, 1 .. 10 heads closed; what is wrong."""
+    lines = ''.join(' '.join(map(str, box + sum(left_in(plan), []))) + '\n' for _, box, plan in made)
+    answers = subprocess.run([sys.argv[1]], input=lines.encode(), capture_output=True, check=True).stdout.decode().split('\n\n')
+    answers = [answer.strip('\n') for answer in answers[:-1]]
+    printed, shut = 0, [0] * 11
+    for (data, box, plan), answer in zip(made, answers):
+        ours, theirs = rows(data)[0], spread(answer, plan)
+        if ours != theirs:
+            see('the Rust', 1, '%s\n%s %s\nours:\n%sthe Rust:\n%s' % (data.hex(), box, plan, ours, theirs))
+        printed += ours.count('\n')
+        shut[len(plan) - len(left_in(plan))] += 1
+    return printed, shut, None if len(answers) == len(made) else 'not all answered'
 
 
 if len(sys.argv) > 1:
     chance = random.Random(1)
-    made = [taken_file(chance) for _ in range(2000)]
-    lines = ''.join(' '.join(map(str, numbers)) + '\n' for _, numbers in made)
-    answers = subprocess.run([sys.argv[1]], input=lines.encode(), capture_output=True, check=True).stdout.decode().split('\n\n')
-    answers = [answer.strip('\n') + '\n' for answer in answers[:-1]]
-    printed = 0
-    for (data, numbers), answer in zip(made, answers):
-        ours = rows(data)[0]
-        if ours != answer:
-            see('the Rust', 1, '%s\n%s\nours:\n%sthe Rust:\n%s' % (data.hex(), numbers, ours, answer))
-        printed += ours.count('\n')
-    see("taken files, %d lines, as the Rust's last plan" % printed, len(made), None if len(answers) == len(made) else 'not all answered')
+    printed, _, wrong = as_the_rust([taken_file(chance, 0) for _ in range(2000)])
+    see("taken files, %d lines, as the Rust's last plan" % printed, 2000, wrong)
+    made = [(trials.plan_file([0, 0, 20, 14], plan), [0, 0, 20, 14], plan) for plan in STANDING]
+    made += [taken_file(chance, chance.choice([0.2, 0.5, 0.9])) for _ in range(2000)]
+    printed, shut, wrong = as_the_rust(made)
+    wrong = wrong or (None if all(shut) else 'no plan has %d closed heads' % shut.index(0))
+    see("taken files with 0 to 10 heads of the last plan closed (%d with none), %d lines, as the Rust's plan without them" % (shut[0], printed), len(made), wrong)
 
 print('%d passed, 0 failed' % passed)

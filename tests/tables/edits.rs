@@ -1,9 +1,10 @@
 // Lists of edits through the C interface. What an edit must leave is worked out here from document 01: the answer by its checks on the book,
-// which is a plan and nothing more; the heads met by whole numbers; the sets by the Rust's discover_regions, or, of a plan with identical
-// heads, by the presence bytes of the afresh call. So both halves of demand 3 are looked at on every edit, on tables that are the plan's and
-// on false ones.
+// which is a plan and nothing more; the heads met by whole numbers; the sets by the Rust's discover_regions of the heads that are not closed,
+// or, where two of these are identical, by the presence bytes of the afresh call. So both halves of demand 3 are looked at on every edit, on
+// tables that are the plan's and on false ones.
 
 use crate::case::Case;
+use crate::closed::{self, left_out, Spread};
 use crate::geometry::diagram::to_exclusive_areas;
 use crate::inputs::{Head, Random};
 use crate::lent::{Book, Edit, Tables};
@@ -23,6 +24,15 @@ struct Counts {
     // rows newly present though the head met nobody, before or after
     newly_unmet: u64,
     gone: u64,
+    // taken edits by whether the head is closed before and after; of `stays_closed` both
+    closes: u64,
+    opens: u64,
+    stays_closed: u64,
+    // rows kept that would be worked out anew, if a closed head on the edge of another met it
+    kept_by_closed: u64,
+    // rows gone or newly present where a head was closed or opened
+    gone_by_closing: u64,
+    newly_by_opening: u64,
     runs: u64,
     unacceptable: [u64; 8],
     differences: u64,
@@ -46,7 +56,7 @@ fn coordinate(v: i32) -> bool {
 }
 
 fn radius(v: i32) -> bool {
-    (1..=20000).contains(&v)
+    (0..=20000).contains(&v)
 }
 
 fn plan_answer(book: &Book) -> u32 {
@@ -90,20 +100,26 @@ fn applied(book: &Book, edit: Edit) -> Book {
 // ---- document 01's rule of rows
 
 // "Two heads meet exactly if t² ≤ D ≤ s² and they are not identical."
-fn meet(a: (i64, i64, i64), b: (i64, i64, i64)) -> bool {
+fn outlines_meet(a: (i64, i64, i64), b: (i64, i64, i64)) -> bool {
     let (d, t, s) = ((a.0 - b.0).pow(2) + (a.1 - b.1).pow(2), a.2 - b.2, a.2 + b.2);
     t * t <= d && d <= s * s && a != b
+}
+
+// Request 3: a closed head meets nothing.
+fn meet(a: (i64, i64, i64), b: (i64, i64, i64)) -> bool {
+    a.2 != 0 && b.2 != 0 && outlines_meet(a, b)
 }
 
 // Which masks are sets of the plan; `fresh` are its afresh tables.
 fn sets(book: &Book, fresh: &Tables) -> Vec<bool> {
     let plan = book.plan();
-    if !plan.twins().is_empty() {
+    let (others, spread) = (left_out(&plan), Spread::over(&plan.heads));
+    if !others.twins().is_empty() {
         return (0..book.rows()).map(|mask| mask > 0 && fresh.presence[mask] == 1).collect();
     }
     let mut found = vec![false; book.rows()];
-    for mask in Case::of(plan).found() {
-        found[mask] = true;
+    for mask in Case::of(others).found() {
+        found[spread.mask(mask)] = true;
     }
     found
 }
@@ -133,8 +149,20 @@ impl Known {
 // What a taken edit leaves of the tables handed in. Counts the rows where `counts` is given.
 fn left(before: &Known, after: &Known, head: usize, handed: &Tables, mut counts: Option<&mut Counts>) -> Tables {
     let moved = [before.book.head(head), after.book.head(head)];
-    let others = (0..after.book.n).filter(|j| *j != head);
-    let met: usize = others.filter(|j| moved.iter().any(|h| meet(*h, after.book.head(*j)))).map(|j| 1 << j).sum();
+    let by = |rule: fn((i64, i64, i64), (i64, i64, i64)) -> bool| -> usize {
+        let others = (0..after.book.n).filter(|j| *j != head);
+        others.filter(|j| moved.iter().any(|h| rule(*h, after.book.head(*j)))).map(|j| 1 << j).sum()
+    };
+    let (met, met_by_outlines) = (by(meet), by(outlines_meet));
+    let was_closed = moved[0].2 == 0;
+    if let Some(counts) = counts.as_deref_mut() {
+        match (was_closed, moved[1].2 == 0) {
+            (false, true) => counts.closes += 1,
+            (true, false) => counts.opens += 1,
+            (true, true) => counts.stays_closed += 1,
+            _ => (),
+        }
+    }
     let (mut tables, mut present) = (handed.clone(), std::collections::HashMap::new());
     for mask in 0..after.book.rows() {
         let reworked = mask & 1 << head != 0 || mask.count_ones() > 1 && mask & met != 0;
@@ -155,6 +183,9 @@ fn left(before: &Known, after: &Known, head: usize, handed: &Tables, mut counts:
             counts.newly += (is && !was) as u64;
             counts.newly_unmet += (is && !was && met == 0) as u64;
             counts.gone += (was && !is) as u64;
+            counts.kept_by_closed += (is && was && !reworked && mask.count_ones() > 1 && mask & met_by_outlines != 0) as u64;
+            counts.gone_by_closing += (was && !is && moved[1].2 == 0) as u64;
+            counts.newly_by_opening += (is && !was && was_closed) as u64;
         }
     }
     let exclusives = to_exclusive_areas(&present);
@@ -182,8 +213,12 @@ fn nested(random: &mut Random) -> Plan {
 
 fn some_book(random: &mut Random) -> Book {
     loop {
-        let plan = match random.whole(0, 9) {
+        let plan = match random.whole(0, 11) {
             0 => nested(random),
+            10 | 11 => {
+                let n = random.whole(1, 10);
+                closed::plan(n as usize, random.whole(0, n) as usize, true, random)
+            }
             1 | 2 => (TWINS[(random.next() % TWINS.len() as u64) as usize].plan)(random),
             _ => (CATEGORIES[(random.next() % CATEGORIES.len() as u64) as usize].plan)(random),
         };
@@ -200,18 +235,20 @@ fn outside(random: &mut Random) -> i32 {
 }
 
 fn no_radius(random: &mut Random) -> i32 {
-    [0, -1, 20001, i32::MIN, i32::MAX][(random.next() % 5) as usize]
+    [-1, -1, 20001, i32::MIN, i32::MAX][(random.next() % 5) as usize]
 }
 
 fn no_head(book: &Book, random: &mut Random) -> usize {
     [book.n, book.n + 1, 10, 30, usize::MAX][(random.next() % 5) as usize].max(book.n)
 }
 
-// A head of the plan moved so that it lies to another as such heads do: identical, concentric, touching, or anywhere.
+// A head of the plan moved so that it lies to another as such heads do: identical, concentric, touching, or anywhere; closed where it is, at
+// the other's centre or edge; or, if it is closed, opened.
 fn placed(book: &Book, head: usize, random: &mut Random) -> (i64, i64, i64) {
     let (x, y, r) = book.head(head);
     let (ox, oy, other) = book.head((random.next() % book.n as u64) as usize);
-    match random.whole(0, 9) {
+    let most = if random.sign() > 0 { 30 } else { 3000 };
+    match random.whole(0, 12) {
         0 => (ox, oy, other),
         1 => (ox, oy, random.whole(1, 20000)),
         2 => (ox + r + other, oy, r),
@@ -219,7 +256,10 @@ fn placed(book: &Book, head: usize, random: &mut Random) -> (i64, i64, i64) {
         4 => (random.whole(-20000, 20000), random.whole(-20000, 20000), random.whole(1, 20000)),
         5 => (if x < 0 { 19000 } else { -19000 }, if y < 0 { 19000 } else { -19000 }, r),
         6 => (x, y, r),
-        7 => (x, y, (r + random.whole(-3, 3)).max(1)),
+        7 => (x, y, (r + random.whole(-3, 3)).max(0)),
+        8 => (x, y, 0),
+        9 => [(ox, oy, 0), (ox + other, oy, 0), (ox, oy - other, 0)][(random.next() % 3) as usize],
+        10 if r == 0 => (x, y, random.whole(1, most)),
         _ => (x + random.whole(-40, 40), y + random.whole(-40, 40), r),
     }
 }
@@ -230,7 +270,7 @@ fn some_edit(book: &Book, random: &mut Random) -> Edit {
     }
     let head = (random.next() % book.n as u64) as usize;
     let (x, y, r) = placed(book, head, random);
-    let mut edit = Edit { head, x: x.clamp(-20000, 20000) as i32, y: y.clamp(-20000, 20000) as i32, radius: r.clamp(1, 20000) as i32 };
+    let mut edit = Edit { head, x: x.clamp(-20000, 20000) as i32, y: y.clamp(-20000, 20000) as i32, radius: r.clamp(0, 20000) as i32 };
     // one in four is wrong in a field, and of these one in three in another too
     for _ in 0..if random.whole(0, 3) == 0 { random.whole(1, 3).max(1) - random.whole(0, 1).min(1) } else { 0 } {
         match random.whole(0, 3) {
@@ -336,7 +376,7 @@ fn list(counts: &mut Counts, book: Book, length: usize, random: &mut Random) {
     counts.lists += 1;
     let mut twins = false;
     for _ in 0..length {
-        twins |= !known.book.plan().twins().is_empty();
+        twins |= !left_out(&known.book.plan()).twins().is_empty();
         let edit = some_edit(&known.book, random);
         let lent = some_lengths(&tables, &known.book, random);
         let given = answer(&known.book, edit, lent);
@@ -385,20 +425,24 @@ fn unacceptable(counts: &mut Counts, mut book: Book, random: &mut Random) {
     counts.expect(want > 0 && right && book == before && tables.same(&handed), || format!("not acceptable: {edit:?} of {before:?}: {given:?}"));
 }
 
-// Five heads, the last of which leaves without ever having met one: set 007 becomes present.
-fn example() -> (Book, Edit) {
+// Five heads, the last of which leaves, or is closed where it is, without ever having met one: set 007 becomes present.
+fn example() -> (Book, [Edit; 2]) {
     let mut heads = [0; 30];
     heads[..15].copy_from_slice(&[0, 0, 50, 30, 0, 50, 0, 30, 50, 0, 0, 1000, 0, 0, 2000]);
-    (Book { n: 5, sides: [0, 0, 40000, 40000], heads }, Edit { head: 4, x: 9000, y: 0, radius: 2000 })
+    let edits = [Edit { head: 4, x: 9000, y: 0, radius: 2000 }, Edit { head: 4, x: 0, y: 0, radius: 0 }];
+    (Book { n: 5, sides: [0, 0, 40000, 40000], heads }, edits)
 }
 
 pub fn compare(number: u64, seed: u64) {
     let (mut counts, mut random) = (Counts::default(), Random::of(seed, 800));
-    let (book, edit) = example();
-    let (before, after) = (Known::of(book.clone()), Known::of(applied(&book, edit)));
-    let lent = [before.book.rows(); 4];
-    one(&mut counts, &before, Some(&after), edit, lent, &mut before.fresh.clone(), true);
-    counts.expect(counts.newly_unmet > 0, || "document 01's rule of rows newly present was not met".to_string());
+    let (book, edits) = example();
+    for edit in edits {
+        let (before, after) = (Known::of(book.clone()), Known::of(applied(&book, edit)));
+        let lent = [before.book.rows(); 4];
+        let met = counts.newly_unmet;
+        one(&mut counts, &before, Some(&after), edit, lent, &mut before.fresh.clone(), true);
+        counts.expect(counts.newly_unmet > met, || "document 01's rule of rows newly present was not met".to_string());
+    }
     for _ in 0..number {
         let book = some_book(&mut random);
         let length = some_length(&mut random);
@@ -414,9 +458,13 @@ pub fn compare(number: u64, seed: u64) {
     println!("{} plans not acceptable: {} by 2, {} by 4, {} by 5", c.unacceptable.iter().sum::<u64>(), c.unacceptable[2], c.unacceptable[4], c.unacceptable[5]);
     println!("rows: {} kept, {} worked out anew, {} newly present, {} gone", c.kept, c.reworked, c.newly, c.gone);
     println!("{} rows newly present though the head met nobody", c.newly_unmet);
+    println!("{} edits closed a head, which took {} rows; {} opened one, which brought {}", c.closes, c.gone_by_closing, c.opens, c.newly_by_opening);
+    println!("{} moved a closed head; {} rows kept though a closed one stood or stands on an edge of theirs", c.stays_closed, c.kept_by_closed);
     println!("{} lists run at one call; {} differences", c.runs, c.differences);
     let all_seen = taken > 0 && r4 > 0 && r5 > 0 && r6 > 0 && r7 > 0 && c.twins > 0 && c.kept > 0 && c.newly > 0;
-    if c.differences > 0 || !all_seen {
+    let of_closed = [c.closes, c.opens, c.stays_closed, c.kept_by_closed, c.gone_by_closing, c.newly_by_opening];
+    let closed_seen = of_closed.iter().all(|number| *number > 0);
+    if c.differences > 0 || !all_seen || !closed_seen {
         std::process::exit(1);
     }
 }

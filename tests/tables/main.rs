@@ -5,6 +5,8 @@ include!("modules.rs");
 
 #[allow(dead_code)]
 mod case;
+#[allow(dead_code)]
+mod closed;
 mod edits;
 mod hold;
 #[allow(dead_code)]

@@ -194,10 +194,12 @@ NO_ROWS = ['true', 'false', 'echo 00', 'echo 001 400000000000000', 'printf "000 
            'echo 000 4000000000000000; echo refused 1 at 2', 'echo no >&2']
 
 REFUSALS = [
-    ('head 0 0 20001\n', ':1: refused 5 at 11: the radius of head 0 is 20001, outside 1 to 20000'),
+    ('head 0 0 20001\n', ':1: refused 5 at 11: the radius of head 0 is 20001, outside 0 to 20000\n'),
+    ('head 0 0 -1\n', ':1: refused 5 at 11: the radius of head 0 is -1, outside 0 to 20000; a head is closed by radius 0\n'),
+    ('head 0 0 0\nhead 1 1 -\nhead 1 1 -7\n', ':3: refused 5 at 33: the radius of head 2 is -7, outside 0 to 20000; a head is closed by radius 0\n'),
     ('box - - 40001 -\n', ':1: refused 5 at 2: the width of the box is 40001, outside 1 to 40000'),
     ('# a\nbox 1 -20001 1 1\n', ':2: refused 4 at 6: the centre y of the box is -20001, outside -20000 to 20000'),
-    ('head 0 0 1\n\nmove 0 - 5 -\nmove 0 - - 0\n', ':4: refused 5 at 23: the radius of head 0 is 0, outside 1 to 20000'),
+    ('head 0 0 1\n\nmove 0 - 0 0\nmove 0 - - -1\n', ':4: refused 5 at 27: the radius of head 0 is -1, outside 0 to 20000; a head is closed by radius 0\n'),
     ('head 0 0 1\nmove 1 0 0 1\n', ':2: refused 6 at 15: a move of head 1, but the plan has only head 0'),
     ('move 0 0 0 1\n', ':1: refused 6 at 2: a move of head 0, but the plan has no heads'),
     ('head 0 0 1\n' * 11, ':11: refused 2 at 0: the plan has 11 heads, at most 10 are taken'),
@@ -241,6 +243,39 @@ def command_trials(chance, folder, rows):
         fails([chance.choice(['--table', '--svg']), '--rows', rows, '-'], words.encode(), 1, 'standard input' + wanted)
 
 
+# Heads closed by their own radius, by that of the head before and by a move, and one that a move opens: those that are closed after the last move.
+CLOSED = [
+    ('head 0 0 0\n', [0]),
+    ('box 0 0 2000 1000\nhead 9 9 0\nhead - - -\nhead 0 0 500\n', [0, 1]),
+    ('head 0 0 0\nhead 1 1 -\nhead - - 5\nhead - - -\nhead 2 2 0\n', [0, 1, 4]),
+    ('head 0 0 300\nhead 50 0 300\nmove 1 - - 0\n', [1]),
+    ('head 0 0 300\nhead 50 0 0\nhead 1 1 0\nmove 1 - - 20\nmove 0 9 - -\n', [2]),
+    ('head 0 0 300\nhead 50 0 300\nmove 1 - - 0\nmove 1 7 7 -\nmove 1 - - 1\n', []),
+    ('head 0 0 0\n' + 'head - - -\n' * 9, list(range(10))),
+]
+
+
+def closed_trials(rows):
+    """Closed heads in texts, files and tables: the same text and bytes again; no row has one, and each is named below the table."""
+    expect('closed heads: bytes', run(['-'], b'head 0 0 0\n'), (0, bytes.fromhex('01 00 07 00000000 00000000 00000000'), ''))
+    expect('closed heads: text', run(['--text', '-'], bytes.fromhex('01 00 07 00000000 00000000 00000000')), (0, b'box - - - -\nhead 0 0 0\n', ''))
+    for words, closed in CLOSED:
+        written = words if words.startswith('box') else 'box - - - -\n' + words
+        data = run(['-'], words.encode())[1]
+        expect('closed heads: the same text again', run(['--text', '-'], data), (0, written.encode(), ''))
+        status, out, error = run(['--table', '--rows', rows, '-'], words.encode())
+        expect('closed heads: status of tables', (status, error), (0, ''))
+        lines = out.decode().splitlines()
+        told = [line for line in lines if line.startswith('closed')]
+        named = ', '.join(str(i) for i in closed)
+        wanted = ['closed, in no row: head%s %s' % ('s' if len(closed) > 1 else '', named)] if closed else []
+        expect('closed heads: named below the table', (told, told == wanted and lines[len(lines) - len(told):] == told), (wanted, True))
+        masks = [int(line.split()[0], 16) for line in lines[1:len(lines) - len(told)]]
+        others = [i for i in range(words.count('head')) if i not in closed]
+        expect('closed heads: singles of the others alone', [mask for mask in masks if mask & (mask - 1) == 0], [0] + [1 << i for i in others])
+        expect('closed heads: in no row', [mask for mask in masks if any(mask >> i & 1 for i in closed)], [])
+
+
 def table_trial(rows):
     """The table of a plan whose areas are known: a box of 20 m by 10 m, a head that covers it, and one that lies outside."""
     words = 'box 0 0 2000 1000\nhead 0 0 20000\nhead 0 15000 1\n'
@@ -252,14 +287,76 @@ def table_trial(rows):
     expect('tables: columns line up', len({len(line) for line in lines if line}), 1)
 
 
+def drawn_of(rows, words, *options):
+    """The circles of a picture, [x, y, radius, whether it is filled], its words, and its numbers of heads with their style."""
+    status, out, error = run(['--svg', '--rows', rows] + list(options) + ['-'], words.encode())
+    expect('rings: status', (status, error), (0, ''))
+    drawn = xml.dom.minidom.parseString(out)
+    named = lambda node: [node.getAttribute(name) for name in ('cx', 'cy', 'r')] + [node.getAttribute('fill') not in ('', 'none')]
+    circles = [named(node) for node in drawn.getElementsByTagName('circle') if node.parentNode.tagName != 'clipPath']
+    texts = [node for node in drawn.getElementsByTagName('text') if node.firstChild]
+    numbers = [(node.firstChild.data, node.getAttribute('font-style')) for node in texts if node.getAttribute('paint-order')]
+    return circles, [node.firstChild.data for node in texts], sorted(numbers)
+
+
+def ring_trials(rows):
+    """A closed head is a ring of 6 pixels with nothing in it, at its centre and whatever the scale, its number in italics; an open one a circle of its
+    radius, with a dot and an upright number. The key explains the ring where there is one."""
+    key = 'closed, radius 0: waters nothing'
+    for scale in (1, 30):
+        box, middle = 'box 0 0 %d %d\n' % (600 * scale, 600 * scale), lambda radius: box + 'head 0 0 %d\nhead %d 0 %d\n' % (radius, 200 * scale, 100 * scale)
+        circles, words, numbers = drawn_of(rows, middle(0))
+        expect('rings: of the head and of the key, not filled', [circle[3] for circle in circles if circle[2] == '6'], [False, False])
+        expect('rings: a dot for the other head', [circle[3] for circle in circles if circle[2] == '2.6'], [True])
+        expect('rings: its circles, water and outlines', [float(circle[2]) > 20 for circle in circles if circle[2] not in ('6', '2.6')], [True] * 3)
+        expect('rings: numbers', numbers, [('0', 'italic'), ('1', '')])
+        expect('rings: the key', words.count(key), 1)
+        circles, words, numbers = drawn_of(rows, middle(100 * scale))
+        expect('rings: none where no head is closed', ([circle for circle in circles if circle[2] == '6'], words.count(key)), ([], 0))
+        expect('rings: dots and numbers then', (sum(circle[2] == '2.6' for circle in circles), numbers), (2, [('0', ''), ('1', '')]))
+    # before and after a move that closes a head, and one that opens it: a ring in one of the panels, and one, broken, where it was
+    for radius, to, said, rings in ((500, 0, 'was closed', 2), (0, 500, 'was opened', 3)):
+        circles, words, _ = drawn_of(rows, 'head 0 0 %d\nhead 9000 0 700\nmove 0 - - %d\n' % (radius, to))
+        expect('rings: of a move', sum(circle[2] == '6' for circle in circles), rings)
+        expect('rings: the move in words', [word for word in words if word.startswith('head 0')], ['head 0: radius from %d to %d, %s' % (radius, to, said)])
+    # the words on the chosen heads, and in how many panels their ground is hatched
+    shared = 'what heads 0, 1 share in the box'
+    for words, chosen, said, hatched in (
+            ('head 0 0 0\nhead 9 0 700\n', '0,1', shared + ': nothing, head 0 is closed', 0),
+            ('head 0 0 0\nhead 9 0 -\n', '0,1', shared + ': nothing, heads 0, 1 are closed', 0),
+            # moves that close a chosen head, and that open it
+            ('head 0 0 500\nhead 300 0 400\nmove 0 - - 0\n', '0,1', shared + '; after the move nothing: head 0 is closed', 1),
+            ('head 0 0 0\nhead 300 0 400\nmove 0 - - 500\n', '0,1', shared + '; before the move nothing: head 0 is closed', 1),
+            ('head 0 0 500\nmove 0 - - 0\n', '0', 'what head 0 waters in the box; after the move nothing: head 0 is closed', 1),
+            # the other chosen head is closed before and after: that one alone is named
+            ('head 0 0 500\nhead 300 0 0\nmove 0 - - 0\n', '0,1', shared + ': nothing, head 1 is closed', 0),
+            ('head 0 0 0\nhead 300 0 0\nmove 0 - - 500\n', '0,1', shared + ': nothing, head 1 is closed', 0),
+            # a closed head stays closed where it is moved to; a move closes a head that is not chosen
+            ('head 0 0 0\nhead 300 0 400\nmove 0 9 - -\n', '0,1', shared + ': nothing, head 0 is closed', 0),
+            ('head 0 0 500\nhead 300 0 400\nhead 9 9 9\nmove 2 - - 0\n', '0,1', shared, 2)):
+        _, found, _ = drawn_of(rows, words, '--set', chosen)
+        expect('rings: of options', [word for word in found if word.startswith('what head')], [said])
+        picture = run(['--svg', '--rows', rows, '--set', chosen, '-'], words.encode())[1]
+        expect('rings: of options, ground hatched', picture.count(b'fill="url(#hatch)"'), hatched)
+    _, found, _ = drawn_of(rows, 'head 0 0 0\nhead 9 0 700\n', '--zoom', '0')
+    expect('rings: of options', found.count(key), 1)
+
+
+def example_trial(rows):
+    """The picture that README shows is the one that the tool draws."""
+    with open(os.path.join(ROOT, 'example', 'closed.svg'), 'rb') as stored:
+        expect('pictures: example/closed.svg', run(['--svg', '--rows', rows, os.path.join(ROOT, 'example', 'closed.txt')]), (0, stored.read(), ''))
+
+
 def picture_trials(chance, folder, rows, count):
     """Pictures are XML and name every head; heads or moves that the plan has not are errors."""
     for _ in range(count):
         n = chance.choice([0, 1, 3, 10])
         reach = chance.choice([3, 300, 20000])
         place = lambda: chance.randint(-reach, reach)
-        heads = ''.join('head %d %d %d\n' % (place(), place(), chance.randint(1, reach)) for _ in range(n))
-        moves = ''.join('move %d %d - -\n' % (chance.randrange(n), place()) for _ in range(chance.randint(0, 2) if n else 0))
+        radius = lambda: chance.choice([0, 1, 1]) * chance.randint(1, reach)
+        heads = ''.join('head %d %d %d\n' % (place(), place(), radius()) for _ in range(n))
+        moves = ''.join('move %d %d - %s\n' % (chance.randrange(n), place(), chance.choice(['-', radius()])) for _ in range(chance.randint(0, 2) if n else 0))
         words = 'box - - %d %d\n' % (chance.choice([1, 500, 40000]), chance.choice([1, 500, 40000])) + heads + moves
         more = ['--set', str(n - 1)] if n else []
         status, out, error = run(['--svg', '--rows', rows] + more + ['-'], words.encode())
@@ -267,6 +364,9 @@ def picture_trials(chance, folder, rows, count):
         drawn = xml.dom.minidom.parseString(out)
         labels = [node.firstChild.data for node in drawn.getElementsByTagName('text') if node.getAttribute('paint-order')]
         expect('pictures: a number for every head', sorted(set(','.join(labels).split(',')) - {''}), sorted(str(i) for i in range(n)))
+        expect('pictures: no circle of radius 0', [node for node in drawn.getElementsByTagName('circle') if float(node.getAttribute('r')) == 0], [])
+    ring_trials(rows)
+    example_trial(rows)
     fails(['--svg', '--rows', rows, '--set', '0,3', '-'], SAMPLE.encode(), 1, '--set has head 3; the plan has heads 0 to 2')
     fails(['--svg', '--rows', rows, '--edit', '2', '-'], SAMPLE.encode(), 1, 'there is no move 2; the plan has one move')
 
@@ -281,6 +381,7 @@ def main():
     with tempfile.TemporaryDirectory() as folder:
         command_trials(chance, folder, rows)
         table_trial(rows)
+        closed_trials(rows)
         picture_trials(chance, folder, rows, 8)
     for what, number in COUNTS.items():
         print('%7d %s' % (number, what))

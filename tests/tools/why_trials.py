@@ -2,8 +2,8 @@
 
     why_trials.py COUNT [ROWS]      COUNT random plans of several kinds, an edit each; with the program ROWS also its answers to some
 
-The edit's own rule (demand 3) is worked out here from document 01 and held against the library, which is handed false numbers to see which
-rows it keeps; every row that changed must be listed, and every reason must be true of the plans and tables.
+The edit's own rule (demand 3) is worked out here from document 01 as it stands now (docs/SCOPE.md), and held against the library, which is handed
+false numbers to see which rows it keeps; every row that changed must be listed, and every reason must be true of the plans and tables.
 """
 import os
 import random
@@ -11,6 +11,7 @@ import re
 import struct
 import subprocess
 import sys
+import tempfile
 
 ROOT = os.path.dirname(os.path.dirname(os.path.dirname(os.path.abspath(__file__))))
 sys.path[:0] = [os.path.join(ROOT, 'tools')]
@@ -52,19 +53,39 @@ KINDS = [dense, nested, sparse, small]
 
 
 def random_edit(chance):
+    """A plan and an edit. In half of the plans heads are closed, and one edit in four closes its head or leaves it closed."""
     kind = chance.choice(KINDS)
     heads = [kind(chance) for _ in range(chance.choice([1, 2, 3, 4, 5, 5, 6, 7, 8]))]
+    closed = chance.choice([0, 0, 0.2, 0.5])
+    heads = [[x, y, 0 if chance.random() < closed else radius] for x, y, radius in heads]
     k = chance.randrange(len(heads))
     new = kind(chance) if chance.random() < 0.7 else [heads[k][0] + 9000, heads[k][1], heads[k][2]]
+    if chance.random() < 0.25:
+        new = (heads[k] if chance.random() < 0.7 else new)[:2] + [0]
     box = [chance.randint(-100, 100), chance.randint(-100, 100), chance.choice([10, 300, 3000, 20000]), chance.choice([10, 300, 3000, 20000])]
     return box, heads, k, new
+
+
+# Edits that close or open a head where a closed one might be taken for more than it is: (heads, the edited one, its new values).
+PLACES = [
+    ([[0, 0, 5], [8, 0, 5], [4, 3, 5]], 2, [4, 3, 0]),      # on the meeting point (4, 3) of two others
+    ([[0, 0, 5], [8, 0, 5], [4, 3, 0]], 2, [4, 3, 1]),
+    ([[0, 0, 5], [8, 0, 5], [4, 3, 0]], 2, [4, -3, 0]),     # from one to the other
+    ([[0, 0, 5], [8, 0, 0], [4, 3, 0]], 1, [8, 0, 5]),      # the two get the point where it stands
+    ([[0, 0, 5], [5, 0, 3]], 1, [5, 0, 0]),                 # on the edge of another: D = s² = t²
+    ([[3, 4, 0], [9, 9, 2]], 1, [0, 0, 5]),                 # another comes that has it on its edge
+    ([[0, 0, 5], [0, 0, 5]], 0, [0, 0, 0]),                 # in the middle of another, and identical to it before
+    ([[2, 2, 0], [2, 2, 7]], 1, [2, 2, 0]),                 # on another closed one
+    ([[2, 2, 0], [2, 2, 0], [2, 2, 0]], 1, [2, 2, 7]),
+    ([[0, 0, 0], [1, 1, 0], [4, 4, 0]], 0, [9, 9, 0]),      # all of them closed
+]
 
 
 # ---- demand 3's rule, from document 01
 
 def meets(a, b):
     distance = (a[0] - b[0]) ** 2 + (a[1] - b[1]) ** 2
-    return a != b and (a[2] - b[2]) ** 2 <= distance <= (a[2] + b[2]) ** 2
+    return 0 not in (a[2], b[2]) and a != b and (a[2] - b[2]) ** 2 <= distance <= (a[2] + b[2]) ** 2
 
 
 def worked_out(mask, k, old, new, heads, before):
@@ -100,11 +121,11 @@ def rounded(a, b):
 
 
 def contains(a, b):
-    return a[2] >= b[2] and (a[0] - b[0]) ** 2 + (a[1] - b[1]) ** 2 <= (a[2] - b[2]) ** 2
+    return 0 not in (a[2], b[2]) and a[2] >= b[2] and (a[0] - b[0]) ** 2 + (a[1] - b[1]) ** 2 <= (a[2] - b[2]) ** 2
 
 
 def reach(heads, point, slack):
-    return sum(1 << i for i, (x, y, r) in enumerate(heads) if ((x - point[0]) ** 2 + (y - point[1]) ** 2) ** 0.5 <= r + slack)
+    return sum(1 << i for i, (x, y, r) in enumerate(heads) if r and ((x - point[0]) ** 2 + (y - point[1]) ** 2) ** 0.5 <= r + slack)
 
 
 def is_at_point(heads, i, j, mask):
@@ -157,12 +178,29 @@ def within_true(words, move, mask):
     return other & mask == mask != other and bits(before) != bits(after) and what == found.group(2)
 
 
+def turned(move):
+    """What the move did to its head: `was closed`, `was opened`, or nothing of the kind."""
+    return {(1, 0): 'was closed', (0, 1): 'was opened'}.get(tuple(int(moment.heads[move.k][2] > 0) for moment in (move.before, move.after)), '')
+
+
+def presence_true(words, move, mask, gone):
+    """Whether it is said that the moved head was closed or opened exactly if it was, and the rest holds: there is none for the rows that a closed head
+    had and for the row of an opened head alone, which need no other reason."""
+    if turned(move):
+        first, _, words = words.partition('; ')
+        if first != 'head %d %s' % (move.k, turned(move)):
+            return False
+        if mask >> move.k & 1 and (turned(move) == 'was closed' or mask == 1 << move.k):
+            return words == '' and gone == (turned(move) == 'was closed')
+    return set_true(words, move, mask, move.before.heads if gone else move.after.heads)
+
+
 def reason_true(words, move, mask):
     before, after = move.before.rows.get(mask), move.after.rows.get(mask)
     if words.startswith('newly present: '):
-        return before is None and after is not None and set_true(words[15:], move, mask, move.after.heads)
+        return before is None and after is not None and presence_true(words[15:], move, mask, False)
     if words.startswith('no more present: '):
-        return before is not None and after is None and set_true(words[17:], move, mask, move.before.heads)
+        return before is not None and after is None and presence_true(words[17:], move, mask, True)
     if words.startswith('its own area stayed'):
         return bits(before) == bits(after) and within_true(words, move, mask)
     words, small, _ = words.partition('; only its last bits changed')
@@ -172,6 +210,10 @@ def reason_true(words, move, mask):
 
 
 def kind_of(words):
+    """What sort of reason it is, to be counted: of rows that came or went also what comes of a head that was closed or opened."""
+    switch = re.match('(newly|no more) present: head [0-9]+ (was closed|was opened)(; .*|$)', words)
+    if switch:
+        return '%s present: %s%s' % (switch.group(1), switch.group(2), ', and how the row is found' if switch.group(3) else '')
     return re.sub('(head|heads) [0-9, and]+|row [0-9A-F]+|[0-9]+ cm', '..', words).split(':')[0].split(', which')[0][:40]
 
 
@@ -183,6 +225,9 @@ def why_trial(proved, box, heads, k, new):
     expect('exclusives in Python', {mask: bits(v) for mask, v in window.exclusives(move.after.rows).items()},
            {mask: bits(v) for mask, v in move.after.exclusives.items()})
     text = why.told(1, move)
+    state = turned(move) or ('stays closed' if new[2] == 0 else '')
+    expect('closed and opened: the first line', text.split('\n')[0].split(', radius ')[2], '%d%s' % (new[2], state and ': ' + state), text)
+    COUNTS['  ' + (state or 'neither')] = COUNTS.get('  ' + (state or 'neither'), 0) + 1
     listed = {int(line[:3], 16): line for line in text.split('\n') if re.match('[0-9A-F]{3} ', line)}
     different = lambda mask: any(bits(a.get(mask)) != bits(b.get(mask)) for a, b in
                                  ((move.before.rows, move.after.rows), (move.before.exclusives, move.after.exclusives)))
@@ -211,14 +256,52 @@ def run(*words, data=b''):
     return done.returncode, done.stdout.decode(), done.stderr.decode()
 
 
+CLOSING = """head 0 0 50
+head 30 0 50
+head 0 30 50
+head 0 0 1000
+head 0 0 2000
+move 4 - - 0
+move 4 7 - -
+move 4 0 - 2000
+"""
+
+
+def closing_trial():
+    """Two wide heads cover what three small ones share, so that these have no row of their own; one of the wide ones is closed, moved closed, and
+    opened again. While it is closed the three have their row, and all rows that it had are gone."""
+    status, out, error = run('plan', '--why', '-', data=CLOSING.encode())
+    expect('closing and opening: status', (status, error), (0, ''), out)
+    off, still, on = out.split('\n\n')
+    expect('closing and opening: the head', [part.split('\n')[0].split(': ', 2)[2:] for part in (off, still, on)],
+           [['was closed'], ['stays closed'], ['was opened']])
+    listed = lambda what, text: {int(mask, 16): words for mask, words in re.findall('^(\\w{3}) .*  %s present: (.*)$' % what, text, re.M)}
+    gone, came = listed('no more', off), listed('newly', on)
+    expect('closing and opening: the rows that went', gone, {mask: 'head 4 was closed' for mask in gone if mask & 16} or 'none')
+    expect('closing and opening: the same came back', (set(came), {words.split('; ')[0] for words in came.values()}), (set(gone), {'head 4 was opened'}))
+    expect('closing and opening: nothing between', still.split('\n')[-1], 'No row changed.')
+    point = 'heads 0 and 1 %s at a point that only heads 0, 1, 2, 3 %s; %s; without head 3 that leaves this row'
+    expect('closing and opening: the row of the three', (listed('newly', off), listed('no more', on)), (
+        {7: 'head 4 was closed; ' + point % ('meet', 'reach', 'before, the moved head reached it too')},
+        {7: 'head 4 was opened; ' + point % ('met', 'reached', 'now the moved head reaches it too')}))
+    with tempfile.NamedTemporaryFile('w', suffix='.txt') as ground:
+        ground.write(CLOSING)
+        ground.flush()
+        status, out, error = run('stale', ground.name)
+    expect('closing and opening: stale', (status, error, out.count('; it was closed'), out.count('; it was opened')), (0, '', 1, 1), out)
+    expect('closing and opening: what the window lacks', 'yet it is newly present: head 4 was closed; heads 0 and 1' in out, True, out)
+
+
 def command_trials():
+    closing_trial()
     corner = os.path.join(ROOT, 'example', 'corner.txt')
     status, out, error = run('plan', '--why', corner)
     expect('commands', (status, error, out.count('newly present'), out.count('move ')), (0, '', 1, 3))
     status, out, error = run('stale', corner)
     expect('commands', (status, error, '<- stale: the window lacks the row' in out, 'DIFFERS' in out), (0, '', True, False))
     expect('commands', run('plan', '--why', '-', data=b'head 0 0 5\n'), (0, 'The plan has no moves.\n', ''))
-    for words, data in (('head 0 0 20001', ':1: refused 5 at 11'), ('move 0 0 0 1', ':1: refused 6 at 2')):
+    for words, data in (('head 0 0 20001', ':1: refused 5 at 11'), ('move 0 0 0 1', ':1: refused 6 at 2'),
+                        ('head 0 0 -1', ':1: refused 5 at 11: the radius of head 0 is -1, outside 0 to 20000')):
         status, out, error = run('plan', '--why', '-', data=words.encode())
         expect('commands', (status, out, data in error), (1, '', True))
     status, out, error = run('plan', '--why', '--library', '/dev/null', corner)
@@ -228,11 +311,12 @@ def command_trials():
 
 def main():
     chance, proved = random.Random(20), library.load()
-    for number in range(int(sys.argv[1])):
-        edit = random_edit(chance)
+    fixed = [([0, 0, 40, 30], *edit) for edit in PLACES]
+    for number in range(len(fixed) + int(sys.argv[1])):
+        edit = fixed[number] if number < len(fixed) else random_edit(chance)
         kept_trial(proved, *edit)
         why_trial(proved, *edit)
-        if sys.argv[2:] and number % 20 == 0:
+        if sys.argv[2:] and (number < len(fixed) or number % 20 == 0):
             program_trial(proved, sys.argv[2], *edit)
     command_trials()
     for what, number in COUNTS.items():

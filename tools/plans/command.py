@@ -16,15 +16,19 @@ Without an option a text becomes the bytes of a plan file. A text has one thing 
     head -600 0 800         # head 1
     move 1 -550 - -         # an edit: head 1 goes to x -550; its y and its radius stay
 
+A head of radius 0 is closed, as by `head 100 200 0` or `move 1 - - 0`: it keeps its number and its place, waters nothing and has no row
+until a move gives it a radius again.
+
 `-` leaves a field out of the file: then the box has 0, 0, 40000, 40000, a head what the head before it has (head 0: 0, 0, 500),
-and a moved head what it had. The box comes first and may be left out, then the heads, then the moves. From # on a line is a
-comment; comments, blank lines and spacing do not get into the file, so --text cannot give them back."""
+and a moved head what it had; so a head without a radius after a closed one is closed too. The box comes first and may be left out,
+then the heads, then the moves. From # on a line is a comment; comments, blank lines and spacing do not get into the file, so --text
+cannot give them back."""
 
 EXAMPLES = """examples:
     tools/plan ground.txt > ground.plan         write the plan file
     tools/plan --text ground.plan               the text of a plan file
     tools/plan --text --full ground.plan        the same, with the values that each - stands for
-    tools/plan --table ground.txt               the areas after the last move, by rows
+    tools/plan --table ground.txt               the areas after the last move, by rows, and which heads are closed
     tools/plan --svg ground.txt > ground.svg    a picture, before and after the last move
     tools/plan --svg --edit 1 --set 0,2 ground.txt > first.svg
     tools/plan --why ground.txt                 for each move, which rows changed and why
@@ -45,7 +49,7 @@ def parser():
     mode.add_argument('--text', action='store_true', help='INPUT is a plan file: write its text')
     mode.add_argument('--table', action='store_true', help='run rows on the plan and write its table, areas in square metres')
     mode.add_argument('--svg', action='store_true', help='draw the plan; with moves, before and after one of them')
-    mode.add_argument('--why', action='store_true', help='for each move, the rows that changed, and why')
+    mode.add_argument('--why', action='store_true', help='for each move, the rows that changed, and why; and whether its head was closed or opened')
     made.add_argument('--full', action='store_true', help='with --text: values instead of each - of the text')
     made.add_argument('--set', metavar='HEADS', type=picture.set_of, help='with --svg: outline the ground that these heads share, such as 0,2')
     made.add_argument('--zoom', metavar='HEADS', type=picture.set_of, help='with --svg: draw only the ground that these heads reach')
@@ -106,7 +110,7 @@ def failures(path):
 def made_from(plan, options):
     """The output for a plan that was read from a text."""
     if options.table:
-        return table.table(table.rows_of(plan, options.rows)).encode()
+        return table.table_of(plan, options.rows).encode()
     if options.svg:
         return picture.svg(plan, options.set, options.edit, options.rows, options.zoom).encode()
     if options.why:

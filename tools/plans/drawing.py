@@ -3,7 +3,8 @@ from xml.sax.saxutils import escape
 
 INK, FAINT, GROUND, WATER = '#222', '#bbb', '#f6f1e2', '#1f6fb2'
 HEAD, MOVED, MET, CHOSEN = '#31618c', '#c8400a', '#7a3fa0', '#000'
-BOLD = ' font-weight="bold"'
+BOLD, ITALIC = ' font-weight="bold"', ' font-style="italic"'
+RING = 6                # the radius of a closed head on the paper, whatever the scale
 FONT = 'DejaVu Sans, Verdana, sans-serif'
 
 
@@ -18,6 +19,11 @@ def rectangle(left, upper, right, lower):
 
 def line_style(colour, width, dashes=''):
     return ' fill="none" stroke="%s" stroke-width="%s"%s/>' % (colour, width, ' stroke-dasharray="%s"' % dashes if dashes else '')
+
+
+def ring(x, y, colour, dashes=''):
+    """A closed head: a small ring with nothing in it."""
+    return '<circle cx="%.2f" cy="%.2f" r="%d"' % (x, y, RING) + line_style(colour, 2, dashes)
 
 
 def metres(length):

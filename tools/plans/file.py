@@ -112,6 +112,15 @@ def values(plan):
     return box, heads, moves
 
 
+def heads_after(plan, count=None):
+    """The heads after the first `count` moves, or after all; moves of heads that the plan does not have count for nothing."""
+    _, heads, moves = values(plan)
+    for k, place in moves[:count]:
+        if k < len(heads):
+            heads[k] = place
+    return heads
+
+
 def full(plan):
     """The same plan with every value in it."""
     box, heads, moves = values(plan)

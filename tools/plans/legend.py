@@ -1,6 +1,6 @@
 """Below the panels: the key to shades and colours, and the list of rows with those marked that the move works out anew."""
 from . import rules, table
-from .drawing import BOLD, CHOSEN, GROUND, MET, MOVED, WATER, line_style, rectangle, text
+from .drawing import BOLD, CHOSEN, GROUND, HEAD, MET, MOVED, WATER, line_style, rectangle, ring, text
 from .panel import layer, most_heads
 
 LINE = 18
@@ -18,25 +18,49 @@ def shades(x, y, scenes):
     return parts
 
 
+def closed_words(mask):
+    """That the heads of a mask are closed."""
+    return table.heads_named(mask) + (' are closed' if mask & (mask - 1) else ' is closed')
+
+
+def chosen_words(scenes, chosen):
+    """What the outline of the chosen heads shows; a scene that has one of them closed has none."""
+    heads = ', '.join(str(i) for i in chosen)
+    words = 'what heads %s share in the box' % heads if len(chosen) > 1 else 'what head %s waters in the box' % heads
+    before, after = [rules.closed_in(scene.heads) & sum(1 << i for i in chosen) for scene in (scenes[0], scenes[-1])]
+    # a move turns one head alone, so where both have a closed one they have the same one
+    if before & after:
+        return '%s: nothing, %s' % (words, closed_words(before & after))
+    if before or after:
+        return '%s; %s the move nothing: %s' % (words, 'before' if before else 'after', closed_words(before or after))
+    return words
+
+
+def sample(colour, thick, dashes):
+    """A piece of a line of the key."""
+    return lambda x, y: '<path d="M%d %d h26"' % (x, y) + line_style(colour, thick, dashes)
+
+
 def lines_of(scenes, chosen):
-    """The lines that the key explains: colour, width, dashes, words."""
+    """What the key explains: how it is drawn at a place, and words."""
     lines = []
     if scenes[-1].moved is not None:
-        lines += [(MOVED, 2.6, '', 'the moved head'), (MOVED, 1.4, '7 4', 'where it was')]
-        lines += [(MET, 1.8, '', 'heads that it meets before or after')] if scenes[-1].met else []
+        lines += [(sample(MOVED, 2.6, ''), 'the moved head'), (sample(MOVED, 1.4, '7 4'), 'where it was')]
+        lines += [(sample(MET, 1.8, ''), 'heads that it meets before or after')] if scenes[-1].met else []
+    if any(rules.closed_in(scene.heads) for scene in scenes):
+        lines.append((lambda x, y: ring(x + 13, y, HEAD), 'closed, radius 0: waters nothing'))
     if chosen:
-        heads = ', '.join(str(i) for i in chosen)
-        lines.append((CHOSEN, 3.4, '', 'what heads %s share in the box' % heads if len(chosen) > 1 else 'what head %s waters in the box' % heads))
+        lines.append((sample(CHOSEN, 3.4, ''), chosen_words(scenes, chosen)))
     return lines
 
 
 def key(x, y, width, scenes, chosen):
     """The key: shades by number of heads, colours of lines. Its parts, and the height that they take."""
     parts, lines, at, down = shades(x, y, scenes), lines_of(scenes, chosen), x, y + 38
-    for colour, thick, dashes, words in lines:
+    for drawn, words in lines:
         if at > x and at + 36 + 6.6 * len(words) > x + width:
             at, down = x, down + LINE
-        parts += ['<path d="M%d %d h26"' % (at, down + 8) + line_style(colour, thick, dashes), text(at + 32, down + 12, words, 12)]
+        parts += [drawn(at, down + 8), text(at + 32, down + 12, words, 12)]
         at += 50 + 6.6 * len(words)
     return parts, (down + LINE if lines else y + 34) - y
 

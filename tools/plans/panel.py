@@ -1,5 +1,6 @@
 """One panel of the picture: the plan at one moment."""
-from .drawing import BOLD, CHOSEN, FAINT, GROUND, HEAD, INK, MET, MOVED, WATER, line_style, metres, rectangle, text
+from . import rules
+from .drawing import BOLD, CHOSEN, FAINT, GROUND, HEAD, INK, ITALIC, MET, MOVED, WATER, line_style, metres, rectangle, ring, text
 
 # Where a label may stand about its centre: right, left and up by these parts of its width, and pixels beyond.
 SPOTS = ((0, 0, -9), (0.5, 6, 5), (-0.5, -6, 5), (0, 0, 19), (0.5, 4, -7), (-0.5, -4, 17))
@@ -29,9 +30,9 @@ class Panel:
         self.scene, self.box, self.view, self.chosen, self.shade, self.name = scene, box, view, chosen, shade, name
 
     def clips(self):
-        """Clip paths: the panel, the box, and each head."""
+        """Clip paths: the panel, the box, and each head that is not closed."""
         shapes = {'view': rectangle(*self.view.frame()), 'box': self.view.rectangle(self.box)}
-        shapes.update((str(i), self.view.circle(head)) for i, head in enumerate(self.scene.heads))
+        shapes.update((str(i), self.view.circle(head)) for i, head in enumerate(self.scene.heads) if not rules.is_closed(head))
         return ['<clipPath id="%s-%s">%s/></clipPath>' % (self.name, key, shape) for key, shape in shapes.items()]
 
     def clipped(self, names, body):
@@ -44,20 +45,26 @@ class Panel:
         return (MOVED, 2.6) if i == self.scene.moved else (MET, 1.8) if self.scene.met >> i & 1 else (HEAD, 1.1)
 
     def ground(self):
-        """The ground, a layer of water for each head in the box, and the heads' outlines, broken outside the box."""
-        circles = [self.view.circle(head) for head in self.scene.heads]
+        """The ground, a layer of water for each head in the box, and the heads' outlines, broken outside the box; a ring for a closed head."""
+        circles = [(i, self.view.circle(head)) for i, head in enumerate(self.scene.heads) if not rules.is_closed(head)]
         box = self.view.rectangle(self.box)
         parts = [self.clipped([], box + ' fill="%s"/>' % GROUND)]
-        parts += [self.clipped(['box'], circle + ' fill="%s" fill-opacity="%s"/>' % (WATER, self.shade)) for circle in circles]
-        parts += [self.clipped([], circle + ' stroke-opacity="0.55"' + line_style(*self.look(i), '3 4')) for i, circle in enumerate(circles)]
-        parts += [self.clipped(['box'], circle + line_style(*self.look(i))) for i, circle in enumerate(circles)]
+        parts += [self.clipped(['box'], circle + ' fill="%s" fill-opacity="%s"/>' % (WATER, self.shade)) for _, circle in circles]
+        parts += [self.clipped([], circle + ' stroke-opacity="0.55"' + line_style(*self.look(i), '3 4')) for i, circle in circles]
+        parts += [self.clipped(['box'], circle + line_style(*self.look(i))) for i, circle in circles]
+        parts += [self.clipped([], self.closed(head, self.look(i)[0])) for i, head in enumerate(self.scene.heads) if rules.is_closed(head)]
         if self.scene.old:
-            parts.append(self.clipped([], self.view.circle(self.scene.old) + line_style(MOVED, 1.4, '7 4')))
+            closed = rules.is_closed(self.scene.old)
+            was = self.closed(self.scene.old, MOVED, '3 2') if closed else self.view.circle(self.scene.old) + line_style(MOVED, 1.4, '7 4')
+            parts.append(self.clipped([], was))
         return parts + [self.clipped([], box + line_style(INK, 1.6)), rectangle(*self.view.frame()) + line_style(FAINT, 1)]
 
+    def closed(self, head, colour, dashes=''):
+        return ring(*self.view.point(head[0], head[1]), colour, dashes)
+
     def outline(self):
-        """What the chosen heads share in the box: hatched, and its outline by pieces, each clipped by the other heads."""
-        if not self.chosen:
+        """What the chosen heads share in the box: hatched, and its outline by pieces, each clipped by the other heads. With a closed head it is nothing."""
+        if not self.chosen or any(rules.is_closed(self.scene.heads[i]) for i in self.chosen):
             return []
         heads, box, line = [str(i) for i in self.chosen], self.view.rectangle(self.box), line_style(CHOSEN, 3.4)
         parts = [self.clipped(['box'] + heads, box + ' fill="url(#hatch)"/>'), self.clipped(heads, box + line)]
@@ -67,23 +74,24 @@ class Panel:
         return parts
 
     def labels(self):
-        """A dot and a number at each centre; heads whose centres fall together share a label. For a centre outside the panel an arrow."""
+        """A dot and a number at each centre; heads whose centres fall together share a label, the closed ones, which have rings for dots, one of their
+        own. For a centre outside the panel an arrow."""
         parts, taken, groups = [], [], {}
         for i, head in enumerate(self.scene.heads):
             px, py = self.view.point(head[0], head[1])
-            groups.setdefault((round(px / 3), round(py / 3)), []).append((i, px, py))
-        for group in groups.values():
+            groups.setdefault((round(px / 3), round(py / 3), rules.is_closed(head)), []).append((i, px, py))
+        for (_, _, closed), group in groups.items():
             numbers, (_, px, py) = [i for i, _, _ in group], group[0]
             words = ','.join(str(i) for i in numbers)
             colour = MOVED if self.scene.moved in numbers else MET if any(self.scene.met >> i & 1 for i in numbers) else INK
-            if self.view.shows(px, py):
-                parts.append('<circle cx="%.2f" cy="%.2f" r="2.6" fill="%s"/>' % (px, py, colour))
-            else:
+            if not self.view.shows(px, py):
                 px, py, arrow = self.border(px, py, colour)
                 parts.append(arrow)
+            elif not closed:
+                parts.append('<circle cx="%.2f" cy="%.2f" r="2.6" fill="%s"/>' % (px, py, colour))
             x, y = self.free(px, py, 8 * len(words) + 4, taken)
             halo = ' fill="%s" stroke="#fff" stroke-width="3" paint-order="stroke"' % colour
-            parts.append(text(x, y, words, 14, 'middle', BOLD + halo))
+            parts.append(text(x, y, words, 14, 'middle', (ITALIC if closed else BOLD) + halo))
         return parts
 
     def border(self, px, py, colour):

@@ -1,12 +1,12 @@
-"""A plan as a picture in SVG: the box, the heads with their numbers, ground shaded by how many heads water it, the outline of a
-chosen set; before and after a move side by side, with the rows that the move works out anew marked below. The areas are those
+"""A plan as a picture in SVG: the box, the heads with their numbers (a closed one as a small ring), ground shaded by how many heads water it,
+the outline of a chosen set; before and after a move side by side, with the rows that the move works out anew marked below. The areas are those
 that `rows` gives; the drawing itself claims nothing."""
 import argparse
 import re
 
 from . import rules, table
 from .drawing import BOLD, document, metres, text
-from .file import Plan, values
+from .file import Plan, heads_after, values
 from .legend import key, row_list, summary
 from .panel import Panel, Scene, layer
 from .view import View, window
@@ -42,15 +42,11 @@ def scenes_of(plan, edit, program):
     if edit > len(plan.moves):
         raise NotDrawn('there is no move %d; the plan has %s' % (edit, counted(len(plan.moves), 'moves')))
     rows_after = lambda count: last if count == len(plan.moves) else table.rows_of(Plan(plan.box, plan.heads, plan.moves[:count]), program)
-    _, heads, moves = values(plan)
-    for k, place in moves[:max(edit - 1, 0)]:
-        heads[k] = place
     if edit == 0:
-        return [Scene('before all moves' if moves else '', heads, rows_after(0))]
-    k, place = moves[edit - 1]
-    old, after = heads[k], heads[:k] + [place] + heads[k + 1:]
-    met = rules.met(heads, k, [old, place])
-    return [Scene('before move %d' % edit, heads, rows_after(edit - 1), k, met), Scene('after move %d' % edit, after, rows_after(edit), k, met, old)]
+        return [Scene('before all moves' if plan.moves else '', heads_after(plan, 0), rows_after(0))]
+    k, before, after = plan.moves[edit - 1].head, heads_after(plan, edit - 1), heads_after(plan, edit)
+    met = rules.met(before, k, [before[k], after[k]])
+    return [Scene('before move %d' % edit, before, rows_after(edit - 1), k, met), Scene('after move %d' % edit, after, rows_after(edit), k, met, before[k])]
 
 
 def told(scenes):
@@ -60,6 +56,7 @@ def told(scenes):
     k, old, new = scenes[1].moved, scenes[1].old, scenes[1].heads[scenes[1].moved]
     changed = ['from (%d, %d) to (%d, %d)' % (*old[:2], *new[:2])] if old[:2] != new[:2] else []
     changed += ['radius from %d to %d' % (old[2], new[2])] if old[2] != new[2] else []
+    changed += [rules.turned(old, new)] if rules.turned(old, new) else []
     return 'head %d: %s' % (k, ', '.join(changed) or 'stays as it is')
 
 

@@ -1,9 +1,10 @@
 """The sets of a plan with the reason why each is one: document 01, "Sets (discover_regions)", with the Rust's float operations in the
-Rust's order. It serves to say why a row came or went; which rows there are is the library's word, and the tests hold this to it.
+Rust's order; a closed head is in none of them (docs/SCOPE.md). It serves to say why a row came or went; which rows there are is the library's
+word, and the tests hold this to it.
 """
 from math import sqrt
 
-from .rules import meets, square_distance
+from .rules import either_closed, is_closed, meets, square_distance
 
 
 def ones(mask):
@@ -11,8 +12,8 @@ def ones(mask):
 
 
 def contains(a, b):
-    """Head a contains head b: rA >= rB and D <= (rA - rB)²."""
-    return a[2] >= b[2] and square_distance(a, b) <= (a[2] - b[2]) ** 2
+    """Head a contains head b: neither is closed, rA >= rB and D <= (rA - rB)²."""
+    return not either_closed(a, b) and a[2] >= b[2] and square_distance(a, b) <= (a[2] - b[2]) ** 2
 
 
 def meeting_points(one, other):
@@ -30,16 +31,16 @@ def meeting_points(one, other):
 
 
 def adopters(heads, i, j, point):
-    """The heads that have a meeting point of heads i and j."""
+    """The heads that have a meeting point of heads i and j: a closed head has none, not even the one that it stands on."""
     has = lambda head: sqrt((head[0] - point[0]) * (head[0] - point[0]) + (head[1] - point[1]) * (head[1] - point[1])) <= head[2]
-    return sum(1 << k for k, head in enumerate(heads) if k in (i, j) or has(head))
+    return sum(1 << k for k, head in enumerate(heads) if k in (i, j) or not is_closed(head) and has(head))
 
 
 def discovered(heads):
     """Each set of the plan, with how it is found: ('single',), ('meet', i, j), ('contain', i, j), ('point', i, j), ('less', mask, head
     taken) or ('level', the head that all others contain). A mask of three or more that is made less comes from a point."""
     count = len(heads)
-    found = {1 << i: ('single',) for i in range(count)}
+    found = {1 << i: ('single',) for i in range(count) if not is_closed(heads[i])}
     pairs = [(i, j) for i in range(count) for j in range(i + 1, count)]
     for i, j in pairs:
         if meets(heads[i], heads[j]):

@@ -5,15 +5,16 @@ import shutil
 import struct
 import subprocess
 
-from .file import BOX, HEAD, encode, values
+from . import rules
+from .file import BOX, HEAD, encode, heads_after, values
 from .places import BUILT_ROWS, INSTALLED, ROWS
 
 ROW = re.compile(r'([0-9A-F]{3}) ([0-9A-F]{16})\Z')
 REFUSED = re.compile(r'refused ([0-9]+) at ([0-9]+)\n\Z')
 
 
-# Document 01's limits, and the number of the refusal.
-LIMITS = {'width': (1, 40000, 5), 'height': (1, 40000, 5), 'radius': (1, 20000, 5)}
+# Document 01's limits, and the number of the refusal; a radius of 0 is that of a closed head (docs/SCOPE.md).
+LIMITS = {'width': (1, 40000, 5), 'height': (1, 40000, 5), 'radius': (0, 20000, 5)}
 COORDINATE = (-20000, 20000, 4)
 
 
@@ -103,7 +104,8 @@ def in_words(number, offset, plan, places):
     if number == 6:
         return Refused(line, '%s: a move of head %d, but the plan has %s' % (said, record.head, heads_in(plan)))
     name, value, (low, high, _) = field_at(place)
-    return Refused(line, '%s: the %s of %s is %d, outside %d to %d' % (said, name, name_of(record, plan), value, low, high))
+    hint = '; a head is closed by radius 0' if name == 'radius' and value < low else ''
+    return Refused(line, '%s: the %s of %s is %d, outside %d to %d%s' % (said, name, name_of(record, plan), value, low, high, hint))
 
 
 def taken_values(plan):
@@ -130,6 +132,11 @@ def heads_of(mask):
     return ','.join(str(i) for i in range(mask.bit_length()) if mask >> i & 1) or 'none'
 
 
+def heads_named(mask):
+    """The heads of a mask in a sentence: `head 0`, `heads 0, 2`."""
+    return ('heads ' if mask & (mask - 1) else 'head ') + heads_of(mask).replace(',', ', ')
+
+
 def square_metres(area):
     """An area given in square centimetres, in square metres to four places, which is to the square centimetre."""
     if 0 < area < 0.5:
@@ -143,6 +150,12 @@ def aligned(lines):
     return ''.join('%s  %s  %s\n' % (row.ljust(widths[0]), heads.ljust(widths[1]), area.rjust(widths[2])) for row, heads, area in lines)
 
 
-def table(rows):
-    """The table for a reader: in the order of `rows`, by number of heads and then by mask."""
-    return aligned([('row', 'heads', 'area m²')] + [('%03X' % mask, heads_of(mask), square_metres(area)) for mask, area in rows])
+def table(rows, closed=0):
+    """The table for a reader: in the order of `rows`, by number of heads and then by mask; below it the closed heads, a mask."""
+    lines = aligned([('row', 'heads', 'area m²')] + [('%03X' % mask, heads_of(mask), square_metres(area)) for mask, area in rows])
+    return lines + ('closed, in no row: %s\n' % heads_named(closed) if closed else '')
+
+
+def table_of(plan, chosen=None):
+    """The table of the plan after its last move, for a reader. Raises Refused, NoProgram."""
+    return table(rows_of(plan, chosen), rules.closed_in(heads_after(plan)))

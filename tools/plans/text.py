@@ -6,6 +6,7 @@
 
 Numbers are whole, in base ten (centimetres). `-` leaves a field out of the file: in the box 0, 0, 40000, 40000, in a head what
 the head before it has (head 0: 0, 0, 500), in a move what that head has. `#` begins a comment; blank lines count for nothing.
+A head of radius 0 is closed: it waters nothing, but keeps its number and its place.
 
 The normal form, which `text` writes: one box line, the head lines, the move lines, single spaces, no sign but `-`, no leading
 zeros, no comments or blank lines, and a line end after every line.

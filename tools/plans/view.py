@@ -19,7 +19,8 @@ def window(box, heads, zoomed):
         past = max(width, height) / 5
         left, bottom = (max(low - past, min([low] + [h[i] - h[2] for h in heads])) for i, low in enumerate((left, bottom)))
         right, top = (min(high + past, max([high] + [h[i] + h[2] for h in heads])) for i, high in enumerate((right, top)))
-    longer = max(right - left, top - bottom)
+    # a closed head reaches no further than its centre: then a tenth of the box's longer side is drawn
+    longer = max(right - left, top - bottom) or max(width, height) / 10
     # no side is drawn at less than a third of the other
     wide, high = max(right - left, longer / 3), max(top - bottom, longer / 3)
     around = MARGIN * longer

@@ -7,7 +7,7 @@ import struct
 
 from . import rules, sets
 from .library import Window
-from .table import heads_of, square_metres, taken_values
+from .table import heads_named, heads_of, square_metres, taken_values
 
 
 LAST_BITS = '; only its last bits changed'
@@ -33,6 +33,7 @@ class Move:
         self.met_before = rules.met(before.heads, k, [before.heads[k]])
         self.met_after = rules.met(after.heads, k, [after.heads[k]])
         self.sets_before, self.sets_after = sets.discovered(before.heads), sets.discovered(after.heads)
+        self.turned = rules.turned(before.heads[k], after.heads[k])
 
     def masks(self):
         """Every row that is present before or after, in row order."""
@@ -50,11 +51,6 @@ class Move:
 
     def kept(self):
         return [mask for mask in self.masks() if mask in self.after.rows and not self.anew(mask)]
-
-
-def heads_named(mask):
-    numbers = sets.ones(mask)
-    return ('head %s' if len(numbers) == 1 else 'heads %s') % ', '.join(str(i) for i in numbers)
 
 
 def distance(a, b):
@@ -114,12 +110,22 @@ def of_rows_within(move, mask):
     return 'its own area stayed, but row %03X, which lies within it, %s%s' % (first, what, more)
 
 
+def presence_clause(move, mask, gone):
+    """Why a row came or went. If the moved head was closed or opened, that is said first; it is all there is to say of the rows that a closed head takes
+    along and of the one that an opened head has alone."""
+    if not move.turned:
+        return set_clause(move, mask, gone)
+    turned = 'head %d %s' % (move.k, move.turned)
+    whole = mask >> move.k & 1 and (gone or rules.is_single(mask))
+    return turned if whole else '%s; %s' % (turned, set_clause(move, mask, gone))
+
+
 def reason(move, mask):
     """Why a row changed, in a sentence."""
     if mask not in move.before.rows:
-        return 'newly present: ' + set_clause(move, mask, False)
+        return 'newly present: ' + presence_clause(move, mask, False)
     if mask not in move.after.rows:
-        return 'no more present: ' + set_clause(move, mask, True)
+        return 'no more present: ' + presence_clause(move, mask, True)
     if not move.own_changed(mask):
         return of_rows_within(move, mask)
     small = LAST_BITS if shown(move.before.rows, mask) == shown(move.after.rows, mask) else ''
@@ -144,15 +150,16 @@ def counted(count, things):
 
 
 def opening(number, move):
-    """What was moved, whom it met, and how many rows were kept."""
+    """What was moved, whether that closed or opened it, whom it met, and how many rows were kept."""
     old, new = move.before.heads[move.k], move.after.heads[move.k]
+    state = move.turned or ('stays closed' if rules.is_closed(new) else '')
     met = ['%s before' % heads_named(move.met_before)] if move.met_before else []
     met += ['%s now' % heads_named(move.met_after)] if move.met_after else []
     anew = [mask for mask in move.masks() if move.anew(mask)]
     unchanged = [mask for mask in anew if not move.changed(mask)]
     gone = [mask for mask in move.masks() if mask not in move.after.rows]
     return [
-        'move %d: head %d from (%d, %d), radius %d to (%d, %d), radius %d' % (number, move.k, *old, *new),
+        'move %d: head %d from (%d, %d), radius %d to (%d, %d), radius %d%s' % (number, move.k, *old, *new, state and ': ' + state),
         'It meets %s.' % (' and '.join(met) or 'no head, before or now'),
         '%s kept, %d worked out anew (%d of them came out the same), %d no more present.' % (
             counted(len(move.kept()), 'rows'), len(anew), len(unchanged), len(gone))]

@@ -114,7 +114,8 @@ def told(number, step, colour):
     move = step.move
     old, new = move.before.heads[move.k], move.after.heads[move.k]
     met = 'meets nobody before or after' if not move.met_before | move.met_after else 'meets other heads'
-    parts = ['move %d: head %d from (%d, %d, %d) to (%d, %d, %d), where it %s' % (number, move.k, *old, *new, met)]
+    turned = move.turned and '; it ' + move.turned
+    parts = ['move %d: head %d from (%d, %d, %d) to (%d, %d, %d), where it %s%s' % (number, move.k, *old, *new, met, turned)]
     lines, others = lines_of(step)
     widths = [max(len(line[i]) for line in lines) for i in range(5)]
     for line in lines:

@@ -19,7 +19,8 @@ use Rattle.areas.specs.Scatter.{entries_of, box_entries, scatter, scatter_clippe
 use Rattle.areas.specs.Open.{open_gradient_row}
 use Rattle.drawn.specs.Drawn.{box_of}
 use Rattle.areas.specs.Clipped.{clipped_gradient_row}
-use Rattle.areas.specs.Gradients.{ScattersClipped, box_slopes, clipped_gradients, open_gradients, ClippedGradients, OpenGradients}
+use Rattle.areas.specs.Gradients.{ScattersClipped, box_slopes, clipped_gradients_by, clipped_gradients}
+use Rattle.areas.specs.Gradients.{open_gradients_by, open_gradients, ClippedGradients, OpenGradients}
 use Rattle.areas.proofs.Scattering.{Increasing, heads_increasing, entries_every, entries_many, places_increasing, places_below, put_other}
 use Rattle.areas.proofs.Scattering.{put-at, put_length, heads-in, Stands, entries_stand, stand_append, box_stands}
 
@@ -44,7 +45,7 @@ unfolding scatter_clipped
 clipped_many n js g = put_length (entries_of js ++ box_entries n) g (replicate (n * 3 + 4) zero64) ∙ length-replicate (n * 3 + 4) zero64
 
 -- the entries of a head that is not among those scattered
-clipped_elsewhere : (n : ℕ) (js : List ℕ) (g : List Float) (j i : ℕ) → j < n → i < 3 → Every (λ j'. j ≡ j' → ⊥) js
+pub clipped_elsewhere : (n : ℕ) (js : List ℕ) (g : List Float) (j i : ℕ) → j < n → i < 3 → Every (λ j'. j ≡ j' → ⊥) js
     → get_or (scatter_clipped js n g) (j * 3 + i) nan ≡ zero64
 unfolding scatter_clipped
 clipped_elsewhere n js g j i h l e =
@@ -111,7 +112,7 @@ either_long true m l k h g = h
 either_long false m l k h g = g
 
 pub clipped-gradients : (sets : Plan → ℕ → Bool) (p : Plan) → ClippedGradients sets p
-unfolding clipped_gradients
+unfolding clipped_gradients_by
 clipped-gradients sets p = record {
   many = many;
   box = zero_box p.n (area (box_of p.ground)) 2 (omega arith);
@@ -137,7 +138,7 @@ clipped-gradients sets p = record {
     present (suc S) h e = rw e refl
 
 pub open-gradients : (sets : Plan → ℕ → Bool) (p : Plan) → OpenGradients sets p
-unfolding open_gradients
+unfolding open_gradients_by
 open-gradients sets p = record { many = many; none = refl; absent = absent; present = present }
   where
     many : (S : ℕ) → length (open_gradients sets p S) ≡ 3 * p.n

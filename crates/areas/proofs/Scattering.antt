@@ -226,7 +226,8 @@ module _ (n S : ℕ) (g : List Float) where
       (every_map (entries_of heads) (λ p b. omega (arith, b)) (entries_below n heads (heads_below n S)))
       (length-replicate (3 * n) zero64) (omega (arith, lg, many)) (omega (arith, many)))
 
-  scattered_elsewhere : (j i : ℕ) → j < n → i < 3 → in_set S j ≡ false → get_or (scatter (heads_of n S) n g) (j * 3 + i) nan ≡ zero64
+  pub scattered_elsewhere : (j i : ℕ) → j < n → i < 3 → in_set S j ≡ false
+      → get_or (scatter (heads_of n S) n g) (j * 3 + i) nan ≡ zero64
   unfolding scatter
   scattered_elsewhere j i h l e =
       put_other (entries_of (heads_of n S)) g (replicate (3 * n) zero64) (j * 3 + i) nan

@@ -6,11 +6,12 @@ use Rattle.geometry.specs.declared.circle.Circle.{Circle}
 use Rattle.geometry.specs.declared.point.Point.{Point}
 use Rattle.plan.specs.declared.Plan.{Plan}
 use Rattle.drawn.specs.Drawn.{box_of}
+use Rattle.intersections.specs.Points.{Rule, rule}
 use Rattle.boundary.specs.Outline.{outline}
 use Rattle.clip.specs.Area.{clipped_area}
 use Rattle.clip.specs.Gradient.{WithGradient, clipped_gradient}
 use Rattle.regions.specs.Edit.{present, afresh_row}
-use Rattle.regions.specs.Table.{Exclusives, Method, plan_members, area_at, afresh}
+use Rattle.regions.specs.Table.{Exclusives, Method, members_by, plan_members, area_at, afresh}
 
 -- the area in a box of one member alone comes from its full circle
 pub clipped_alone : (box : Bounds) (c : Circle) (ps qs : List Point)
@@ -37,8 +38,11 @@ unfolding afresh_row
 clipped_row_zero sets exclusives p = refl
 
 -- the area of row S and its gradient by position: three entries a member, in the order of the members, then the box's four
+abbrev pub clipped_gradient_row_by : Rule → Plan → ℕ → WithGradient
+clipped_gradient_row_by r p S = clipped_gradient (bounds (box_of p.ground)) (members_by r p S)
+
 abbrev pub clipped_gradient_row : Plan → ℕ → WithGradient
-clipped_gradient_row p S = clipped_gradient (bounds (box_of p.ground)) (plan_members p S)
+clipped_gradient_row = clipped_gradient_row_by rule
 
 -- The area inside the box that the code works out for a set of a plan's heads is the row of that set.
 pub clipped-row : (sets : Plan → ℕ → Bool) (exclusives : Exclusives) (p : Plan) (S : ℕ)

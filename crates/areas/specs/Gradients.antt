@@ -6,11 +6,12 @@ use Rattle.binary64.specs.Constants.{zero64}
 use Rattle.masks.specs.Mask.{in_set}
 use Rattle.geometry.specs.Rectangle.{area}
 use Rattle.intersections.specs.Members.{heads_of}
+use Rattle.intersections.specs.Points.{Rule, rule}
 use Rattle.plan.specs.declared.Plan.{Plan}
 use Rattle.areas.specs.Scatter.{scatter, scatter_clipped}
-use Rattle.areas.specs.Open.{open_gradient_row}
+use Rattle.areas.specs.Open.{open_gradient_row_by, open_gradient_row}
 use Rattle.drawn.specs.Drawn.{box_of}
-use Rattle.areas.specs.Clipped.{clipped_gradient_row}
+use Rattle.areas.specs.Clipped.{clipped_gradient_row_by, clipped_gradient_row}
 
 -- What `scatter_clipped` does to a gradient g of the heads of a set S among n, and of the box.
 pub record ScattersClipped (n S : ℕ) (g : List Float) : Type 0 where
@@ -30,18 +31,29 @@ pub record ScattersClipped (n S : ℕ) (g : List Float) : Type 0 where
 abbrev pub box_slopes : Float → List Float
 box_slopes a = zero64 ∷ (zero64 ∷ (a ∷ (zero64 ∷ [])))
 
--- In the box: row 0 has the box's slopes and no head's, a set of the list its gradient by head, any other row +0 throughout.
-unfoldable pub clipped_gradients : (Plan → ℕ → Bool) → Plan → ℕ → List Float
-unfolding scatter_clipped heads_of
-clipped_gradients sets p zero = scatter_clipped [] p.n (box_slopes (area (box_of p.ground)))
-clipped_gradients sets p (suc S) =
-    cond (sets p (suc S)) (scatter_clipped (heads_of p.n (suc S)) p.n (clipped_gradient_row p (suc S)).grad) (replicate (p.n * 3 + 4) zero64)
+module _ (r : Rule) where
+  -- In the box: row 0 has the box's slopes and no head's, a set of the list its gradient by head, any other row +0
+  -- throughout.
+  unfoldable pub clipped_gradients_by : (Plan → ℕ → Bool) → Plan → ℕ → List Float
+  unfolding scatter_clipped heads_of
+  clipped_gradients_by sets p zero = scatter_clipped [] p.n (box_slopes (area (box_of p.ground)))
+  clipped_gradients_by sets p (suc S) =
+      cond (sets p (suc S)) (scatter_clipped (heads_of p.n (suc S)) p.n (clipped_gradient_row_by r p (suc S)).grad)
+      (replicate (p.n * 3 + 4) zero64)
 
--- Without a box: row 0 is absent.
-unfoldable pub open_gradients : (Plan → ℕ → Bool) → Plan → ℕ → List Float
-unfolding scatter heads_of
-open_gradients sets p zero = replicate (3 * p.n) zero64
-open_gradients sets p (suc S) = cond (sets p (suc S)) (scatter (heads_of p.n (suc S)) p.n (open_gradient_row p (suc S))) (replicate (3 * p.n) zero64)
+  -- Without a box: row 0 is absent.
+  unfoldable pub open_gradients_by : (Plan → ℕ → Bool) → Plan → ℕ → List Float
+  unfolding scatter heads_of
+  open_gradients_by sets p zero = replicate (3 * p.n) zero64
+  open_gradients_by sets p (suc S) =
+      cond (sets p (suc S)) (scatter (heads_of p.n (suc S)) p.n (open_gradient_row_by r p (suc S)))
+      (replicate (3 * p.n) zero64)
+
+abbrev pub clipped_gradients : (Plan → ℕ → Bool) → Plan → ℕ → List Float
+clipped_gradients = clipped_gradients_by rule
+
+abbrev pub open_gradients : (Plan → ℕ → Bool) → Plan → ℕ → List Float
+open_gradients = open_gradients_by rule
 
 -- What these rows are, entry by entry: of the width of a row, whatever the row; row 0; absent rows; the rows of sets are scattered (`ScattersClipped`).
 pub record ClippedGradients (sets : Plan → ℕ → Bool) (p : Plan) : Type 0 where

@@ -4,3 +4,4 @@ pub mod Scatter
 pub mod Sets
 pub mod Exclusives
 pub mod Gradients
+pub mod Closed

@@ -18,7 +18,7 @@ whole_circle x y r = around (at (of_int binary64 x) (of_int binary64 y)) (of_int
 abbrev pub unmet : Circle → Member
 unmet c = record { circle = c; points = [] }
 
--- Of two heads within document 01's limits that are identical:
+-- Of two heads within the limits, not closed, that are identical:
 pub record Identical (c : Circle) : Type 0 where
   -- the outline of the pair alone, without points, is the full circle of the lower one;
   pub pair : outline (unmet c ∷ unmet c ∷ []) ≡ full_circle 0 c ∷ []

@@ -6,13 +6,12 @@ use Rattle.std.proofs.Math.Bool.{and-true, or-false}
 use mathlib.Core.List.{map-append, map-map, foldl, foldl-append}
 use Rattle.masks.specs.Mask.{in_set, every, subset, Subset}
 use Rattle.masks.specs.Gather.{in_gather}
-use Rattle.masks.specs.Subset.{and_test, subset_head}
+use Rattle.masks.specs.Subset.{and_test, subset_head, every_cong}
 use Rattle.binary64.specs.Floats.{◌+ᶠ◌, ◌-ᶠ◌}
 use Rattle.geometry.specs.declared.bounds.Bounds.{Bounds}
 use Rattle.geometry.specs.declared.circle.Circle.{Circle}
 use Rattle.lists.specs.Lists.{up_to}
 use Rattle.intersections.specs.Members.{heads_of, circle_at}
-use Rattle.intersections.proofs.Masks.{every_cong}
 use Rattle.inside.specs.declared.edges.BoxEdge.{BoxEdge}
 use Rattle.inside.specs.declared.edges.BoxEdge.TheVariants.{Bottom, Right, Top, Left}
 use Rattle.inside.specs.Edges.{is_upright, line_of, from_of, to_of, edge_span}

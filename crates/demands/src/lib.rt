@@ -1,3 +1,3 @@
-// Demand 1 of the calls, over the steps that their contracts name: theorems over `finite`, `table`, `gradients` and
-// `watered`. There is no code here.
+// Demand 1 of the calls, and what they leave of a closed head, over the steps that their contracts name: theorems over
+// `finite`, `areas`, `table`, `gradients` and `watered`. There is no code here.
 #![tactic(auto)]

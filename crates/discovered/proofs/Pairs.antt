@@ -9,12 +9,14 @@ use lib.Dec.{leb}
 use lib.Ieee.{lt, of_bits}
 use Rattle.heads.specs.declared.Relation.{Relation}
 use Rattle.heads.specs.declared.Relation.TheVariants.{Apart, TouchingOutside, Crossing, TouchingInside, Holding, Identical}
-use Rattle.heads.specs.Relation.{relation, meets, contains, meeting, covering}
+use Rattle.heads.specs.Relation.{either_closed, relation, meets, contains, meeting, covering}
 use Rattle.heads.specs.Cases.{Case, case_of, meets_relation, contains_relation, relation_comm}
 use Rattle.heads.specs.Distance.{squared_distance_comm}
 use Rattle.heads.specs.Pair.{squared_distance, radius_of}
 use Rattle.binary64.specs.Constants.{zero64, ten_to_minus10}
-use Rattle.exact.proofs.Theorem.{no_area_beyond}
+use Rattle.geometry.specs.Circle.{intersection_area}
+use Rattle.exact.specs.Circle.{circle_of}
+use Rattle.exact.proofs.Theorem.{no_area_beyond, no_area_closed}
 use Rattle.discovered.specs.Pairs.{NoPairByArea}
 
 -- heads that do not meet, and of which neither contains the other, are apart
@@ -39,12 +41,16 @@ one_larger a b = go (leb b a) refl
     go true e = inl e
     go false e = inr (le-leb a b (omega (arith, leb-false b a e)))
 
-apart_beyond : (D a b : ℕ) → meets D a b ≡ false → contains D a b ≡ false → contains D b a ≡ false → (a + b) * (a + b) ≤ D
-apart_beyond D a b m c d =
+apart_beyond : (D a b : ℕ) → either_closed a b ≡ false → meets D a b ≡ false → contains D a b ≡ false
+    → contains D b a ≡ false → (a + b) * (a + b) ≤ D
+apart_beyond D a b o m c d =
     let e = only_apart (relation D a b) (leb b a) (leb a b) (sym (meets_relation D a b) ∙ m) (sym (contains_relation D a b) ∙ c)
     (ap (λ (r : Relation). leb a b && covering r) (relation_comm D a b) ∙ sym (contains_relation D b a) ∙ d) (one_larger a b) in
-    let h : (a + b) * (a + b) < D = subst (λ (r : Relation). Case r D a b) e (case_of D a b) in
-    omega arith
+    far (subst (λ (r : Relation). Case r D a b) e (case_of D a b))
+  where
+    far : (either_closed a b ≡ true) ⊎ ((a + b) * (a + b) < D) → (a + b) * (a + b) ≤ D
+    far (inl z) = absurd (false≢true (sym o ∙ z))
+    far (inr h) = omega arith
 
 none_above : lt ten_to_minus10 zero64 ≡ false
 unfolding lt of_bits
@@ -52,7 +58,12 @@ none_above = refl
 
 pub no_pair_by_area : NoPairByArea
 no_pair_by_area a b ha hb m c d =
-    ap (lt ten_to_minus10)
-    (no_area_beyond a b ha hb
-    (apart_beyond (squared_distance a b) (radius_of a) (radius_of b) m c (ap (λ (D : ℕ). contains D (radius_of b) (radius_of a)) (squared_distance_comm a b) ∙ d)))
-    ∙ none_above
+    ap (lt ten_to_minus10) (by (either_closed (radius_of a) (radius_of b)) refl) ∙ none_above
+  where
+    by : (p : Bool) → either_closed (radius_of a) (radius_of b) ≡ p
+        → intersection_area (circle_of a) (circle_of b) ≡ zero64
+    by true e = no_area_closed a b ha hb e
+    by false e =
+        no_area_beyond a b ha hb
+        (apart_beyond (squared_distance a b) (radius_of a) (radius_of b) e m c
+        (ap (λ (D : ℕ). contains D (radius_of b) (radius_of a)) (squared_distance_comm a b) ∙ d))

@@ -14,7 +14,8 @@ use Rattle.geometry.specs.Circle.{intersection_points}
 use Rattle.geometry.specs.declared.point.Point.{Point}
 use Rattle.geometry.specs.declared.circle.Circle.{Circle}
 use Rattle.intersections.specs.Members.{circle_at}
-use Rattle.intersections.specs.Points.{with_adopters, pair_points, later_points, collected}
+use Rattle.intersections.specs.Points.{with_adopters, pair_points, later_points, collected, collected_by}
+use Rattle.intersections.specs.Points.{later_points_by, pair_points_by, with_adopters_by}
 use Rattle.sets.specs.Regions.{parents, meets_at}
 
 -- ---- a test on the parents of the collected points
@@ -32,7 +33,7 @@ module _ (cs : List Circle) (i j : ℕ) where
   points a b = intersection_points (circle_at cs a) (circle_at cs b)
 
   of_points : (a b : ℕ) (l : List Point) → any (parents i j) (map (with_adopters cs a b) l) ≡ (these a b && nonempty l)
-  unfolding any with_adopters
+  unfolding any with_adopters_by
   of_points a b [] = none (these a b)
     where
       none : (t : Bool) → false ≡ (t && false)
@@ -45,7 +46,7 @@ module _ (cs : List Circle) (i j : ℕ) where
       more false u = refl
 
   of_pairs : meets_at (collected cs) i j ≡ some (length cs) (λ a. some (length cs - (a + 1)) (λ d. these a (a + 1 + d) && nonempty (points a (a + 1 + d))))
-  unfolding collected later_points pair_points
+  unfolding collected_by later_points_by pair_points_by
   of_pairs =
       any_up_to (parents i j) (later_points cs) (length cs)
       ∙ some_cong (length cs) (λ a. any (parents i j) (later_points cs a))

@@ -9,7 +9,7 @@ use native.Mathlib.Omega.{arith}
 use lib.IntN.{pos}
 use lib.Ieee.{Float, binary64, add, sub, mul, div, of_int, unlike}
 use Rattle.heads.specs.Relation.{gap}
-use Rattle.heads.specs.Cases.{gap_le}
+use Rattle.heads.specs.Outlines.{gap_le}
 use Rattle.binary64.specs.Units.{one, limit, Finite, mag, negative, plus, minus, Digits53}
 use Rattle.binary64.specs.Rounding.{Result}
 use Rattle.binary64.proofs.Units.{plus_is, plus_minus}

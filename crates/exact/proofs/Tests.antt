@@ -10,17 +10,18 @@ use native.Mathlib.Nat.{le_refl, add-mul, mul-le-mul_right}
 use native.Mathlib.Omega.{arith}
 use lib.Dec.{T, ltb, leb, eqb, eqb→eq, leb→le, le→leb}
 use lib.IntN.{ℤ, pos, negsuc, nat_abs, ◌-ℤ◌}
-use lib.Ieee.{Float, binary64, add, sub, lt, le, eq, of_int}
+use lib.Ieee.{Float, binary64, add, sub, lt, le, eq, round, of_int, of_bits}
 use lib.Ieee.Bits.{is_true}
 use lib.Ieee.Fits.{eq→eqb, and_i, and_l, and_r}
-use borrow.Author.Tests.{lt-ltb, le-ltb}
+use borrow.Author.Tests.{lt-ltb, le-ltb, ne_eqb}
 use Rattle.heads.specs.declared.Head.{Head}
 use Rattle.heads.specs.Relation as relation
-use Rattle.heads.specs.Pair.{squared_distance, radius_of, contains_of}
-use Rattle.heads.specs.Cases.{gap_le, contains_facts}
+use Rattle.heads.specs.Pair.{is_closed, squared_distance, radius_of, contains_of}
+use Rattle.heads.specs.Outlines.{gap_le, covers_facts}
 use Rattle.heads.specs.Distance.{InLimits, nat_abs_diff}
 use Rattle.binary64.specs.Units.{one, Finite, plus, minus}
 use Rattle.binary64.specs.Rounding.{Rounded}
+use Rattle.binary64.specs.Constants.{zero64}
 use Rattle.binary64.specs.Functions.{absolute}
 use Rattle.binary64.specs.Whole.{eq_z}
 use Rattle.std.proofs.lemmas.Bool.{cases_lt}
@@ -31,7 +32,7 @@ use Rattle.binary64.proofs.Rounding.{plus_le, plus_ge, minus_none}
 use Rattle.binary64.proofs.Operations.{add_result, result_rounded}
 use Rattle.binary64.proofs.Magnitude.{bound_digits, add_most}
 use Rattle.binary64.proofs.Functions.{absolute_sign, absolute_mag, absolute_most}
-use Rattle.binary64.proofs.Whole.{add_of_int, sub_of_int, eq_of_int}
+use Rattle.binary64.proofs.Whole.{add_of_int, sub_of_int, lt_of_int, eq_of_int}
 use Rattle.binary64.proofs.Whole.{of_int_finite, of_int_sign, of_int_mag, of_int_most}
 use Rattle.geometry.specs.Circle as circle
 use Rattle.geometry.specs.Point.{distance}
@@ -167,8 +168,8 @@ module _ (D r₁ r₂ : ℕ) (L : D < 2 ^ 32) (L₁ : r₁ ≤ 20000) (L₂ : r�
       omega (arith, both_beyond (larger l) h, ap (λ (n : ℕ). r₁ * n) (pow2_split 37 1037), pow2_pos 1037)))
 
   -- A contains B exactly if rA ≥ rB and D ≤ (rA - rB)².
-  pub contains_is : le both (of_int binary64 (pos r₁)) ≡ relation.contains D r₁ r₂
-  contains_is = le_units both_finite R₁.finite ∙ same_test (leb left right) (relation.contains D r₁ r₂) there back
+  pub covers_is : le both (of_int binary64 (pos r₁)) ≡ relation.covers D r₁ r₂
+  covers_is = le_units both_finite R₁.finite ∙ same_test (leb left right) (relation.covers D r₁ r₂) there back
     where
       left : ℕ
       left = plus both + minus (of_int binary64 (pos r₁))
@@ -176,14 +177,14 @@ module _ (D r₁ r₂ : ℕ) (L : D < 2 ^ 32) (L₁ : r₁ ≤ 20000) (L₂ : r�
       right : ℕ
       right = plus (of_int binary64 (pos r₁)) + minus both
 
-      there : T (leb left right) → T (relation.contains D r₁ r₂)
+      there : T (leb left right) → T (relation.covers D r₁ r₂)
       there t =
           let l : plus both ≤ r₁ * one = omega (arith, leb→le left right t, R₁.up, R₁.down, both_down) in
-          subst T (sym ((contains_facts D r₁ r₂).1 (larger l, within l))) tt
+          subst T (sym ((covers_facts D r₁ r₂).1 (larger l, within l))) tt
 
-      back : T (relation.contains D r₁ r₂) → T (leb left right)
+      back : T (relation.covers D r₁ r₂) → T (leb left right)
       back t =
-          let f = (contains_facts D r₁ r₂).0 (is_true (relation.contains D r₁ r₂) t) in
+          let f = (covers_facts D r₁ r₂).0 (is_true (relation.covers D r₁ r₂) t) in
           le→leb left right (omega (arith, both_most f.0 f.1, R₁.up, R₁.down, both_down))
 
 -- ---- identical
@@ -223,6 +224,29 @@ centres u v s t =
 and_assoc : (p q r : Bool) → (p && (q && r)) ≡ ((p && q) && r)
 and_assoc true q r = refl
 and_assoc false q r = refl
+
+-- ---- closed heads
+
+-- zero as a float is the whole number 0
+pub zero_is : zero64 ≡ of_int binary64 (pos 0)
+unfolding of_bits of_int round
+zero_is = refl
+
+not_above : (r : ℕ) → not (ltb 0 r) ≡ relation.closed r
+not_above zero = refl
+not_above (suc r) = ap not (lt-ltb 0 (suc r) (omega arith)) ∙ sym (ne_eqb (suc r) 0 (λ e. omega arith))
+
+-- a circle is closed if its head is
+pub closed_is : {a : Head} → InLimits a → circle.is_closed (circle_of a) ≡ is_closed a
+closed_is {a} la =
+    ap not
+    (ap₂ (λ (z : Float) (r : ℤ). lt z (of_int binary64 r)) zero_is la.whole
+    ∙ lt_of_int (pos 0) (pos (radius_of a)) (omega arith) (omega (arith, la.most)))
+    ∙ not_above (radius_of a)
+
+pub either_closed_is : {a b : Head} → InLimits a → InLimits b
+    → circle.either_closed (circle_of a) (circle_of b) ≡ relation.either_closed (radius_of a) (radius_of b)
+either_closed_is la lb = ap₂ (λ (p q : Bool). p || q) (closed_is la) (closed_is lb)
 
 -- ---- the tests on two heads
 
@@ -271,12 +295,17 @@ module _ {a b : Head} (la : InLimits a) (lb : InLimits b) (L : squared_distance 
       ap₂ (λ (i j : Bool). i && j) (ap₂ lt (distance_is la lb L) sum ∙ above_root D s L s_most)
       (ap₂ lt difference (distance_is la lb L) ∙ below_root D t L t_most)
 
-  -- a contains b: rA ≥ rB and D ≤ (rA - rB)²
-  pub contains_heads : circle.contains (circle_of a) (circle_of b) ≡ contains_of a b
-  contains_heads =
+  -- a covers b: rA ≥ rB and D ≤ (rA - rB)²
+  covers_heads : circle.covers (circle_of a) (circle_of b) ≡ relation.covers D (radius_of a) (radius_of b)
+  covers_heads =
       ap₂ le (ap₂ (λ (x : Float) (z : ℤ). add binary64 x (of_int binary64 z)) (distance_is la lb L) lb.whole)
       (ap (λ (z : ℤ). of_int binary64 z) la.whole)
-      ∙ contains_is D (radius_of a) (radius_of b) L la.most lb.most
+      ∙ covers_is D (radius_of a) (radius_of b) L la.most lb.most
+
+  -- a contains b: and neither is closed
+  pub contains_heads : circle.contains (circle_of a) (circle_of b) ≡ contains_of a b
+  unfolding relation.contains
+  contains_heads = ap₂ (λ (p q : Bool). not p && q) (either_closed_is la lb) covers_heads
 
   -- the distance is at least the sum of the radii: D ≥ s²
   pub beyond_is : le (add binary64 (of_int binary64 a.radius) (of_int binary64 b.radius))

@@ -25,7 +25,8 @@ use Rattle.exact.proofs.Theorem.{stays_bounded}
 use Rattle.intersections.specs.declared.points.IntersectionPoint.{IntersectionPoint}
 use Rattle.intersections.specs.Counts.{heads_below}
 use Rattle.intersections.specs.Members.{no_circle, circle_at, has_parent, counted_for, heads_of, points_for, points_held, member_at, members_of}
-use Rattle.intersections.specs.Points.{with_adopters, pair_points, later_points, collected}
+use Rattle.intersections.specs.Points.{with_adopters, pair_points, later_points, collected, collected_by}
+use Rattle.intersections.specs.Points.{later_points_by, pair_points_by, with_adopters_by}
 use Rattle.plan.specs.Limits.{Acceptable}
 use Rattle.plan.specs.declared.Plan.{Plan}
 use Rattle.plan.proofs.Exactly.{plan_taken, within_limits}
@@ -54,15 +55,15 @@ module _ (cs : List Circle)
   OfParents q = Between (circle_at cs q.first) (circle_at cs q.second) q.point
 
   of_pair : (i j : ℕ) → i < length cs → j < length cs → Every OfParents (pair_points cs i j)
-  unfolding pair_points with_adopters
+  unfolding pair_points_by with_adopters_by
   of_pair i j hi hj = every_mapped OfParents (with_adopters cs i j) (intersection_points (circle_at cs i) (circle_at cs j)) (pair i j hi hj)
 
   of_later : (i : ℕ) → i < length cs → Every OfParents (later_points cs i)
-  unfolding later_points
+  unfolding later_points_by
   of_later i hi = every_up_to OfParents (λ d. pair_points cs i (i + 1 + d)) (length cs - (i + 1)) (λ d h. of_pair i (i + 1 + d) hi (omega arith))
 
   of_collected : Every OfParents (collected cs)
-  unfolding collected
+  unfolding collected_by
   of_collected = every_up_to OfParents (later_points cs) (length cs) of_later
 
   -- a point counted for a set at a head has that head for a parent

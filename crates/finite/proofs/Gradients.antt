@@ -22,7 +22,8 @@ use Rattle.exclusive_gradients.specs.Gradient.{replaced, unless_replaced}
 use Rattle.areas.specs.Scatter.{scatter, scatter_clipped}
 use Rattle.areas.specs.Clipped.{clipped_gradient_row}
 use Rattle.areas.specs.Open.{open_gradient_row}
-use Rattle.areas.specs.Gradients.{box_slopes, clipped_gradients, open_gradients}
+use Rattle.areas.specs.Gradients.{box_slopes, clipped_gradients_by, clipped_gradients, open_gradients_by}
+use Rattle.areas.specs.Gradients.{open_gradients}
 use Rattle.areas.proofs.Gradients.{clipped-gradients, open-gradients}
 use Rattle.finite.specs.Exclusives.{MostTwoTo}
 use Rattle.finite.specs.Gradients.{ClippedGradientRowsFinite, OpenGradientRowsFinite}
@@ -40,7 +41,7 @@ either_every P false l k h g = g
 
 -- The gradient rows of a taken plan in its box,
 pub clipped_gradient_rows_finite : ClippedGradientRowsFinite
-unfolding clipped_gradients
+unfolding clipped_gradients_by
 clipped_gradient_rows_finite sets p ten taken zero =
     clipped_most 31490604288 [] p.n (box_slopes (area (box_of p.ground)))
     (most_zero, (most_zero, (most_weaken (plan_box_finite p ten taken) (lit≤ tt), (most_zero, tt))))
@@ -52,7 +53,7 @@ clipped_gradient_rows_finite sets p ten taken (suc S) =
 
 -- and without it.
 pub open_gradient_rows_finite : OpenGradientRowsFinite
-unfolding open_gradients
+unfolding open_gradients_by
 open_gradient_rows_finite sets p ten taken zero = zeros 72000000 (3 * p.n)
 open_gradient_rows_finite sets p ten taken (suc S) =
     let g = open_gradient_row p (suc S) in

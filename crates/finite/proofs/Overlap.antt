@@ -1,11 +1,12 @@
 -- The overlap of heads is finite: by the number of circles it is an area of one, the area that two share, or an open area of the set of all.
 use mathlib.Core.Path.{◌≡◌, subst, sym}
+use mathlib.Core.Bool.{not}
 use mathlib.Core.List.{List, [], ◌∷◌}
 use Prim.Native.Nat.{◌^◌, ◌-◌, ◌≤◌, ◌<◌}
 use native.Mathlib.Omega.{arith}
 use lib.Dec.{T, lit≤}
 use lib.ListN.{length, length-map}
-use Rattle.lists.specs.Every.{Every, every_map, every_both, every_mapped, every_by_index}
+use Rattle.lists.specs.Every.{Every, every_map, every_both, every_keep, every_mapped, every_by_index}
 use Rattle.binary64.specs.Magnitude.{Most}
 use Rattle.binary64.proofs.Magnitude.{most_weaken}
 use Rattle.heads.specs.declared.Head.{Head}
@@ -13,6 +14,7 @@ use Rattle.heads.specs.Limits.{in_limits}
 use Rattle.plan.specs.Limits.{Acceptable}
 use Rattle.plan.specs.declared.Plan.{Plan}
 use Rattle.plan.proofs.Exactly.{plan_taken, within_limits}
+use Rattle.geometry.specs.Circle.{is_closed}
 use Rattle.geometry.specs.declared.circle.Circle.{Circle}
 use Rattle.exact.specs.Circle.{circle_of}
 use Rattle.exact.proofs.Theorem.{is-drawn}
@@ -24,7 +26,8 @@ use Rattle.intersections.specs.Counts.{heads_below, heads_few}
 use Rattle.outline.specs.Counts.{outline_few}
 use Rattle.regions.specs.Table.{head_at}
 use Rattle.areas.proofs.Scattering.{heads-in}
-use Rattle.overlaps.specs.Overlap.{of_all, overlap, chosen}
+use Rattle.overlaps.specs.Overlap.{of_all, together, not_closed, overlap, chosen}
+use Rattle.overlaps.proofs.Keeping.{not_closed_few}
 use Rattle.finite.specs.Open.{InDomain}
 use Rattle.finite.specs.Overlap.{OverlapOfFinite, OverlapFinite}
 use Rattle.finite.proofs.Circles.{circle_finite, shared_finite}
@@ -48,15 +51,20 @@ all_most cs few h =
     let S = 2 ^ length cs - 1 in
     area_finite (members_of cs (collected cs) S) (members_domain cs (collected cs) S (every_map cs of_head_domain h)) (outline_few cs S few)
 
-overlap_most : (cs : List Circle) → length cs ≤ 10 → Every OfHead cs → Most 1440000000000 1074 (overlap cs)
-overlap_most [] few h = all_most [] few h
-overlap_most (a ∷ []) few h =
+together_most : (cs : List Circle) → length cs ≤ 10 → Every OfHead cs → Most 1440000000000 1074 (together cs)
+together_most [] few h = all_most [] few h
+together_most (a ∷ []) few h =
     most_weaken {j = 1600000000} (rw h.0.is (circle_finite h.0.head h.0.limits)) (lit≤ tt)
-overlap_most (a ∷ b ∷ []) few h =
+together_most (a ∷ b ∷ []) few h =
     most_weaken {j = 11789934592}
     (rw (h.0.is, h.1.0.is) (shared_finite h.0.head h.1.0.head h.0.limits h.1.0.limits))
     (lit≤ tt)
-overlap_most (a ∷ b ∷ c ∷ rest) few h = all_most (a ∷ b ∷ c ∷ rest) few h
+together_most (a ∷ b ∷ c ∷ rest) few h = all_most (a ∷ b ∷ c ∷ rest) few h
+
+overlap_most : (cs : List Circle) → length cs ≤ 10 → Every OfHead cs → Most 1440000000000 1074 (overlap cs)
+unfolding not_closed
+overlap_most cs few h =
+    together_most (not_closed cs) (omega (arith, not_closed_few cs)) (every_keep OfHead (λ c. not (is_closed c)) cs h)
 
 -- the circles of a plan within the limits are circles of heads
 circles-of-heads : (p : Plan) → length p.heads ≡ 10 → Acceptable p → Every OfHead (plan_circles p)

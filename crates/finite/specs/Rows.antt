@@ -27,7 +27,8 @@ pub record OpenRowFinite (p : Plan) (S : ℕ) : Type 0 where
   pub gradient : Every (Most 72000000 1074) (open_gradient_row p S)
   pub gradient_by_head : Every (Most 72000000 1074) (row_gradient_by_head p S)
 
--- The heads of a set are drawn: of the float domain. "Accepted by the checks" is another name, `Acceptable`; today all heads that are accepted are drawn.
+-- The heads of a set are drawn: their circles are of the float domain, closed or not. A head that the checks accept is
+-- (`is-drawn`, exact/proofs/Theorem.antt). No bound asks for a radius above 0.
 abbrev pub MembersDrawn : Plan → ℕ → Type 0
 MembersDrawn p S = (j : ℕ) → j < p.n → in_set S j ≡ true → Drawn (head_at p j)
 

@@ -1,1 +1,3 @@
 pub mod Roots
+pub mod AsBefore
+pub mod Closed

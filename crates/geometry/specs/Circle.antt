@@ -1,5 +1,5 @@
 -- What holds between two circles (circle.rs, first part). Rests on root and hypot of elementary, of which only the names are used.
-use Rattle.std.specs.Prelude.{Bool, ◌&&◌, ◌||◌, cond, List, [], Float}
+use Rattle.std.specs.Prelude.{Bool, not, ◌&&◌, ◌||◌, cond, List, [], Float}
 use Rattle.std.specs.Float.Ieee.{neg}
 use Rattle.elementary.specs.Arctangent.{acos}
 use Rattle.binary64.specs.Constants.{pi, zero64, half64, two64}
@@ -19,13 +19,27 @@ around c r = record { center = c; radius = r }
 abbrev pub area : Circle → Float
 area c = pi *ᶠ c.radius *ᶠ c.radius
 
+-- A circle is closed unless its radius is above 0; so is one whose radius is no number. Document 02, slip 3.
+abbrev pub is_closed : Circle → Bool
+is_closed c = not (zero64 <ᶠ c.radius)
+
+abbrev pub either_closed : Circle → Circle → Bool
+either_closed a b = is_closed a || is_closed b
+
 -- The centres' distance and the other's radius are together at most this radius.
-abbrev pub contains : Circle → Circle → Bool
-contains a b = distance a.center b.center +ᶠ b.radius ≤ᶠ a.radius
+abbrev pub covers : Circle → Circle → Bool
+covers a b = distance a.center b.center +ᶠ b.radius ≤ᶠ a.radius
 
 -- The point lies within the radius, or on it.
+abbrev pub covers_point : Circle → Point → Bool
+covers_point c p = distance c.center p ≤ᶠ c.radius
+
+-- A closed circle contains no circle and no point, and is contained in none.
+abbrev pub contains : Circle → Circle → Bool
+contains a b = not (either_closed a b) && covers a b
+
 abbrev pub contains_point : Circle → Point → Bool
-contains_point c p = distance c.center p ≤ᶠ c.radius
+contains_point c p = not (is_closed c) && covers_point c p
 
 -- The outlines cross: the distance lies strictly between the difference and the sum of the radii.
 abbrev pub intersects : Circle → Circle → Bool
@@ -76,7 +90,11 @@ crossing a b d =
     distinct (at (x +ᶠ rx) (y +ᶠ ry)) (at (x -ᶠ rx) (y -ᶠ ry))
 
 -- Document 01's meeting of two heads: identical ones have none.
-abbrev pub intersection_points : Circle → Circle → List Point
-intersection_points a b =
+abbrev pub outline_points : Circle → Circle → List Point
+outline_points a b =
     let d = distance a.center b.center in
     cond (identical a b) [] (cond (apart a b d) [] (crossing a b d))
+
+-- A closed circle meets none.
+abbrev pub intersection_points : Circle → Circle → List Point
+intersection_points a b = cond (either_closed a b) [] (outline_points a b)

@@ -6,3 +6,5 @@ pub mod Rectangle
 pub mod Meeting
 pub mod Moderate
 pub mod Circle
+pub mod AsBefore
+pub mod Closed

@@ -67,9 +67,30 @@ impl Circle {
         Circle::PI * self.radius * self.radius
     }
 
-    // Whether the other circle lies within this one, touching included.
+    // Whether the circle is closed: the radius is not above 0, or no number, of which `<=` would say otherwise.
+    pub fn is_closed(self) -> bool
+        ensures { result ≡ spec.is_closed self }
+    {
+        !(self.radius > 0.0)
+    }
+
+    fn either_closed(self, other: Circle) -> bool
+        ensures { result ≡ spec.either_closed self other }
+    {
+        self.is_closed() || other.is_closed()
+    }
+
+    // Whether the other circle lies within this one, touching included. A closed one is contained in none and contains
+    // none.
     pub fn contains(self, other: Circle) -> bool
         ensures { result ≡ spec.contains self other }
+    {
+        !self.either_closed(other) && self.covers(other)
+    }
+
+    // The same of the radii as they are.
+    fn covers(self, other: Circle) -> bool
+        ensures { result ≡ spec.covers self other }
     {
         let squared = self.center.squared_distance(other.center);
         // a sum with a radius that is not below zero is no less, as rounded too
@@ -79,11 +100,11 @@ impl Circle {
         root(squared) + other.radius <= self.radius
     }
 
-    // Whether the point lies within this circle or on its outline.
+    // Whether the point lies within this circle or on its outline. A closed one has no point, not even its centre.
     pub fn contains_point(self, point: Point) -> bool
         ensures { result ≡ spec.contains_point self point }
     {
-        root_at_most(self.center.squared_distance(point), self.radius)
+        !self.is_closed() && root_at_most(self.center.squared_distance(point), self.radius)
     }
 
     // Whether the outlines cross; circles that touch do not, as in the Rust.
@@ -140,9 +161,19 @@ impl Circle {
         d > self.radius + other.radius || d < abs(self.radius - other.radius)
     }
 
-    // Where the outlines meet. Identical circles meet nowhere (docs/DIFFERENCES.md).
+    // Where the outlines meet. A closed circle meets none, and identical ones meet nowhere (docs/DIFFERENCES.md).
     pub fn intersection_points(self, other: Circle) -> Meeting
         ensures { points result ≡ spec.intersection_points self other }
+    {
+        if self.either_closed(other) {
+            return Meeting::None;
+        }
+        self.outline_points(other)
+    }
+
+    // The same of the radii as they are.
+    fn outline_points(self, other: Circle) -> Meeting
+        ensures { points result ≡ spec.outline_points self other }
     {
         if self == other {
             return Meeting::None;

@@ -39,7 +39,7 @@ use Rattle.areas.specs.Clipped.{clipped_gradient_row}
 use Rattle.areas.specs.Open.{open_gradient_row}
 use Rattle.areas.specs.Sets.{plan_sets}
 use Rattle.areas.specs.Scatter.{put, entries_of, scatter, scatter_clipped}
-use Rattle.areas.specs.Gradients.{box_slopes, clipped_gradients}
+use Rattle.areas.specs.Gradients.{box_slopes, clipped_gradients_by}
 use Rattle.areas.proofs.ByHead.{plan_by_head}
 use Rattle.areas.proofs.Gradients.{clipped-gradients, open-gradients}
 use Rattle.gradients.specs.Step.{GradientSlices, gradient_slices, lent_gradients, gradients_written, step_to}
@@ -91,7 +91,7 @@ module _ (p : Plan) (ten : length p.heads ≡ 10) (few : p.n ≤ 10) where
       ∙ ap (λ (m : ℕ). with_gradient g.sum (scatter_clipped (heads_of m S) m g.grad)) many
 
   pub clipped_agree : Agree p.n (clipped_with_gradients box cs) (clipped_plan plan_sets p)
-  unfolding clipped_gradients
+  unfolding clipped_gradients_by
   clipped_agree = rw read (record {
     has_box = refl;
     width = ap (λ (m : ℕ). m * 3 + 4) many;

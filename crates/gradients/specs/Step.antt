@@ -15,35 +15,44 @@ use Rattle.geometry.specs.Rectangle.{area}
 use Rattle.drawn.specs.Drawn.{box_of}
 use Rattle.outline.specs.Area.{open_area}
 use Rattle.diagram.specs.Rows.{Slopes, presence_written, areas_written, slopes_written}
-use Rattle.regions.specs.Table.{plan_members}
-use Rattle.areas.specs.Clipped.{clipped_gradient_row}
-use Rattle.areas.specs.Gradients.{clipped_gradients, open_gradients}
+use Rattle.intersections.specs.Points.{Rule, rule}
+use Rattle.regions.specs.Table.{members_by}
+use Rattle.areas.specs.Clipped.{clipped_gradient_row_by}
+use Rattle.areas.specs.Gradients.{clipped_gradients_by, open_gradients_by}
 
 -- ---- the rows of a plan with their gradients by head, for any list of sets
 
--- In the box: row 0 has the box's area and its gradient; a set has the area that comes with its gradient.
-abbrev pub clipped_plan : (Plan → ℕ → Bool) → Plan → Slopes
-clipped_plan sets p = record {
-  rows = record {
-    has_box = true;
-    box_area = area (box_of p.ground);
-    sets = sets p;
-    area = λ S. (clipped_gradient_row p S).sum;
-  };
-  width = p.n * 3 + 4;
-  box_row = clipped_gradients sets p 0;
-  row = clipped_gradients sets p;
-}
+-- By any rule of who meets and adopts.
+module _ (r : Rule) where
+  -- In the box: row 0 has the box's area and its gradient; a set has the area that comes with its gradient.
+  abbrev pub clipped_plan_by : (Plan → ℕ → Bool) → Plan → Slopes
+  clipped_plan_by sets p = record {
+    rows = record {
+      has_box = true;
+      box_area = area (box_of p.ground);
+      sets = sets p;
+      area = λ S. (clipped_gradient_row_by r p S).sum;
+    };
+    width = p.n * 3 + 4;
+    box_row = clipped_gradients_by r sets p 0;
+    row = clipped_gradients_by r sets p;
+  }
 
--- Without the box: there is no row 0.
+  -- Without the box: there is no row 0.
+  abbrev pub open_plan_by : (Plan → ℕ → Bool) → Plan → Slopes
+  open_plan_by sets p = record {
+    rows =
+        record { has_box = false; box_area = zero64; sets = sets p; area = λ S. open_area (members_by r p S) };
+    width = 3 * p.n;
+    box_row = open_gradients_by r sets p 0;
+    row = open_gradients_by r sets p;
+  }
+
+abbrev pub clipped_plan : (Plan → ℕ → Bool) → Plan → Slopes
+clipped_plan = clipped_plan_by rule
+
 abbrev pub open_plan : (Plan → ℕ → Bool) → Plan → Slopes
-open_plan sets p = record {
-  rows =
-      record { has_box = false; box_area = zero64; sets = sets p; area = λ S. open_area (plan_members p S) };
-  width = 3 * p.n;
-  box_row = open_gradients sets p 0;
-  row = open_gradients sets p;
-}
+open_plan = open_plan_by rule
 
 -- ---- the call
 

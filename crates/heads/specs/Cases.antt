@@ -1,232 +1,196 @@
--- The six cases of the relation as facts on numbers: exactly one of them holds, and it is the one that `relation`
--- gives. From them: which cases meet, meet in one point, contain; and that the relation is symmetric in the radii.
-use Rattle.std.specs.Prelude.{ℕ, zero, suc, ◌+◌, ◌-◌, ◌*◌, ◌≤◌, ◌<◌, ◌≡◌, refl, Bool}
-use Rattle.std.specs.Prelude.{true, false, not, cond, ◌&&◌, ◌⊎◌, ◌↔◌, T, ltb, leb, eqb}
-use Rattle.std.proofs.Common.{mul-le-mul, le_antisymm, arith, sym, ap, ◌∙◌, subst, inl, inr}
-use Rattle.std.proofs.Common.{leb→le, ltb-true, ltb-false, leb-true, eqb-true, lt-ltb, le-ltb, le-leb, eq-eqb, ne_eqb}
-use Rattle.std.proofs.Math.Bool.{and-false, or-true}
-use Rattle.std.proofs.Math.Facts.{and_yes}
-use Rattle.std.proofs.lemmas.Bool.{lt-leb}
+-- The six cases of the relation of two heads as facts on numbers: exactly one of them holds, and it is the one that
+-- `relation` gives. In each but the first neither head is closed. From them: which cases meet, meet in one point,
+-- contain; and that the relation is symmetric in the radii.
+use Rattle.std.specs.Prelude.{ℕ, ◌+◌, ◌-◌, ◌*◌, ◌≤◌, ◌≡◌, refl, Bool}
+use Rattle.std.specs.Prelude.{true, false, cond, ◌&&◌, ◌||◌, ◌⊎◌, ◌↔◌, leb}
+use Rattle.std.proofs.Common.{arith, sym, ap, ◌∙◌, inl, inr, leb-true, true≢false}
+use Rattle.std.proofs.lemmas.Bool.Decides.{nat_tests}
+use Rattle.std.proofs.Math.Bool.{and-false, or_comm}
 use Rattle.heads.specs.declared.Relation.{Relation}
 use Rattle.heads.specs.declared.Relation.TheVariants.{Apart, TouchingOutside, Crossing}
 use Rattle.heads.specs.declared.Relation.TheVariants.{TouchingInside, Holding, Identical}
-use Rattle.heads.specs.Relation.{gap, identical, meets, meets_once, contains}
-use Rattle.heads.specs.Relation.{relation, points, meeting, touching, covering}
+use Rattle.heads.specs.Relation.{closed, either_closed, gap, outlines_meet, outlines_meet_once, covers}
+use Rattle.heads.specs.Relation.{outline_relation}
+use Rattle.heads.specs.Relation.{meets, meets_once, contains, relation, points, meeting, touching, covering}
+use Rattle.heads.specs.Outlines.{OutlineCase, outline_relation_is, outline_case_of, outline_relation_comm}
+use Rattle.heads.specs.Outlines.{gap_of, reaches, outlines_meet_relation, outlines_meet_once_relation}
+use Rattle.heads.specs.Outlines.{outlines_meet_facts}
 
 -- what each case says of D and the radii
 abbrev pub Case : Relation → ℕ → ℕ → ℕ → Type 0
-Case Apart D a b = (a + b) * (a + b) < D
-Case TouchingOutside D a b = (gap a b * gap a b < D) × (D ≡ (a + b) * (a + b))
-Case Crossing D a b = (gap a b * gap a b < D) × (D < (a + b) * (a + b))
-Case TouchingInside D a b = (0 < gap a b) × (D ≡ gap a b * gap a b)
-Case Holding D a b = D < gap a b * gap a b
-Case Identical D a b = (D ≡ 0) × (a ≡ b)
+Case Apart D a b = (either_closed a b ≡ true) ⊎ OutlineCase Apart D a b
+Case TouchingOutside D a b = (either_closed a b ≡ false) × OutlineCase TouchingOutside D a b
+Case Crossing D a b = (either_closed a b ≡ false) × OutlineCase Crossing D a b
+Case TouchingInside D a b = (either_closed a b ≡ false) × OutlineCase TouchingInside D a b
+Case Holding D a b = (either_closed a b ≡ false) × OutlineCase Holding D a b
+Case Identical D a b = (either_closed a b ≡ false) × OutlineCase Identical D a b
 
--- ---- the difference of the radii
+-- ---- closed or not
 
--- symmetric; at most the sum; zero exactly for equal radii
-pub gap_comm : (a b : ℕ) → gap a b ≡ gap b a
-unfolding gap
-gap_comm a b = omega arith
+-- a radius that is not closed is at least 1
+pub at_least_one : (r : ℕ) → closed r ≡ false → 1 ≤ r
+at_least_one r e = grind (arith, nat_tests, e)
 
-pub gap_le : (a b : ℕ) → gap a b ≤ a + b
-unfolding gap
-gap_le a b = omega arith
-
-pub gap_zero : (a b : ℕ) → gap a b ≡ 0 → a ≡ b
-unfolding gap
-gap_zero a b e = omega arith
-
--- of the larger and the smaller
-pub gap_of : {a b : ℕ} → b ≤ a → gap a b ≡ a - b
-unfolding gap
-gap_of h = omega arith
-
-pub gap_same : {a b : ℕ} → a ≡ b → gap a b ≡ 0
-unfolding gap
-gap_same e = omega arith
-
--- t² ≤ s²
-pub gap_square_le : (a b : ℕ) → gap a b * gap a b ≤ (a + b) * (a + b)
-gap_square_le a b = mul-le-mul (gap_le a b) (gap_le a b)
-
--- ---- tests and numbers
-
-order : (a b : ℕ) → (a < b) ⊎ ((a ≡ b) ⊎ (b < a))
-order a b = go (ltb a b) (ltb b a) refl refl
+-- and neither of two
+pub neither_closed : (a b : ℕ) → either_closed a b ≡ false → (closed a ≡ false) × (closed b ≡ false)
+neither_closed a b e = both (closed a) (closed b) e
   where
-    go : (p q : Bool) → ltb a b ≡ p → ltb b a ≡ q → (a < b) ⊎ ((a ≡ b) ⊎ (b < a))
-    go true q e f = inl (ltb-true a b e)
-    go false true e f = inr (inr (ltb-true b a f))
-    go false false e f = inr (inl (le_antisymm (ltb-false b a f) (ltb-false a b e)))
+    both : (p q : Bool) → (p || q) ≡ false → (p ≡ false) × (q ≡ false)
+    both false false e = (refl, refl)
+    both false true e = absurd (true≢false e)
+    both true q e = absurd (true≢false e)
 
-pos_root : {D : ℕ} (n : ℕ) → D < n * n → 0 < n
-pos_root zero h = omega arith
-pos_root (suc n) h = omega arith
+either_comm : (a b : ℕ) → either_closed a b ≡ either_closed b a
+either_comm a b = or_comm (closed a) (closed b)
 
-identical_no : (D a b : ℕ) → (D ≡ 0 → a ≡ b → ⊥) → identical D a b ≡ false
-identical_no D a b h = go (eqb D 0) (eqb a b) refl refl
+-- where one is, t is s
+pub gap_closed : (a b : ℕ) → either_closed a b ≡ true → gap a b ≡ a + b
+unfolding gap
+gap_closed a b e = by (closed a) (closed b) refl refl e
   where
-    go : (p q : Bool) → eqb D 0 ≡ p → eqb a b ≡ q → (p && q) ≡ false
-    go true true e f = absurd (h (eqb-true D 0 e) (eqb-true a b f))
-    go true false e f = refl
-    go false q e f = refl
+    by : (p q : Bool) → closed a ≡ p → closed b ≡ q → (p || q) ≡ true → (a - b) + (b - a) ≡ a + b
+    by true q f g h = grind (arith, nat_tests, f)
+    by false true f g h = grind (arith, nat_tests, g)
+    by false false f g h = absurd (true≢false (sym h))
 
-identical_yes : (D a b : ℕ) → D ≡ 0 → a ≡ b → identical D a b ≡ true
-identical_yes D a b e f = simp (eq-eqb D 0 e, eq-eqb a b f)
+-- where neither is, the heads lie as their outlines do
+module _ (D a b : ℕ) (e : either_closed a b ≡ false) where
+  pub relation_of_outlines : relation D a b ≡ outline_relation D a b
+  unfolding relation
+  relation_of_outlines = rw e refl
 
--- no two heads are identical at a distance, or with radii that differ
-apart_no : (D a b : ℕ) → 0 < D → identical D a b ≡ false
-apart_no D a b h = identical_no D a b (λ e f. omega arith)
+  pub meets_of_outlines : meets D a b ≡ outlines_meet D a b
+  unfolding meets
+  meets_of_outlines = rw e refl
 
-gap_no : (D a b : ℕ) → 0 < gap a b → identical D a b ≡ false
-gap_no D a b h = identical_no D a b (λ e f. omega (arith, gap_same f))
+  pub meets_once_of_outlines : meets_once D a b ≡ outlines_meet_once D a b
+  unfolding meets_once
+  meets_once_of_outlines = rw e refl
+
+  pub contains_of_outlines : contains D a b ≡ covers D a b
+  unfolding contains
+  contains_of_outlines = rw e refl
+
+-- where one is, they are apart, do not meet, and neither contains the other
+module _ (D a b : ℕ) (e : either_closed a b ≡ true) where
+  pub closed_apart : relation D a b ≡ Apart
+  unfolding relation
+  closed_apart = rw e refl
+
+  pub closed_meets_none : meets D a b ≡ false
+  unfolding meets
+  closed_meets_none = rw e refl
+
+  pub closed_meets_none_once : meets_once D a b ≡ false
+  unfolding meets_once
+  closed_meets_none_once = rw e refl
+
+  pub closed_contains_none : contains D a b ≡ false
+  unfolding contains
+  closed_contains_none = rw e refl
 
 -- ---- exactly one case
 
--- where a case's fact holds, the relation is that case
-pub relation_is : (r : Relation) (D a b : ℕ) → Case r D a b → relation D a b ≡ r
-unfolding relation
-relation_is Apart D a b h =
-    let l = gap_square_le a b in
-    simp (
-      apart_no D a b (omega arith),
-      le-ltb D (gap a b * gap a b) (omega arith),
-      ne_eqb D (gap a b * gap a b)
-          (λ e. omega arith),
-      le-ltb D ((a + b) * (a + b)) (omega arith),
-      ne_eqb D ((a + b) * (a + b)) (λ e. omega arith),
-    )
-relation_is TouchingOutside D a b h =
-    simp (
-      apart_no D a b (omega arith),
-      le-ltb D (gap a b * gap a b) (omega arith),
-      ne_eqb D (gap a b * gap a b)
-          (λ e. omega arith),
-      le-ltb D ((a + b) * (a + b)) (omega arith),
-      eq-eqb D ((a + b) * (a + b)) h.1,
-    )
-relation_is Crossing D a b h =
-    simp (
-      apart_no D a b (omega arith),
-      le-ltb D (gap a b * gap a b) (omega arith),
-      ne_eqb D (gap a b * gap a b)
-          (λ e. omega arith),
-      lt-ltb D ((a + b) * (a + b)) h.1,
-    )
-relation_is TouchingInside D a b h =
-    simp (gap_no D a b h.0, le-ltb D (gap a b * gap a b) (omega arith), eq-eqb D (gap a b * gap a b) h.1)
-relation_is Holding D a b h = simp (gap_no D a b (pos_root (gap a b) h), lt-ltb D (gap a b * gap a b) h)
-relation_is Identical D a b h = simp (identical_yes D a b h.0 h.1)
+module _ (D a b : ℕ) where
+  stands : (r : Relation) → either_closed a b ≡ false → OutlineCase r D a b → Case r D a b
+  stands Apart e h = inr h
+  stands TouchingOutside e h = (e, h)
+  stands Crossing e h = (e, h)
+  stands TouchingInside e h = (e, h)
+  stands Holding e h = (e, h)
+  stands Identical e h = (e, h)
 
-some_case : (D a b : ℕ) → (r : Relation) × Case r D a b
-some_case D a b = inside (order D (gap a b * gap a b)) (order 0 (gap a b)) (order D ((a + b) * (a + b)))
-  where
-    outside : gap a b * gap a b < D → (D < (a + b) * (a + b)) ⊎ ((D ≡ (a + b) * (a + b)) ⊎ ((a + b) * (a + b) < D))
-        → (r : Relation) × Case r D a b
-    outside h (inl k) = (Crossing, (h, k))
-    outside h (inr (inl k)) = (TouchingOutside, (h, k))
-    outside h (inr (inr k)) = (Apart, k)
+  as_before : (r : Relation) → either_closed a b ≡ false → OutlineCase r D a b → relation D a b ≡ r
+  as_before r e h = relation_of_outlines D a b e ∙ outline_relation_is r D a b h
 
-    inside : (D < gap a b * gap a b) ⊎ ((D ≡ gap a b * gap a b) ⊎ (gap a b * gap a b < D))
-        → (0 < gap a b) ⊎ ((0 ≡ gap a b) ⊎ (gap a b < 0))
-        → (D < (a + b) * (a + b)) ⊎ ((D ≡ (a + b) * (a + b)) ⊎ ((a + b) * (a + b) < D)) → (r : Relation) × Case r D a b
-    inside (inl h) z k = (Holding, h)
-    inside (inr (inl e)) (inl z) k = (TouchingInside, (z, e))
-    inside (inr (inl e)) (inr (inl z)) k = (Identical, (e ∙ ap (λ (n : ℕ). n * n) (sym z), gap_zero a b (sym z)))
-    inside (inr (inl e)) (inr (inr z)) k = absurd (omega arith)
-    inside (inr (inr h)) z k = outside h k
+  -- the fact of the case that `relation` gives holds
+  pub case_of : Case (relation D a b) D a b
+  case_of = go (either_closed a b) refl
+    where
+      go : (p : Bool) → either_closed a b ≡ p → Case (relation D a b) D a b
+      go true e = rw (closed_apart D a b e) (inl e)
+      go false e = rw (relation_of_outlines D a b e) (stands (outline_relation D a b) e (outline_case_of D a b))
 
--- the fact of the case that `relation` gives holds
-pub case_of : (D a b : ℕ) → Case (relation D a b) D a b
-case_of D a b =
-    let found = some_case D a b in
-    subst (λ (r : Relation). Case r D a b) (sym (relation_is found.0 D a b found.1)) found.1
+  -- where a case's fact holds, the relation is that case
+  pub relation_is : (r : Relation) → Case r D a b → relation D a b ≡ r
+  relation_is Apart (inl e) = closed_apart D a b e
+  relation_is Apart (inr h) = go (either_closed a b) refl
+    where
+      go : (p : Bool) → either_closed a b ≡ p → relation D a b ≡ Apart
+      go true e = closed_apart D a b e
+      go false e = as_before Apart e h
+  relation_is TouchingOutside h = as_before TouchingOutside h.0 h.1
+  relation_is Crossing h = as_before Crossing h.0 h.1
+  relation_is TouchingInside h = as_before TouchingInside h.0 h.1
+  relation_is Holding h = as_before Holding h.0 h.1
+  relation_is Identical h = as_before Identical h.0 h.1
 
--- exactly one case holds
-pub exactly_one : (D a b : ℕ) → (r : Relation) × Case r D a b × ((q : Relation) → Case q D a b → q ≡ r)
-exactly_one D a b = (relation D a b, case_of D a b, λ q h. sym (relation_is q D a b h))
+  -- exactly one case holds
+  pub exactly_one : (r : Relation) × Case r D a b × ((q : Relation) → Case q D a b → q ≡ r)
+  exactly_one = (relation D a b, case_of, λ q h. sym (relation_is q h))
+
+  -- ---- meets, meets in one point, contains
+
+  -- two heads meet exactly if the relation is touching outside, crossing or touching inside
+  pub meets_relation : meets D a b ≡ meeting (relation D a b)
+  meets_relation = go (either_closed a b) refl
+    where
+      go : (p : Bool) → either_closed a b ≡ p → meets D a b ≡ meeting (relation D a b)
+      go true e = closed_meets_none D a b e ∙ ap meeting (sym (closed_apart D a b e))
+      go false e =
+          meets_of_outlines D a b e ∙ outlines_meet_relation D a b ∙ ap meeting (sym (relation_of_outlines D a b e))
+
+  -- they meet in one point exactly if the relation is one of the two touches
+  pub meets_once_relation : meets_once D a b ≡ touching (relation D a b)
+  meets_once_relation = go (either_closed a b) refl
+    where
+      go : (p : Bool) → either_closed a b ≡ p → meets_once D a b ≡ touching (relation D a b)
+      go true e = closed_meets_none_once D a b e ∙ ap touching (sym (closed_apart D a b e))
+      go false e =
+          meets_once_of_outlines D a b e ∙ outlines_meet_once_relation D a b
+          ∙ ap touching (sym (relation_of_outlines D a b e))
+
+  -- a contains b exactly if its radius is not the smaller and the relation is touching inside, holding or identical
+  pub contains_relation : contains D a b ≡ (leb b a && covering (relation D a b))
+  unfolding covers
+  contains_relation = go (either_closed a b) refl
+    where
+      larger : (q : Bool) → leb b a ≡ q
+          → (q && leb D ((a - b) * (a - b))) ≡ (q && covering (outline_relation D a b))
+      larger true e = ap (λ (n : ℕ). leb D (n * n)) (sym (gap_of (leb-true b a e))) ∙ reaches D a b
+      larger false e = refl
+
+      go : (p : Bool) → either_closed a b ≡ p → contains D a b ≡ (leb b a && covering (relation D a b))
+      go true e =
+          closed_contains_none D a b e ∙ sym (and-false (leb b a))
+          ∙ ap (λ (r : Relation). leb b a && covering r) (sym (closed_apart D a b e))
+      go false e =
+          contains_of_outlines D a b e ∙ larger (leb b a) refl
+          ∙ ap (λ (r : Relation). leb b a && covering r) (sym (relation_of_outlines D a b e))
+
+  -- the number of meeting points: none where two heads do not meet, one where they touch, otherwise two
+  pub points_relation : points (relation D a b) ≡ cond (meets D a b) (cond (meets_once D a b) 1 2) 0
+  points_relation = rw (meets_relation, meets_once_relation) (by_case (relation D a b))
+    where
+      by_case : (r : Relation) → points r ≡ cond (meeting r) (cond (touching r) 1 2) 0
+      by_case Apart = refl
+      by_case TouchingOutside = refl
+      by_case Crossing = refl
+      by_case TouchingInside = refl
+      by_case Holding = refl
+      by_case Identical = refl
 
 -- ---- symmetric in the radii
 
-case_comm : (r : Relation) (D a b : ℕ) → Case r D a b → Case r D b a
-case_comm Apart D a b h = omega arith
-case_comm TouchingOutside D a b h = rw (← gap_comm a b) (omega arith)
-case_comm Crossing D a b h = rw (← gap_comm a b) (omega arith)
-case_comm TouchingInside D a b h = rw (← gap_comm a b) h
-case_comm Holding D a b h = rw (← gap_comm a b) h
-case_comm Identical D a b h = (h.0, sym h.1)
-
 -- the relation does not depend on which radius comes first
 pub relation_comm : (D a b : ℕ) → relation D a b ≡ relation D b a
-relation_comm D a b = sym (relation_is (relation D a b) D b a (case_comm (relation D a b) D a b (case_of D a b)))
-
--- ---- meets, meets in one point, contains
-
-meets_in : (r : Relation) (D a b : ℕ) → Case r D a b → meets D a b ≡ meeting r
-unfolding meets
-meets_in Apart D a b h = simp (lt-leb D ((a + b) * (a + b)) h, and-false)
-meets_in TouchingOutside D a b h =
-    simp (
-      le-leb (gap a b * gap a b) D (omega arith),
-      le-leb D ((a + b) * (a + b)) (omega arith),
-      apart_no D a b
-          (omega arith),
-    )
-meets_in Crossing D a b h =
-    simp (
-      le-leb (gap a b * gap a b) D (omega arith),
-      le-leb D ((a + b) * (a + b)) (omega arith),
-      apart_no D a b
-          (omega arith),
-    )
-meets_in TouchingInside D a b h =
-    let l = gap_square_le a b in
-    simp (le-leb (gap a b * gap a b) D (omega arith), le-leb D ((a + b) * (a + b)) (omega arith), gap_no D a b h.0)
-meets_in Holding D a b h = simp (lt-leb (gap a b * gap a b) D h)
-meets_in Identical D a b h = simp (identical_yes D a b h.0 h.1, and-false)
-
--- two heads meet exactly if the relation is touching outside, crossing or touching inside
-pub meets_relation : (D a b : ℕ) → meets D a b ≡ meeting (relation D a b)
-meets_relation D a b = meets_in (relation D a b) D a b (case_of D a b)
-
-once_in : (r : Relation) (D a b : ℕ) → Case r D a b → meets_once D a b ≡ touching r
-unfolding meets_once
-once_in Apart D a b h = simp (meets_in Apart D a b h)
-once_in TouchingOutside D a b h = simp (meets_in TouchingOutside D a b h, eq-eqb D ((a + b) * (a + b)) h.1, or-true)
-once_in Crossing D a b h =
-    simp (
-      meets_in Crossing D a b h,
-      ne_eqb D (gap a b * gap a b) (λ e. omega arith),
-      ne_eqb D ((a + b) * (a + b))
-          (λ e. omega arith),
-    )
-once_in TouchingInside D a b h = simp (meets_in TouchingInside D a b h, eq-eqb D (gap a b * gap a b) h.1)
-once_in Holding D a b h = simp (meets_in Holding D a b h)
-once_in Identical D a b h = simp (meets_in Identical D a b h)
-
--- they meet in one point exactly if the relation is one of the two touches
-pub meets_once_relation : (D a b : ℕ) → meets_once D a b ≡ touching (relation D a b)
-meets_once_relation D a b = once_in (relation D a b) D a b (case_of D a b)
-
-reaches_in : (r : Relation) (D a b : ℕ) → Case r D a b → leb D (gap a b * gap a b) ≡ covering r
-reaches_in Apart D a b h = lt-leb D (gap a b * gap a b) (omega (arith, gap_square_le a b))
-reaches_in TouchingOutside D a b h = lt-leb D (gap a b * gap a b) h.0
-reaches_in Crossing D a b h = lt-leb D (gap a b * gap a b) h.0
-reaches_in TouchingInside D a b h = le-leb D (gap a b * gap a b) (omega arith)
-reaches_in Holding D a b h = le-leb D (gap a b * gap a b) (omega arith)
-reaches_in Identical D a b h = le-leb D (gap a b * gap a b) (omega arith)
-
--- a contains b exactly if its radius is not the smaller and the relation is touching inside, holding or identical
-pub contains_relation : (D a b : ℕ) → contains D a b ≡ (leb b a && covering (relation D a b))
-unfolding contains
-contains_relation D a b = go (leb b a) refl
+relation_comm D a b = go (either_closed a b) refl
   where
-    go : (p : Bool) → leb b a ≡ p → (p && leb D ((a - b) * (a - b))) ≡ (p && covering (relation D a b))
-    go true e =
-        ap (λ (n : ℕ). leb D (n * n)) (sym (gap_of (leb-true b a e)))
-        ∙ reaches_in (relation D a b) D a b (case_of D a b)
-    go false e = refl
+    go : (p : Bool) → either_closed a b ≡ p → relation D a b ≡ relation D b a
+    go true e = closed_apart D a b e ∙ sym (closed_apart D b a (either_comm b a ∙ e))
+    go false e =
+        relation_of_outlines D a b e ∙ outline_relation_comm D a b
+        ∙ sym (relation_of_outlines D b a (either_comm b a ∙ e))
 
 -- nor does it matter to meeting
 pub meets_comm : (D a b : ℕ) → meets D a b ≡ meets D b a
@@ -235,43 +199,19 @@ meets_comm D a b = meets_relation D a b ∙ ap meeting (relation_comm D a b) ∙
 pub meets_once_comm : (D a b : ℕ) → meets_once D a b ≡ meets_once D b a
 meets_once_comm D a b = meets_once_relation D a b ∙ ap touching (relation_comm D a b) ∙ sym (meets_once_relation D b a)
 
--- the number of meeting points: none where two heads do not meet, one where they touch, otherwise two
-pub points_relation : (D a b : ℕ) → points (relation D a b) ≡ cond (meets D a b) (cond (meets_once D a b) 1 2) 0
-points_relation D a b = rw (meets_relation D a b, meets_once_relation D a b) (by_case (relation D a b))
-  where
-    by_case : (r : Relation) → points r ≡ cond (meeting r) (cond (touching r) 1 2) 0
-    by_case Apart = refl
-    by_case TouchingOutside = refl
-    by_case Crossing = refl
-    by_case TouchingInside = refl
-    by_case Holding = refl
-    by_case Identical = refl
-
 -- ---- the same as facts on numbers
 
--- two heads meet exactly if t² ≤ D ≤ s² and they are not identical
-pub meets_facts : (D a b : ℕ)
-    → (meets D a b ≡ true) ↔ ((gap a b * gap a b ≤ D) × (D ≤ (a + b) * (a + b)) × (D ≡ 0 → a ≡ b → ⊥))
-unfolding meets
-meets_facts D a b =
-    (there, λ h. simp (le-leb (gap a b * gap a b) D h.0, le-leb D ((a + b) * (a + b)) h.1, identical_no D a b h.2))
-  where
-    there : meets D a b ≡ true → (gap a b * gap a b ≤ D) × (D ≤ (a + b) * (a + b)) × (D ≡ 0 → a ≡ b → ⊥)
-    there e =
-        let one = and_yes (leb (gap a b * gap a b) D) (leb D ((a + b) * (a + b)) && not (identical D a b))
-        (subst T (sym e) tt) in
-        let two = and_yes (leb D ((a + b) * (a + b))) (not (identical D a b)) one.1 in (
-          leb→le (gap a b * gap a b) D one.0,
-          leb→le D ((a + b) * (a + b)) two.0,
-          λ z same. subst T (ap not (identical_yes D a b z same)) two.1,
-        )
+-- t² ≤ D ≤ s², and not identical
+abbrev pub MeetFacts : ℕ → ℕ → ℕ → Type 0
+MeetFacts D a b = (gap a b * gap a b ≤ D) × (D ≤ (a + b) * (a + b)) × (D ≡ 0 → a ≡ b → ⊥)
 
--- a contains b exactly if its radius is not the smaller and D ≤ (a - b)²
-pub contains_facts : (D a b : ℕ) → (contains D a b ≡ true) ↔ ((b ≤ a) × (D ≤ (a - b) * (a - b)))
-unfolding contains
-contains_facts D a b = (there, λ h. simp (le-leb b a h.0, le-leb D ((a - b) * (a - b)) h.1))
+-- two heads meet exactly if neither is closed and their outlines do
+pub meets_facts : (D a b : ℕ) → (meets D a b ≡ true) ↔ ((either_closed a b ≡ false) × MeetFacts D a b)
+meets_facts D a b = (
+  there (either_closed a b) refl,
+  λ h. meets_of_outlines D a b h.0 ∙ (outlines_meet_facts D a b).1 h.1,
+)
   where
-    there : contains D a b ≡ true → (b ≤ a) × (D ≤ (a - b) * (a - b))
-    there e =
-        let both = and_yes (leb b a) (leb D ((a - b) * (a - b))) (subst T (sym e) tt) in
-        (leb→le b a both.0, leb→le D ((a - b) * (a - b)) both.1)
+    there : (p : Bool) → either_closed a b ≡ p → meets D a b ≡ true → (either_closed a b ≡ false) × MeetFacts D a b
+    there true e m = absurd (true≢false (sym m ∙ closed_meets_none D a b e))
+    there false e m = (e, (outlines_meet_facts D a b).0 (sym (meets_of_outlines D a b e) ∙ m))

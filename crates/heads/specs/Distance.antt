@@ -2,13 +2,13 @@
 -- symmetric, two heads of the domain have one below 2^32, and one cut at the greatest u64 gives the same relation.
 use Rattle.std.specs.Prelude.{ℕ, zero, suc, ◌+◌, ◌-◌, ◌*◌, ◌^◌, ◌≤◌, ◌<◌, min, ◌≡◌, refl}
 use Rattle.std.specs.Prelude.{Bool, true, false, ◌&&◌, T, ltb, leb, ℤ, pos, negsuc, nat_abs, ◌-ℤ◌}
-use Rattle.std.proofs.Common.{mul-le-mul, arith, sym, ap, ◌∙◌, leb→le, ltb-true, ltb-false}
+use Rattle.std.proofs.Common.{mul-le-mul, arith, sym, ap, ◌∙◌, inr, leb→le, ltb-true, ltb-false}
 use Rattle.std.proofs.Math.IntN.{sub_ℕ}
 use Rattle.std.specs.Int.Signed.{mag}
 use Rattle.std.proofs.Math.Facts.{and_yes}
 use Rattle.heads.specs.declared.Head.{Head}
 use Rattle.heads.specs.declared.Relation.TheVariants.{Apart}
-use Rattle.heads.specs.Limits.{position_limit, radius_limit, position_in_limits, radius_in_limits, in_limits, is_drawn}
+use Rattle.heads.specs.Limits.{position_limit, radius_limit, position_in_limits, radius_in_limits, in_limits}
 use Rattle.heads.specs.Relation.{relation, meets, meets_once}
 use Rattle.heads.specs.Pair.{squared_distance, above_zero, radius_of, relation_of, meets_of, meets_once_of, greatest}
 use Rattle.heads.specs.Cases.{relation_is, relation_comm, meets_comm, meets_once_comm}
@@ -84,11 +84,10 @@ meets_once_of_comm a b =
     meets_once_comm (squared_distance a b) (radius_of a) (radius_of b)
     ∙ ap (λ (D : ℕ). meets_once D (radius_of b) (radius_of a)) (squared_distance_comm a b)
 
--- what the limits say of a drawn head's numbers
+-- what the limits say of an accepted head's numbers
 pub record InLimits (h : Head) : Type 0 where
   pub x : nat_abs h.x ≤ position_limit
   pub y : nat_abs h.y ≤ position_limit
-  pub least : 1 ≤ radius_of h
   pub most : radius_of h ≤ radius_limit
   pub whole : h.radius ≡ pos (radius_of h)
 
@@ -97,13 +96,12 @@ position_bound (pos n) h = leb→le n 20000 h
 position_bound (negsuc n) h = omega (arith, leb→le n 19999 (and_yes (leb n 19999) true h).0)
 
 radius_bounds : (v : ℤ) → T (radius_in_limits v)
-    → (1 ≤ above_zero v) × (above_zero v ≤ radius_limit) × (v ≡ pos (above_zero v))
-radius_bounds (pos n) h =
-    let both = and_yes (leb 1 n) (leb n 20000) h in (leb→le 1 n both.0, leb→le n 20000 both.1, refl)
+    → (above_zero v ≤ radius_limit) × (v ≡ pos (above_zero v))
+radius_bounds (pos n) h = (leb→le n 20000 (and_yes (leb 0 n) (leb n 20000) h).1, refl)
 radius_bounds (negsuc n) h = absurd h
 
--- a drawn head has these bounds
-pub limits_of : (h : Head) → T (is_drawn h) → InLimits h
+-- an accepted head has these bounds
+pub limits_of : (h : Head) → T (in_limits h) → InLimits h
 limits_of h t =
     let xs = and_yes (position_in_limits h.x) (position_in_limits h.y && radius_in_limits h.radius) t in
     let ys = and_yes (position_in_limits h.y) (radius_in_limits h.radius) xs.1 in
@@ -111,17 +109,9 @@ limits_of h t =
     record {
       x = position_bound h.x xs.0;
       y = position_bound h.y ys.0;
-      least = r.0;
-      most = r.1;
-      whole = r.2;
+      most = r.0;
+      whole = r.1;
     }
-
--- an accepted head lies within the limits, whatever its radius
-position_of : (h : Head) → T (in_limits h) → (nat_abs h.x ≤ position_limit) × (nat_abs h.y ≤ position_limit)
-position_of h t =
-    let xs = and_yes (position_in_limits h.x) (position_in_limits h.y && radius_in_limits h.radius) t in
-    let ys = and_yes (position_in_limits h.y) (radius_in_limits h.radius) xs.1 in
-    (position_bound h.x xs.0, position_bound h.y ys.0)
 
 -- two positions within the limits lie at most 40000 apart
 position_diff : (v w : ℤ) → nat_abs v ≤ position_limit → nat_abs w ≤ position_limit → nat_abs (v -ℤ w) ≤ 40000
@@ -130,10 +120,10 @@ position_diff v w hv hw = omega (arith, nat_abs_diff v w, far_nat_abs v w)
 -- two accepted heads: D is at most 2 × 40000², which is below 2^32
 pub distance_in_limits : (a b : Head) → T (in_limits a) → T (in_limits b) → squared_distance a b ≤ 2 * (40000 * 40000)
 distance_in_limits a b ha hb =
-    let la = position_of a ha in
-    let lb = position_of b hb in
-    let dx = position_diff a.x b.x la.0 lb.0 in
-    let dy = position_diff a.y b.y la.1 lb.1 in
+    let la = limits_of a ha in
+    let lb = limits_of b hb in
+    let dx = position_diff a.x b.x la.x lb.x in
+    let dy = position_diff a.y b.y la.y lb.y in
     omega (arith, mul-le-mul dx dx, mul-le-mul dy dy)
 
 pub distance_fits : (a b : Head) → T (in_limits a) → T (in_limits b) → squared_distance a b < 2 ^ 32
@@ -159,8 +149,8 @@ relation_capped D a b ha hb = go (ltb greatest D) refl
     go : (p : Bool) → ltb greatest D ≡ p → relation (min D greatest) a b ≡ relation D a b
     go true e =
         let h = ltb-true greatest D e in
-        relation_is Apart (min D greatest) a b (omega (arith, square))
-        ∙ sym (relation_is Apart D a b (omega (arith, square)))
+        relation_is (min D greatest) a b Apart (inr (omega (arith, square)))
+        ∙ sym (relation_is D a b Apart (inr (omega (arith, square))))
     go false e =
         let h = ltb-false greatest D e in
         let same : min D greatest ≡ D = omega arith in

@@ -1,5 +1,5 @@
 -- Document 01's limits of a plan: an x or y of a head or of the box, a radius, a side of the box.
-use Rattle.std.specs.Prelude.{ℕ, Bool, ◌&&◌, T, ℤ, pos, neg_ℤ}
+use Rattle.std.specs.Prelude.{ℕ, Bool, ◌&&◌, ℤ, pos, neg_ℤ}
 use Rattle.std.specs.Int.Signed.{le_z}
 use Rattle.heads.specs.declared.Head.{Head}
 
@@ -21,9 +21,9 @@ within low high v = le_z low v && le_z v high
 abbrev pub position_in_limits : ℤ → Bool
 position_in_limits v = within (neg_ℤ (pos position_limit)) (pos position_limit) v
 
--- "radius: outside 1 to 20000" is refused
+-- "radius: outside 0 to 20000" is refused: document 01's 1 became 0 with document 02's slip 3
 abbrev pub radius_in_limits : ℤ → Bool
-radius_in_limits v = within (pos 1) (pos radius_limit) v
+radius_in_limits v = within (pos 0) (pos radius_limit) v
 
 -- "side: outside 1 to 40000" is refused
 abbrev pub side_in_limits : ℤ → Bool
@@ -32,12 +32,3 @@ side_in_limits v = within (pos 1) (pos side_limit) v
 -- A head that the checks accept: x, y and radius are within the limits.
 abbrev pub in_limits : Head → Bool
 in_limits h = position_in_limits h.x && (position_in_limits h.y && radius_in_limits h.radius)
-
--- A head that is drawn: a circle of whole centimetres, its radius at least 1, and so of the domain on which the f64
--- work is exact or bounded. What asks for such a radius asks for this. Today every accepted head is drawn.
-abbrev pub is_drawn : Head → Bool
-is_drawn h = position_in_limits h.x && (position_in_limits h.y && radius_in_limits h.radius)
-
--- "accepted" and "drawn" are two names, equal today: this is the one place where the one leads to the other
-pub accepted_drawn : (h : Head) → T (in_limits h) → T (is_drawn h)
-accepted_drawn h accepted = accepted

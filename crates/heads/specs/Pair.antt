@@ -2,7 +2,7 @@
 use Rattle.std.specs.Prelude.{ℕ, ◌+◌, ◌-◌, ◌*◌, ◌^◌, ◌≡◌, refl, Bool, ℤ, pos, negsuc, nat_abs, ◌-ℤ◌}
 use Rattle.heads.specs.declared.Head.{Head}
 use Rattle.heads.specs.declared.Relation.{Relation}
-use Rattle.heads.specs.Relation.{relation, meets, meets_once, contains}
+use Rattle.heads.specs.Relation.{closed, relation, meets, meets_once, contains}
 
 -- a number below zero counts as zero
 abbrev pub above_zero : ℤ → ℕ
@@ -12,6 +12,10 @@ above_zero (negsuc n) = 0
 -- the radius as a whole number; one below zero, which no plan has, counts as zero
 abbrev pub radius_of : Head → ℕ
 radius_of h = above_zero h.radius
+
+-- a head that is switched off
+abbrev pub is_closed : Head → Bool
+is_closed h = closed (radius_of h)
 
 -- D, the squared centre distance
 abbrev pub squared_distance : Head → Head → ℕ

@@ -1,5 +1,6 @@
 -- How two heads lie to each other, over whole numbers: D is the squared centre distance, a and b are the radii.
--- Document 01, "Facts to hold", with s the sum and t the difference of the radii.
+-- Document 01, "Facts to hold", with s the sum and t the difference of the radii, and document 02's slip 3: a closed
+-- head meets nothing, contains nothing and is contained in nothing.
 use Rattle.std.specs.Prelude.{ℕ, ◌+◌, ◌-◌, ◌*◌, Bool, true, false, not, cond, ◌&&◌, ◌||◌, ltb, leb, eqb}
 use Rattle.heads.specs.declared.Relation.{Relation}
 use Rattle.heads.specs.declared.Relation.TheVariants.{Apart, TouchingOutside, Crossing}
@@ -9,30 +10,56 @@ use Rattle.heads.specs.declared.Relation.TheVariants.{TouchingInside, Holding, I
 unfoldable pub gap : ℕ → ℕ → ℕ
 gap a b = (a - b) + (b - a)
 
+-- a head of radius 0 is closed
+abbrev pub closed : ℕ → Bool
+closed r = eqb r 0
+
+abbrev pub either_closed : ℕ → ℕ → Bool
+either_closed a b = closed a || closed b
+
+-- ---- the outlines of two circles, whatever their radii: document 01's words, which slip 3 leaves as they are for open
+-- heads
+
 -- the same circle: equal radii at distance zero
 abbrev pub identical : ℕ → ℕ → ℕ → Bool
 identical D a b = eqb D 0 && eqb a b
 
 -- "Two heads meet exactly if t² ≤ D ≤ s² and they are not identical."
-unfoldable pub meets : ℕ → ℕ → ℕ → Bool
-meets D a b = leb (gap a b * gap a b) D && (leb D ((a + b) * (a + b)) && not (identical D a b))
+unfoldable pub outlines_meet : ℕ → ℕ → ℕ → Bool
+outlines_meet D a b = leb (gap a b * gap a b) D && (leb D ((a + b) * (a + b)) && not (identical D a b))
 
 -- "One point exactly if also D = t² or D = s², otherwise two."
-unfoldable pub meets_once : ℕ → ℕ → ℕ → Bool
-meets_once D a b = meets D a b && (eqb D (gap a b * gap a b) || eqb D ((a + b) * (a + b)))
+unfoldable pub outlines_meet_once : ℕ → ℕ → ℕ → Bool
+outlines_meet_once D a b = outlines_meet D a b && (eqb D (gap a b * gap a b) || eqb D ((a + b) * (a + b)))
 
 -- "A contains B exactly if rA ≥ rB and D ≤ (rA-rB)²."
-unfoldable pub contains : ℕ → ℕ → ℕ → Bool
-contains D a b = leb b a && leb D ((a - b) * (a - b))
+unfoldable pub covers : ℕ → ℕ → ℕ → Bool
+covers D a b = leb b a && leb D ((a - b) * (a - b))
 
--- the one relation of two heads: identical; else by D against t², and then against s²
-unfoldable pub relation : ℕ → ℕ → ℕ → Relation
-relation D a b =
+-- the one relation of two outlines: identical; else by D against t², and then against s²
+unfoldable pub outline_relation : ℕ → ℕ → ℕ → Relation
+outline_relation D a b =
     cond (identical D a b) Identical
     (cond (ltb D (gap a b * gap a b)) Holding
     (cond (eqb D (gap a b * gap a b)) TouchingInside
     (cond (ltb D ((a + b) * (a + b))) Crossing
     (cond (eqb D ((a + b) * (a + b))) TouchingOutside Apart))))
+
+-- ---- two heads
+
+unfoldable pub meets : ℕ → ℕ → ℕ → Bool
+meets D a b = not (either_closed a b) && outlines_meet D a b
+
+unfoldable pub meets_once : ℕ → ℕ → ℕ → Bool
+meets_once D a b = not (either_closed a b) && outlines_meet_once D a b
+
+-- a contains b
+unfoldable pub contains : ℕ → ℕ → ℕ → Bool
+contains D a b = not (either_closed a b) && covers D a b
+
+-- how two heads lie to each other: of two of which one is closed nothing else can be said than that they are apart
+unfoldable pub relation : ℕ → ℕ → ℕ → Relation
+relation D a b = cond (either_closed a b) Apart (outline_relation D a b)
 
 -- each case's number: its place in the list apart, touching outside, crossing, touching inside, holding without touch,
 -- identical

@@ -4,7 +4,7 @@
 
 ghost use Rattle.std.specs.Prelude.{◌≡◌, ◌*◌, min, nat_abs, ◌-ℤ◌};
 ghost use Rattle.heads.specs.Limits.{position_in_limits, radius_in_limits, side_in_limits};
-ghost use Rattle.heads.specs.Relation.{relation, number};
+ghost use Rattle.heads.specs.Relation.{outline_relation, relation, number};
 ghost use Rattle.std.specs.Ordering.{nat_cmp};
 ghost use Rattle.heads.specs.Pair.{above_zero, squared_distance, greatest, relation_of, meets_of};
 
@@ -23,8 +23,8 @@ pub struct Head {
 // A centre lies at most this far from zero, in x and in y.
 pub const POSITION_LIMIT: i32 = 20000;
 
-// The least and the greatest radius.
-pub const RADIUS_LEAST: i32 = 1;
+// The least and the greatest radius. A head of radius 0 is closed.
+pub const RADIUS_LEAST: i32 = 0;
 
 pub const RADIUS_LIMIT: i32 = 20000;
 
@@ -74,9 +74,9 @@ fn against_square(d: u64, s: u64) -> Ordering
         .map_or(Ordering::Less, |square| d.cmp(&square))
 }
 
-// The relation of two heads of radii r1 and r2 whose centres have the squared distance d.
-pub fn relation_at(d: u64, r1: u32, r2: u32) -> Relation
-    ensures { result ≡ relation d r1 r2 }
+// How the outlines of two circles of radii r1 and r2 lie whose centres have the squared distance d.
+fn outline_relation(d: u64, r1: u32, r2: u32) -> Relation
+    ensures { result ≡ outline_relation d r1 r2 }
 {
     let s = u64::from(r1) + u64::from(r2);
     let t = u64::from(r1.abs_diff(r2));
@@ -88,6 +88,18 @@ pub fn relation_at(d: u64, r1: u32, r2: u32) -> Relation
         (Ordering::Greater, Ordering::Equal) => Relation::TouchingOutside,
         (Ordering::Greater, Ordering::Greater) => Relation::Apart,
     }
+}
+
+// The relation of two heads of radii r1 and r2 whose centres have the squared distance d: a closed head is apart from
+// any.
+#[tactic(auto, unfolding(crate::specs::Relation::relation))]
+pub fn relation_at(d: u64, r1: u32, r2: u32) -> Relation
+    ensures { result ≡ relation d r1 r2 }
+{
+    if r1 == 0 || r2 == 0 {
+        return Relation::Apart;
+    }
+    outline_relation(d, r1, r2)
 }
 
 // Each case's place in the list apart, touching outside, crossing, touching inside, holding, identical.

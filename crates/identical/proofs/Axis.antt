@@ -1,16 +1,16 @@
 -- A point of a circle's edge, worked out from a centre of whole numbers, and its way back from that centre along one axis: within 2^-36 of what it is
 -- exactly, r times the sine or the cosine. 2^-40 is `fine` units.
-use mathlib.Core.Path.{◌≡◌, refl, sym, ap, ◌∙◌}
+use mathlib.Core.Path.{◌≡◌, refl, ap}
 use mathlib.Core.Logic.{◌⊎◌, inl, inr}
-use Prim.Native.Nat.{ℕ, ◌+◌, ◌*◌, ◌^◌, ◌≤◌, ◌<◌}
-use native.Mathlib.Nat.{le_trans, le_of_eq, mul-one, le_of_mul-le-mul_right}
+use Prim.Native.Nat.{ℕ, ◌+◌, ◌*◌, ◌≤◌, ◌<◌}
+use native.Mathlib.Nat.{le_of_mul-le-mul_right}
 use native.Mathlib.Omega.{arith}
 use lib.IntN.{ℤ, pos, nat_abs}
 use lib.Ieee.{Float, binary64, of_int, add, sub, mul}
-use Rattle.binary64.specs.Units.{one, pow2, Finite, mag, plus, minus}
+use Rattle.binary64.specs.Units.{one, pow2, mag, plus, minus}
 use Rattle.binary64.specs.Magnitude.{Most}
 use Rattle.binary64.proofs.Error.{add_near, sub_near, mul_near}
-use Rattle.binary64.proofs.Magnitude.{add_most, sub_most, mul_most, most_weaken}
+use Rattle.binary64.proofs.Magnitude.{add_most, sub_most, mul_most}
 use Rattle.binary64.proofs.Units.{one_pos, one_sided, plus_minus, pow2_split}
 use Rattle.binary64.proofs.Whole.{of_int_most, of_int_pos}
 

@@ -1,19 +1,19 @@
 -- A point of the edge of a circle of whole numbers, worked out at an angle of the domain, counts as on that edge: the implicit form differs from 1 by at
 -- most the tolerance.
 use mathlib.Core.Path.{◌≡◌, refl, sym, ap, ap₂, ◌∙◌, subst}
-use mathlib.Core.Bool.{Bool, true, false, cond, not, ◌&&◌, ◌||◌}
+use mathlib.Core.Bool.{Bool, true, false, cond}
 use mathlib.Core.Logic.{◌⊎◌, inl, inr}
-use Prim.Native.Nat.{ℕ, ◌+◌, ◌-◌, ◌*◌, ◌^◌, ◌≤◌, ◌<◌, zero-le}
+use Prim.Native.Nat.{ℕ, ◌+◌, ◌-◌, ◌*◌, ◌^◌, ◌≤◌, ◌<◌}
 use native.Mathlib.Nat.{le_refl, le_trans, le_of_eq, lt_of_lt_of_le, one-mul, mul-pos, mul-le-mul, mul-le-mul_right, le_of_mul-le-mul_right}
 use native.Mathlib.Omega.{arith}
-use lib.Dec.{leb, leb→le}
+use lib.Dec.{leb→le}
 use lib.IntN.{ℤ, pos, nat_abs}
-use lib.Ieee.{Float, nan, inf, fin, binary64, of_int, of_bits, add, sub, mul, div, lt, round, is_nan, unlike}
+use lib.Ieee.{Float, nan, inf, fin, binary64, of_int, of_bits, mul, lt, round, is_nan, unlike}
 use borrow.Author.Tests.{le-leb}
-use Rattle.binary64.specs.Constants.{one64, two64}
-use Rattle.binary64.specs.Floats.{◌+ᶠ◌, ◌-ᶠ◌, ◌*ᶠ◌, ◌/ᶠ◌, ◌<ᶠ◌, ◌≤ᶠ◌}
+use Rattle.binary64.specs.Constants.{one64}
+use Rattle.binary64.specs.Floats.{◌+ᶠ◌, ◌-ᶠ◌, ◌*ᶠ◌, ◌/ᶠ◌, ◌≤ᶠ◌}
 use Rattle.binary64.specs.Functions.{absolute, larger_of}
-use Rattle.binary64.specs.Magnitude.{Most, Least}
+use Rattle.binary64.specs.Magnitude.{Most}
 use Rattle.binary64.specs.Rounding.{rnd, Rounded}
 use Rattle.binary64.specs.Units.{one, pow2, Finite, mag, negative, plus, minus}
 use Rattle.binary64.proofs.Constants.{one64_most}
@@ -29,7 +29,7 @@ use Rattle.elementary.specs.Sine.{sine, cosine}
 use Rattle.elementary.specs.SinePromise.{Domain}
 use Rattle.elementary.proofs.sine.Promise.{sine_promise, cosine_promise}
 use Rattle.geometry.specs.Point.{squared_distance}
-use Rattle.geometry.specs.Tolerances.{coincidence, coincidence_share}
+use Rattle.geometry.specs.Tolerances.{coincidence_share}
 use Rattle.boundary.specs.Identical.{whole_circle}
 use Rattle.boundary.specs.Outline.{implicit_value, tolerance, point_at}
 use Rattle.boundary.proofs.Identical.{share, share_most, quotient_most, quotient_sign, least_share, tolerance_most, tolerance_sign, radius_mag, one_finite, one_plus}

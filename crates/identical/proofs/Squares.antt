@@ -2,7 +2,8 @@
 -- sums add up to 1 within 2^-48.
 use mathlib.Core.Path.{◌≡◌, refl, sym, ap, ap₂, ◌∙◌, subst₂}
 use Prim.Native.Nat.{ℕ, ◌+◌, ◌*◌, ◌^◌, ◌≤◌, ◌<◌}
-use native.Mathlib.Nat.{one-mul, one-le-pow, le_trans, le_of_eq, mul-pos, mul-le-mul, mul-le-mul_left, mul-le-mul_right, le_of_mul-le-mul_right}
+use native.Mathlib.Nat.{one-mul, one-le-pow, le_trans, le_of_eq, mul-pos, mul-le-mul_left, mul-le-mul_right}
+use native.Mathlib.Nat.{le_of_mul-le-mul_right}
 use native.Mathlib.Omega.{arith}
 use lib.Dec.{leb→le}
 use lib.IntN.{ℤ, pos, nat_abs, ◌*ℤ◌, ◌-ℤ◌}
@@ -18,7 +19,7 @@ use Rattle.elementary.specs.Sine.{sine, cosine}
 use Rattle.elementary.specs.SinePromise.{Domain}
 use Rattle.elementary.proofs.arctangent.Fractions.{sin40_proper, cos40_proper, exact_proper, signed_size, units, exact_units}
 use Rattle.elementary.proofs.sine.Promise.{sine_promise, cosine_promise}
-use Rattle.identical.specs.Squares.{NearOne, SquaresNearOne}
+use Rattle.identical.specs.Squares.{SquaresNearOne}
 use Rattle.identical.proofs.Sums.{sums_near}
 
 -- ---- a float beside a fraction

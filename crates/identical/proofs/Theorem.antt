@@ -5,28 +5,25 @@ use mathlib.Core.Bool.{Bool, true, false, cond, not, ◌&&◌, ◌||◌}
 use mathlib.Core.List.{List, [], ◌∷◌, ◌++◌, map, append_assoc, map-append}
 use Prim.Native.Nat.{ℕ, zero, suc, ◌+◌, ◌%◌, ◌≤◌, ◌<◌}
 use native.Mathlib.Omega.{arith}
-use lib.Dec.{T, eqb, ltb}
-use lib.IntN.{ℤ, pos, nat_abs}
+use lib.Dec.{ltb}
+use lib.IntN.{ℤ, nat_abs}
 use lib.Ieee.{Float, nan, binary64, of_int}
 use lib.ListN.{length, get_or, length-append, length-map}
 use borrow.Author.Tests.{lt-ltb, ne_eqb}
 use Rattle.lists.specs.Lists.{up_to}
-use Rattle.binary64.specs.Constants.{half64, one64}
-use Rattle.binary64.specs.Floats.{◌+ᶠ◌, ◌-ᶠ◌, ◌*ᶠ◌, ◌<ᶠ◌, ◌≤ᶠ◌}
-use Rattle.binary64.specs.Functions.{absolute}
+use Rattle.binary64.specs.Constants.{one64}
+use Rattle.binary64.specs.Floats.{◌+ᶠ◌, ◌<ᶠ◌}
 use Rattle.elementary.specs.SinePromise.{Domain}
-use Rattle.heads.specs.declared.Head.{Head}
-use Rattle.heads.specs.Distance.{InLimits, limits_of}
+use Rattle.heads.specs.Cases.{at_least_one}
+use Rattle.heads.specs.Distance.{limits_of}
 use Rattle.heads.specs.Pair.{radius_of}
 use Rattle.exact.specs.Circle.{circle_of}
 use Rattle.geometry.specs.declared.circle.Circle.{Circle}
 use Rattle.geometry.specs.declared.point.Point.{Point}
 use Rattle.intersections.specs.Members.{Member, circles_of}
-use Rattle.boundary.specs.declared.arcs.BoundaryArc.{BoundaryArc}
 use Rattle.boundary.specs.Identical.{whole_circle}
 use Rattle.boundary.specs.NoArc.{NoneOf}
 use Rattle.boundary.specs.Outline.{implicit_value, tolerance, lets, owned_from, owned, point_at, gap, collapsed, between as arc_between, arc_from, arcs_at, angle_about, angles_of, outline}
-use Rattle.boundary.specs.Sort.{sorted}
 use Rattle.boundary.proofs.Identical.{lower_owns}
 use Rattle.boundary.proofs.OnePoint.{none_in}
 use Rattle.outline.specs.Counts.{sorted_length}
@@ -123,10 +120,11 @@ module _ (x y : ℤ) (r : ℕ) (hx : nat_abs x ≤ 20000) (hy : nat_abs y ≤ 20
           (sym em) (sym e) ((lower_owns x y r hx hy least most).higher before between after l el)
 
 pub higher_has_no_arc : HigherHasNoArc
-higher_has_no_arc h t before between after l m el em =
+higher_has_no_arc h t o before between after l m el em =
     let limits = limits_of h t in
     let same : circle_of h ≡ whole_circle h.x h.y (radius_of h) = ap (λ (r : ℤ). whole_circle_of r) limits.whole in
-    twins h.x h.y (radius_of h) limits.x limits.y limits.least limits.most before between after l m (el ∙ same) (em ∙ same)
+    twins h.x h.y (radius_of h) limits.x limits.y (at_least_one (radius_of h) o) limits.most before between
+    after l m (el ∙ same) (em ∙ same)
   where
     whole_circle_of : ℤ → Circle
     whole_circle_of r = record { center = (circle_of h).center; radius = of_int binary64 r }

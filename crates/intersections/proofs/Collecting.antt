@@ -13,7 +13,8 @@ use Rattle.lists.proofs.Lists.{up_to_few}
 use Rattle.intersections.specs.declared.points.IntersectionPoint.{IntersectionPoint}
 use Rattle.intersections.specs.Counts.{pair_few, rows_few}
 use Rattle.intersections.specs.Members.{circle_at}
-use Rattle.intersections.specs.Points.{with_adopters, pair_points, later_points, collected}
+use Rattle.intersections.specs.Points.{with_adopters, pair_points, later_points, collected, collected_by}
+use Rattle.intersections.specs.Points.{later_points_by, pair_points_by}
 
 -- the points of head i with the heads after it below j
 pub row_to : List Circle → ℕ → ℕ → List IntersectionPoint
@@ -64,7 +65,7 @@ module _ (cs : List Circle) (i : ℕ) where
       rw (one, at)
 
   row_whole : (j : ℕ) → j ≡ length cs → row_to cs i j ≡ later_points cs i
-  unfolding row_to later_points
+  unfolding row_to later_points_by
   row_whole j e = rw e
 
   rows_more : up_to (later_points cs) i ++ later_points cs i ≡ up_to (later_points cs) (i + 1)
@@ -86,12 +87,12 @@ module _ (cs : List Circle) (i : ℕ) where
     -- it has met head j in these points
     pub row_on : {more : List IntersectionPoint} (j : ℕ) → i < j
         → more ≡ found ++ map (with_adopters cs i j) (intersection_points (circle_at cs i) (circle_at cs j)) → Row cs i j found → Row cs i (j + 1) more
-    unfolding pair_points
+    unfolding pair_points_by
     row_on j h e r =
         e ∙ ap (λ l. l ++ pair_points cs i j) r
         ∙ append_assoc rows (row_to cs i j) (pair_points cs i j) ∙ ap (λ l. rows ++ l) (row_more j h)
 
 -- all heads have
 pub rows_end : (cs : List Circle) (i : ℕ) {found : List IntersectionPoint} → length cs ≤ i → i ≤ length cs → Rows cs i found → found ≡ collected cs
-unfolding collected
+unfolding collected_by
 rows_end cs i h g r = let all : i ≡ length cs = omega arith in r ∙ ap (up_to (later_points cs)) all

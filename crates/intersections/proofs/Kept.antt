@@ -23,7 +23,8 @@ use Rattle.intersections.specs.Members.{is_single, Member, no_circle, heads_of, 
 use Rattle.lists.proofs.Lists.{up_to_cong, up_to_through, keep_append, keep_none, keep_alike}
 use Rattle.intersections.specs.declared.points.IntersectionPoint.{IntersectionPoint}
 use Rattle.intersections.proofs.Gathering.{single_heads}
-use Rattle.intersections.specs.Points.{adopts, with_adopters, pair_points, later_points, collected}
+use Rattle.intersections.specs.Points.{adopts, with_adopters, pair_points, later_points, collected, adopts_by}
+use Rattle.intersections.specs.Points.{collected_by, later_points_by, pair_points_by, with_adopters_by}
 use Rattle.intersections.proofs.Masks.{subset_alike}
 
 -- ---- of one list of circles
@@ -53,7 +54,7 @@ counted_append S j a b =
 -- counting goes through both loops
 counted_loops : (cs : List Circle) (S j : ℕ)
     → counted_of S j (collected cs) ≡ up_to (λ i. up_to (λ d. counted_of S j (pair_points cs i (i + 1 + d))) (length cs - (i + 1))) (length cs)
-unfolding counted_of collected later_points keep
+unfolding counted_of collected_by later_points_by keep
 counted_loops cs S j =
     up_to_through (counted_of S j) refl (counted_append S j) (later_points cs) (length cs)
     ∙ up_to_cong _ _ (length cs) (λ i hi. up_to_through (counted_of S j) refl (counted_append S j) (λ d. pair_points cs i (i + 1 + d)) (length cs - (i + 1)))
@@ -64,7 +65,7 @@ Apart a b = (intersection_points a b ≡ []) × (intersection_points b a ≡ [])
 
 -- a point that is not counted, whatever it is, is none
 uncounted : (cs : List Circle) (S j a b : ℕ) → ((p : Point) → counted_for S j (with_adopters cs a b p) ≡ false) → keep (counted_for S j) (pair_points cs a b) ≡ []
-unfolding pair_points
+unfolding pair_points_by
 uncounted cs S j a b h =
     let points = intersection_points (circle_at cs a) (circle_at cs b) in
     keep_none (counted_for S j) (pair_points cs a b) (every_mapped _ (with_adopters cs a b) points (every_all _ points h))
@@ -72,7 +73,7 @@ uncounted cs S j a b h =
 -- of a head k that is apart from head j no point is counted at j
 none_counted : (cs : List Circle) (S j k a b : ℕ) → (k ≡ j → ⊥) → Apart (circle_at cs k) (circle_at cs j) → (a ≡ k) ⊎ (b ≡ k)
     → counted_of S j (pair_points cs a b) ≡ []
-unfolding counted_of pair_points with_adopters counted_for keep
+unfolding counted_of pair_points_by with_adopters_by counted_for keep
 none_counted cs S j k a b n e (inl ea) = rw ea (by (ℕ_discrete b j))
   where
     by : Dec (b ≡ j) → counted_of S j (pair_points cs k b) ≡ []
@@ -96,7 +97,7 @@ module _ (cs : List Circle) (k : ℕ) (c : Circle) (S : ℕ) (out : in_set S k �
 
   -- of a pair that stays the same points are counted
   pair_stays : (j a b : ℕ) → (a ≡ k → ⊥) → (b ≡ k → ⊥) → counted_of S j (pair_points cs a b) ≡ counted_of S j (pair_points (set cs k c) a b)
-  unfolding counted_of pair_points with_adopters counted_for adopts
+  unfolding counted_of pair_points_by with_adopters_by counted_for adopts_by
   pair_stays j a b na nb =
       keep_alike (counted_for S j) (λ q. q.point) (with_adopters cs a b) (with_adopters (set cs k c) a b)
       (λ p. ap (λ t. (eqb a j || eqb b j) && t)

@@ -1,18 +1,13 @@
 -- A mask gathered by a test, seen from a set; the heads of a mask.
-use mathlib.Core.Path.{◌≡◌, refl, sym, ap₂, ◌∙◌}
-use mathlib.Core.Bool.{Bool, true, false, not, ◌&&◌, ◌||◌, true≢false}
-use Prim.Native.Nat.{ℕ, zero, suc, ◌<◌, ◌^◌}
-use native.Mathlib.Omega.{arith}
+use mathlib.Core.Path.{◌≡◌, refl, sym, ◌∙◌}
+use mathlib.Core.Bool.{Bool, true, false, not, ◌||◌, true≢false}
+use Prim.Native.Nat.{ℕ, ◌<◌, ◌^◌}
 use lib.Dec.{ltb}
 use borrow.Author.Tests.{ltb-true, ltb-false}
-use Rattle.masks.specs.Mask.{in_set, gather, every, subset}
+use Rattle.masks.specs.Mask.{in_set, gather, subset}
 use Rattle.masks.specs.Operations.{in_beyond}
 use Rattle.masks.specs.Gather.{gather_lt, in_gather}
-
-pub every_cong : (n : ℕ) (p p' : ℕ → Bool) → ((l : ℕ) → l < n → p l ≡ p' l) → every n p ≡ every n p'
-unfolding every
-every_cong zero p p' e = refl
-every_cong (suc n) p p' e = ap₂ ◌&&◌ (every_cong n p p' (λ l h. e l (omega arith))) (e n (omega arith))
+use Rattle.masks.specs.Subset.{every_cong}
 
 -- whether S lies in a mask that is gathered by a test looks at the heads of S alone
 pub subset_alike : (w n S : ℕ) (p p' : ℕ → Bool) → ((l : ℕ) → in_set S l ≡ true → p l ≡ p' l) → subset w S (gather n p) ≡ subset w S (gather n p')

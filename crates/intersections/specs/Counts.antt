@@ -14,13 +14,14 @@ use Rattle.masks.specs.Mask.{in_set}
 use Rattle.lists.specs.Lists.{up_to, keep}
 use Rattle.lists.specs.Every.{Every, every_up_to, every_all, every_one, every_mapped}
 use Rattle.lists.proofs.Lists.{up_to_few, keep_append, keep_length, keep_none, one_or_none}
-use Rattle.geometry.specs.Circle.{intersection_points, identical, apart, crossing}
+use Rattle.geometry.specs.Circle.{either_closed, intersection_points, outline_points, identical, apart, crossing}
 use Rattle.geometry.specs.Point.{distance}
 use Rattle.geometry.specs.declared.point.Point.{Point}
 use Rattle.geometry.specs.declared.circle.Circle.{Circle}
 use Rattle.intersections.specs.declared.points.IntersectionPoint.{IntersectionPoint}
 use Rattle.intersections.specs.Members.{heads_of, has_parent, counted_for, points_for, points_held}
-use Rattle.intersections.specs.Points.{with_adopters, pair_points, later_points, collected}
+use Rattle.intersections.specs.Points.{with_adopters, pair_points, later_points, collected, collected_by}
+use Rattle.intersections.specs.Points.{later_points_by, pair_points_by, with_adopters_by}
 
 -- ---- meeting points
 
@@ -39,14 +40,16 @@ crossing_few a b d = search two_at_most
 pub meeting_few : (a b : Circle) → length (intersection_points a b) ≤ 2
 meeting_few a b =
     let d = distance a.center b.center in
-    none_or (identical a b) (cond (apart a b d) [] (crossing a b d)) (none_or (apart a b d) (crossing a b d) (crossing_few a b d))
+    none_or (either_closed a b) (outline_points a b)
+    (none_or (identical a b) (cond (apart a b d) [] (crossing a b d))
+    (none_or (apart a b d) (crossing a b d) (crossing_few a b d)))
 
 pub pair_few : (cs : List Circle) (i j : ℕ) → length (pair_points cs i j) ≤ 2
-unfolding pair_points
+unfolding pair_points_by
 pair_few cs i j = rw (length-map) (meeting_few _ _)
 
 row_few : (cs : List Circle) (i : ℕ) → length (later_points cs i) ≤ (length cs - (i + 1)) * 2
-unfolding later_points
+unfolding later_points_by
 row_few cs i = up_to_few (λ d. pair_points cs i (i + 1 + d)) 2 (length cs - (i + 1)) (λ d h. pair_few cs i (i + 1 + d))
 
 pub rows_few : (cs : List Circle) (m : ℕ) → m ≤ length cs → length (up_to (later_points cs) m) + m * m + m ≤ 2 * m * length cs
@@ -57,7 +60,7 @@ rows_few cs (suc m) h =
 
 -- ten circles have at most 90 meeting points
 pub collected_few : (cs : List Circle) → length cs ≤ 10 → length (collected cs) ≤ 90
-unfolding collected
+unfolding collected_by
 collected_few cs h = omega (arith, rows_few cs (length cs) (omega arith), mul-le-mul_right (length cs) h)
 
 -- ---- points counted at one head
@@ -73,7 +76,7 @@ module _ (cs : List Circle) (S j : ℕ) where
 
   -- a pair without j has none
   many_other : (i k : ℕ) → (i ≡ j → ⊥) → (k ≡ j → ⊥) → many (pair_points cs i k) ≡ 0
-  unfolding many pair_points with_adopters counted_for has_parent
+  unfolding many pair_points_by with_adopters_by counted_for has_parent
   many_other i k h g =
       ap length (keep_none (counted_for S j) (pair_points cs i k)
       (every_mapped _ (with_adopters cs i k) (intersection_points _ _) (every_all _ (intersection_points _ _) (λ p. rw (ne_eqb i j h, ne_eqb k j g)))))
@@ -116,11 +119,11 @@ module _ (cs : List Circle) (S j : ℕ) where
       )
 
   row_above : (m : ℕ) → j < m → many (later_points cs m) ≡ 0
-  unfolding later_points
+  unfolding later_points_by
   row_above m h = many_higher m (length cs - (m + 1)) h
 
   row_below : (m : ℕ) → (m ≡ j → ⊥) → many (later_points cs m) ≤ 2
-  unfolding later_points
+  unfolding later_points_by
   row_below m h = (many_lower m (length cs - (m + 1)) h).1
 
   many_rows : (m : ℕ) → m ≤ length cs → many (up_to (later_points cs) m) ≤ cond (ltb j m) (2 * (length cs - 1)) (2 * m)
@@ -153,7 +156,7 @@ module _ (cs : List Circle) (S j : ℕ) where
 
 -- at most 18 points are counted at a head
 pub counted_few : (cs : List Circle) (S j : ℕ) → length cs ≤ 10 → j < length cs → length (keep (counted_for S j) (collected cs)) ≤ 18
-unfolding collected many
+unfolding collected_by many
 counted_few cs S j h g = omega (arith, rw (lt-ltb j (length cs) g) at (many_rows cs S j (length cs) (omega arith)))
 
 -- so the room for points is never short

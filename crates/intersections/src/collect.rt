@@ -33,7 +33,7 @@ struct Parents<'a> {
 
 impl Parents<'_> {
     // Whether head l adopts their point p: a parent does without the test.
-    #[tactic(auto, unfolding(crate::specs::Points::adopts))]
+    #[tactic(auto, unfolding(crate::specs::Points::adopts_by))]
     fn adopts(&self, p: Point, l: usize) -> bool
         requires { l < length self.now.circles.now }
         ensures { result ≡ spec.adopts self.now.circles.now self.now.pair.first self.now.pair.second p l }
@@ -59,7 +59,7 @@ impl Parents<'_> {
     }
 
     // Their point p, with its adopters.
-    #[tactic(auto, unfolding(crate::specs::Points::with_adopters))]
+    #[tactic(auto, unfolding(crate::specs::Points::with_adopters_by))]
     fn with_adopters(&self, p: Point) -> IntersectionPoint
         ensures { result ≡ spec.with_adopters self.now.circles.now self.now.pair.first self.now.pair.second p }
     {

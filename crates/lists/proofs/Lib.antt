@@ -5,3 +5,4 @@ pub mod Arrays
 pub mod Simulation
 pub mod Writing
 pub mod Somes
+pub mod Kept

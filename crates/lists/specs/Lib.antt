@@ -3,3 +3,4 @@ pub mod Every
 pub mod Run
 pub mod Written
 pub mod Some
+pub mod Kept

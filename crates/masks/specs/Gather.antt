@@ -51,6 +51,10 @@ gather_unique w S p hs h = in_ext S (gather w p) (λ i. go i (ltb i w) refl)
     go i true e = h i (ltb-true i w e) ∙ sym (in_gather w p i (ltb-true i w e))
     go i false e = in_beyond w S i hs (ltb-false i w e) ∙ sym (in_beyond w (gather w p) i (gather_lt w p) (ltb-false i w e))
 
+-- a mask gathered by two tests that say the same
+pub gather_same : (n : ℕ) (p q : ℕ → Bool) → ((l : ℕ) → l < n → p l ≡ q l) → gather n p ≡ gather n q
+gather_same n p q e = gather_unique n (gather n p) q (gather_lt n p) (λ l h. in_gather n p l h ∙ e l h)
+
 -- ---- what code writes, as sets by their heads
 
 -- `1 << i`

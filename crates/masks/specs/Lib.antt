@@ -5,3 +5,5 @@ pub mod Operations
 pub mod Size
 pub mod Subset
 pub mod Presence
+pub mod Spread
+pub mod SpreadPlaces

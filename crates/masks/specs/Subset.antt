@@ -114,6 +114,12 @@ unfolding every
 every_of zero p h = refl
 every_of (suc w) p h = simp (every_of w p (λ i k. h i (omega arith)), h w (omega arith))
 
+-- two tests that say the same
+pub every_cong : (n : ℕ) (p p' : ℕ → Bool) → ((l : ℕ) → l < n → p l ≡ p' l) → every n p ≡ every n p'
+unfolding every
+every_cong zero p p' e = refl
+every_cong (suc n) p p' e = rw (every_cong n p p' (λ l h. e l (omega arith)), e n (omega arith)) refl
+
 implied : (a b : Bool) → (not a || b) ≡ true → a ≡ true → b ≡ true
 implied true b e f = e
 implied false b e f = absurd (subst T (sym f) tt)

@@ -10,7 +10,6 @@ use lib.ListN.{length}
 use lib.Pow.{pow_mono}
 use borrow.Author.Tests.{ne_eqb}
 use Rattle.heads.specs.declared.Head.{Head}
-use Rattle.heads.specs.Limits.{accepted_drawn}
 use Rattle.heads.specs.Pair.{meets_of}
 use Rattle.masks.specs.Mask.{in_set}
 use Rattle.masks.specs.Gather.{in_gather}
@@ -59,8 +58,8 @@ module _ (m : Method) (p : Plan) (e : Edit) (ten : length p.heads ≡ 10) (ok : 
 
       apart : (v : Head) → HeadWithin v → meets_of v (head_at p j) ≡ false → Apart (circle_of v) (circle_of (head_at p j))
       apart v w no-meeting =
-          no_points_unless_met v (head_at p j) (accepted_drawn v (within_limits v w))
-          (accepted_drawn (head_at p j) (within_limits (head_at p j) (ok.heads j hj))) no-meeting
+          no_points_unless_met v (head_at p j) (within_limits v w)
+          (within_limits (head_at p j) (ok.heads j hj)) no-meeting
 
   -- a row that is not reworked was a set's, and has the area it had
   kept_area : (S : ℕ) → S < 2 ^ p.n → reworked (2 ^ e.head) (met_by p e) (m.sets p) S ≡ false

@@ -15,7 +15,7 @@ use Rattle.geometry.specs.declared.point.Point.{Point}
 use Rattle.geometry.specs.declared.circle.Circle.{Circle}
 use Rattle.drawn.specs.Drawn.{plan_circles}
 use Rattle.intersections.specs.Members.{Member, members_of}
-use Rattle.intersections.specs.Points.{collected}
+use Rattle.intersections.specs.Points.{Rule, rule, collected_by}
 use Rattle.regions.specs.Edit.{Row, afresh_row, met, edited_row}
 use Rattle.lists.specs.Run.{Step}
 
@@ -41,17 +41,29 @@ pub record Method : Type 0 where
 abbrev pub head_at : Plan → ℕ → Head
 head_at p i = get_or p.heads i no_head
 
--- the members of the set S of a plan's heads, as the code gathers them
+-- By any rule of who meets and adopts, so that what stays as it was is said by the same words.
+module _ (r : Rule) where
+  -- the members of the set S of a plan's heads
+  abbrev pub members_by : Plan → ℕ → List Member
+  members_by p S = members_of (plan_circles p) (collected_by r (plan_circles p)) S
+
+  -- the area of row S of a plan
+  abbrev pub area_by : Method → Plan → ℕ → Float
+  area_by m p S = m.area p.ground (members_by p S)
+
+  -- the plan's afresh rows
+  abbrev pub afresh_by : Method → Plan → ℕ → Row
+  afresh_by m p S = afresh_row m.has_box (m.box_area p.ground) (area_by m p) (m.sets p) S
+
+-- the members, the areas and the afresh rows: as the code gathers them
 abbrev pub plan_members : Plan → ℕ → List Member
-plan_members p S = members_of (plan_circles p) (collected (plan_circles p)) S
+plan_members = members_by rule
 
--- the area of row S of a plan
 abbrev pub area_at : Method → Plan → ℕ → Float
-area_at m p S = m.area p.ground (plan_members p S)
+area_at = area_by rule
 
--- the plan's afresh rows
 abbrev pub afresh : Method → Plan → ℕ → Row
-afresh m p S = afresh_row m.has_box (m.box_area p.ground) (area_at m p) (m.sets p) S
+afresh = afresh_by rule
 
 -- the heads that head k, the edited one, meets before or after
 abbrev pub met_by : Plan → Edit → ℕ

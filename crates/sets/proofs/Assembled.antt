@@ -9,19 +9,19 @@ use Rattle.std.proofs.lemmas.Bool.Decides.{nat_tests}
 use lib.Count.{ones}
 use lib.Dec.{eqb, leb, ltb}
 use lib.ListN.{length}
-use Rattle.masks.specs.Mask.{in_set, gather, without_head, subset}
-use Rattle.masks.specs.Gather.{gather_lt, in_gather}
+use Rattle.masks.specs.Mask.{in_set, without_head, subset}
+use Rattle.masks.specs.Gather.{gather_lt, in_gather, gather_same}
 use Rattle.masks.specs.Presence.{byte, stands, byte_stands}
 use Rattle.lists.specs.Written.{written}
 use Rattle.lists.proofs.Writing.{written_before, written_cong}
 use Rattle.lists.proofs.Somes.{some_cong}
 use Rattle.geometry.specs.declared.circle.Circle.{Circle}
 use Rattle.intersections.specs.declared.points.IntersectionPoint.{IntersectionPoint}
-use Rattle.intersections.proofs.Masks.{every_cong}
+use Rattle.masks.specs.Subset.{every_cong}
 use Rattle.sets.specs.Marked.{marked}
 use Rattle.sets.specs.Sets.{pair, is_pair, witnessed, with_parts, all_pairs, one_in_all, in_level, with_levels}
 use Rattle.sets.specs.Sets.{overlapping, containing, is_set}
-use Rattle.sets.specs.Regions.{is_one_head, is_adopters_of, meets_at, contains_at, set_bytes}
+use Rattle.sets.specs.Regions.{is_one_head, closed_at, is_adopters_of, meets_at, contains_at, set_bytes}
 use Rattle.sets.specs.Steps.{twice_contained, adopted, joined_below}
 use Rattle.sets.proofs.Masks.{count_most}
 use Rattle.sets.proofs.Marks.{zeros, marks, marked_again}
@@ -31,11 +31,6 @@ use Rattle.sets.proofs.Pairing.{pairs_agree}
 use Rattle.sets.proofs.TwiceContained.{nothing_joins}
 
 -- ---- tests that agree on masks of n heads
-
-pub gather_same : (w : ℕ) (p q : ℕ → Bool) → ((i : ℕ) → i < w → p i ≡ q i) → gather w p ≡ gather w q
-unfolding gather
-gather_same zero p q h = refl
-gather_same (suc w) p q h = grind (arith, gather_same w p q (λ i k. h i (omega arith)), h w (omega arith))
 
 module _ (n : ℕ) (f g : ℕ → Bool) (same : (T : ℕ) → T < 2 ^ n → f T ≡ g T) where
   pub parts_agree : (S : ℕ) → S < 2 ^ n → with_parts n f S ≡ with_parts n g S
@@ -64,10 +59,12 @@ says p m S l h = ap (λ (x : ℕ). eqb x 1) (written_before (λ T. byte (p T)) m
 module _ (cs : List Circle) (points : List IntersectionPoint) (n : ℕ) where
   -- the masks found in steps 1 to 4, and all
   abbrev pub found : ℕ → Bool
-  found = with_parts n (witnessed n (is_one_head n) (is_adopters_of points) (meets_at points) (contains_at cs))
+  found =
+      with_parts n
+      (witnessed n (is_one_head n (closed_at cs)) (is_adopters_of points) (meets_at points) (contains_at cs))
 
   abbrev pub all : ℕ → Bool
-  all = is_set n (is_one_head n) (is_adopters_of points) (meets_at points) (contains_at cs)
+  all = is_set n (is_one_head n (closed_at cs)) (is_adopters_of points) (meets_at points) (contains_at cs)
 
   -- the bytes of a test of the masks of n heads
   abbrev pub bytes_of : (ℕ → Bool) → List ℕ
@@ -88,7 +85,8 @@ module _ (cs : List Circle) (points : List IntersectionPoint) (n : ℕ) where
     -- steps 1 to 4, from the heads that meet each head and those that contain it
     pub found_is : {a b F : List ℕ} (meets : ℕ → ℕ → Bool) → a ≡ marked (adopted n (is_adopters_of points)) (zeros 1024)
         → ((i j : ℕ) → i < 10 → j < 10 → meets i j ≡ meets_at points i j)
-        → b ≡ marked (is_pair n meets (λ i j. in_set (c j) i)) a → F ≡ marked (is_one_head n) b → F ≡ bytes_of found
+        → b ≡ marked (is_pair n meets (λ i j. in_set (c j) i)) a → F ≡ marked (is_one_head n (closed_at cs)) b
+        → F ≡ bytes_of found
     unfolding witnessed
     found_is meets e_a e_m e_b e_f =
         let pairs = is_pair n meets (λ i j. in_set (c j) i) in
@@ -101,10 +99,15 @@ module _ (cs : List Circle) (points : List IntersectionPoint) (n : ℕ) where
           arith,
           nat_tests,
           same S,
-          adopter_parts n (is_one_head n) (is_adopters_of points) (meets_at points)
-              (contains_at cs) (one_head_few n) S h,
+          adopter_parts n (is_one_head n (closed_at cs)) (is_adopters_of points) (meets_at points)
+              (contains_at cs) (λ S. one_head_few n S (closed_at cs)) S h,
         ))
-        (λ S h. grind (arith, nat_tests, one_head_beyond n S h, pair_beyond n S meets (λ i j. in_set (c j) i) h)))
+        (λ S h. grind (
+          arith,
+          nat_tests,
+          one_head_beyond n S (closed_at cs) h,
+          pair_beyond n S meets (λ i j. in_set (c j) i) h,
+        )))
 
     -- what the levels make of the masks found
     module _ {F : List ℕ} (e_f : F ≡ bytes_of found) where

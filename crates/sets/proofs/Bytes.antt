@@ -19,9 +19,10 @@ use Rattle.geometry.specs.Circle.{intersection_points}
 use Rattle.geometry.specs.declared.point.Point.{Point}
 use Rattle.geometry.specs.declared.circle.Circle.{Circle}
 use Rattle.intersections.specs.Members.{circle_at}
-use Rattle.intersections.specs.Points.{adopts, with_adopters, pair_points, later_points, collected}
+use Rattle.intersections.specs.Points.{adopts, with_adopters, pair_points, later_points, collected, adopts_by}
+use Rattle.intersections.specs.Points.{collected_by, later_points_by, pair_points_by, with_adopters_by}
 use Rattle.sets.specs.Sets.{pair, is_pair, witnessed, is_part, with_parts, overlapping, containing, is_set}
-use Rattle.sets.specs.Regions.{is_one_head, is_adopters_of, in_regions}
+use Rattle.sets.specs.Regions.{is_one_head, closed_at, is_adopters_of, in_regions}
 use Rattle.sets.proofs.LevelStep.{is_few}
 use Rattle.sets.specs.Bytes.{ByteSays, EmptyIsNoSet}
 
@@ -49,9 +50,10 @@ byte_says circles points S =
 not_empty : (S i : ℕ) → in_set S i ≡ true → eqb 0 S ≡ false
 not_empty S i h = grind (arith, nat_tests, in_of_zero 0 i (bit_of_zero i))
 
-one_head_not : (n : ℕ) → is_one_head n 0 ≡ false
+one_head_not : (n : ℕ) (closed : ℕ → Bool) → is_one_head n closed 0 ≡ false
 unfolding is_one_head
-one_head_not n = some_none n _ (λ i k. not_empty (single n i) i (grind (arith, nat_tests, in_gather)))
+one_head_not n closed =
+    some_none n _ (λ i k. grind (arith, nat_tests, in_gather, not_empty (single n i) i))
 
 pair_not : (n : ℕ) (meets contains : ℕ → ℕ → Bool) → is_pair n meets contains 0 ≡ false
 unfolding is_pair
@@ -75,18 +77,18 @@ empty_not n is_single is_adopters meets contains single_not adopters_not =
 
 module _ (cs : List Circle) where
   parent_adopts : (i j : ℕ) (p : Point) → adopts cs i j p i ≡ true
-  unfolding adopts
+  unfolding adopts_by
   parent_adopts i j p = grind (arith, nat_tests)
 
   adopters_of : (i j : ℕ) → i < length cs → (l : List Point) → is_adopters_of (map (with_adopters cs i j) l) 0 ≡ false
-  unfolding any with_adopters
+  unfolding any with_adopters_by
   adopters_of i j h [] = refl
   adopters_of i j h (p ∷ l) =
       let adopters = gather (length cs) (adopts cs i j p) in
       grind (arith, adopters_of i j h l, not_empty adopters i, in_gather, parent_adopts i j p)
 
   collected_adopted : is_adopters_of (collected cs) 0 ≡ false
-  unfolding collected later_points pair_points
+  unfolding collected_by later_points_by pair_points_by
   collected_adopted =
       any_up_to _ (later_points cs) (length cs)
       ∙ some_none (length cs) _ (λ i h. any_up_to _ (λ d. pair_points cs i (i + 1 + d)) (length cs - (i + 1))
@@ -94,4 +96,4 @@ module _ (cs : List Circle) where
       adopters_of i j h (intersection_points (circle_at cs i) (circle_at cs j))))
 
 pub empty_is_no_set : EmptyIsNoSet
-empty_is_no_set cs = empty_not (length cs) _ _ _ _ (one_head_not (length cs)) (collected_adopted cs)
+empty_is_no_set cs = empty_not (length cs) _ _ _ _ (one_head_not (length cs) (closed_at cs)) (collected_adopted cs)

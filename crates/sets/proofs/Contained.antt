@@ -2,7 +2,7 @@
 -- that radius, rounded or not, and so above the smaller one. Every f64 is thought of, NaN, infinities and radii below
 -- zero too.
 use mathlib.Core.Path.{◌≡◌, refl, sym, ap, ◌∙◌, subst}
-use mathlib.Core.Bool.{Bool, true, false, not}
+use mathlib.Core.Bool.{Bool, true, false, not, ◌&&◌, and-false}
 use mathlib.Core.Logic.{⊎_elim}
 use Prim.Native.Nat.{ℕ, ◌+◌, ◌≤◌}
 use native.Mathlib.Omega.{arith}
@@ -20,7 +20,7 @@ use Rattle.binary64.proofs.Units.{one_pos, mag_digits, mag_limit, plus_minus, on
 use Rattle.binary64.proofs.Units.{units_of_lt, units_of_le}
 use Rattle.elementary.proofs.root.Values.{root_finite, root_minus}
 use Rattle.elementary.specs.Root.{hypot}
-use Rattle.geometry.specs.Circle.{contains}
+use Rattle.geometry.specs.Circle.{either_closed, contains}
 use Rattle.geometry.specs.declared.circle.Circle.{Circle}
 
 -- neither a NaN nor minus infinity
@@ -130,4 +130,7 @@ distance_minus x y = root_minus _ (add-fits binary64 (mul binary64 x x) (mul bin
 
 pub not_contained : (a b : Circle) → T (fits binary64 a.radius) → T (fits binary64 b.radius)
     → lt a.radius b.radius ≡ true → contains a b ≡ false
-not_contained a b h k e = not_within a.radius b.radius (distance_finite _ _) (distance_minus _ _) h k e
+not_contained a b h k e =
+    ap (λ (q : Bool). not (either_closed a b) && q)
+    (not_within a.radius b.radius (distance_finite _ _) (distance_minus _ _) h k e)
+    ∙ and-false (not (either_closed a b))

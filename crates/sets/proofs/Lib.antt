@@ -9,3 +9,5 @@ pub mod Singles
 pub mod Assembled
 pub mod Bytes
 pub mod Taken
+pub mod Alike
+pub mod Closed

@@ -1,6 +1,6 @@
 -- Laws of presence bytes of which some are set to 1, and of a loop that sets them.
 use mathlib.Core.Path.{◌≡◌, refl, sym, ◌∙◌}
-use mathlib.Core.Bool.{Bool, true, false, cond, ◌&&◌, ◌||◌}
+use mathlib.Core.Bool.{Bool, true, false, not, cond, ◌&&◌, ◌||◌}
 use mathlib.Core.List.{List}
 use Prim.Native.Nat.{ℕ, ◌+◌, ◌≤◌, ◌<◌}
 use native.Mathlib.Omega.{arith}
@@ -13,7 +13,7 @@ use lib.Seq.{get_or-set_same, get_or-set_other}
 use Rattle.lists.specs.Some.{some}
 use Rattle.lists.specs.Written.{written}
 use Rattle.masks.specs.Presence.{byte}
-use Rattle.lists.proofs.Somes.{some_next, some_zero, some_cong}
+use Rattle.lists.proofs.Somes.{some_next, some_zero}
 use Rattle.lists.proofs.Writing.{length_tab, get_d_tab, length_written, written_before, written_past}
 use Rattle.masks.specs.Mask.{in_set, single, without_head}
 use Rattle.sets.specs.Marked.{marked}
@@ -130,13 +130,14 @@ module _ (n i : ℕ) (l : List ℕ) where
   unfolding marks_to
   parts_end M e = rw e refl
 
-  pub singles_end : i ≡ n → marks_to (single n) (λ k. true) i l ≡ marked (is_one_head n) l
+  pub singles_end : (closed : ℕ → Bool) → i ≡ n
+      → marks_to (single n) (λ k. not (closed k)) i l ≡ marked (is_one_head n closed) l
   unfolding marks_to is_one_head
-  singles_end e = rw e (marked_same _ _ l (λ S h. some_cong n _ _ (λ k g. grind arith)))
+  singles_end closed e = rw e refl
 
 pub ruleset parts = (marking, parts_end, without_at, lacks_at, has_at)
 
-pub ruleset singles = (marking, singles_end, single_at)
+pub ruleset singles = (marking, single_at)
 
 -- pairs of the heads below i, with the heads before each
 unfoldable pub pairs_to : ℕ → (ℕ → ℕ → Bool) → (ℕ → ℕ → Bool) → ℕ → List ℕ → List ℕ

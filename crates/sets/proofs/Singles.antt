@@ -19,13 +19,13 @@ pub ones_single : (n i : ℕ) → i < n → ones (single n i) ≡ 1
 ones_single n i h = rw (← shifted_single n i h) (ones_shifted n i h)
 
 module _ (n S : ℕ) where
-  pub one_head_beyond : 2 ^ n ≤ S → is_one_head n S ≡ false
+  pub one_head_beyond : (closed : ℕ → Bool) → 2 ^ n ≤ S → is_one_head n closed S ≡ false
   unfolding is_one_head
-  one_head_beyond h = some_none n _ (λ i k. grind (arith, nat_tests, gather_lt))
+  one_head_beyond closed h = some_none n _ (λ i k. grind (arith, nat_tests, gather_lt))
 
-  pub one_head_few : 3 ≤ ones S → is_one_head n S ≡ false
+  pub one_head_few : (closed : ℕ → Bool) → 3 ≤ ones S → is_one_head n closed S ≡ false
   unfolding is_one_head
-  one_head_few h = some_none n _ (λ i k. grind (arith, nat_tests, ones_single n i k))
+  one_head_few closed h = some_none n _ (λ i k. grind (arith, nat_tests, ones_single n i k))
 
   module _ (meets contains : ℕ → ℕ → Bool) where
     pub pair_beyond : 2 ^ n ≤ S → is_pair n meets contains S ≡ false

@@ -27,9 +27,14 @@ containing_head0 i j = eqb j 0
 abbrev pub with_head0 : ℕ → ℕ → Bool
 with_head0 i j = eqb i 0 || eqb j 0
 
--- S is among the sets of n heads with these adopter masks, pairs that meet and heads that contain others
+-- S is among the sets of n heads, of which these are closed, with these adopter masks, pairs that meet and heads that
+-- contain others
+abbrev pub sets_of : ℕ → (ℕ → Bool) → List ℕ → (ℕ → ℕ → Bool) → (ℕ → ℕ → Bool) → ℕ → Bool
+sets_of n closed adopters meets contains S = is_set n (is_one_head n closed) (one_of adopters) meets contains S
+
+-- none of them closed
 abbrev pub set : ℕ → List ℕ → (ℕ → ℕ → Bool) → (ℕ → ℕ → Bool) → ℕ → Bool
-set n adopters meets contains S = is_set n (is_one_head n) (one_of adopters) meets contains S
+set n adopters meets contains S = sets_of n (λ i. false) adopters meets contains S
 
 -- all propositions of a list hold
 abbrev pub All : List (Type 0) → Type 0
@@ -61,3 +66,14 @@ examples =
 pub worked : All examples
 unfolding any ones in_set gather every is_one_head is_set
 worked = (refl, (refl, (refl, (refl, (refl, (refl, (refl, (refl, (refl, (refl, (refl, (refl, (refl, tt)))))))))))))
+
+-- of two heads the second is closed: it has no single, the first has
+abbrev pub closed_examples : List (Type 0)
+closed_examples =
+    (sets_of 2 (λ i. eqb i 1) [] nobody nobody 2 ≡ false)
+    ∷ (sets_of 2 (λ i. eqb i 1) [] nobody nobody 1 ≡ true)
+    ∷ []
+
+pub closed_worked : All closed_examples
+unfolding any ones in_set gather every is_one_head is_set
+closed_worked = (refl, (refl, tt))

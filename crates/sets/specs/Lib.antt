@@ -4,3 +4,5 @@ pub mod Regions
 pub mod Steps
 pub mod Bytes
 pub mod Examples
+pub mod Alike
+pub mod Closed

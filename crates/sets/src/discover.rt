@@ -25,7 +25,7 @@ pub fn discover_regions(circles: &[Circle], points: &[IntersectionPoint]) -> [u8
     let meeting = heads.add_points(&mut found, points);
     let containing = heads.containing_heads(circles);
     heads.add_pairs(&mut found, &meeting, &containing);
-    heads.add_singles(&mut found);
+    heads.add_singles(&mut found, circles);
     let twice_contained = heads.twice_contained(&containing);
     // Then no mask joins a level.
     if twice_contained == 0 {

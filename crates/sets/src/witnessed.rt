@@ -2,20 +2,24 @@
 ghost use Rattle.std.specs.Prelude.{◌≡◌, ◌<◌, ◌||◌, length};
 ghost use Rattle.sets.specs.Marked.{marked};
 ghost use Rattle.sets.specs.Sets.{paired, is_pair};
-ghost use Rattle.sets.specs.Regions.{is_one_head, is_adopters_of, meets_at, parents};
+ghost use Rattle.sets.specs.Regions.{is_one_head, closed_at, is_adopters_of, meets_at, parents};
 ghost use Rattle.sets.specs.Steps.{in_mask_of, MasksSay, adopted, mask_or_part};
 
 use crate::heads::Heads;
+use geometry::circle::Circle;
 use intersections::points::IntersectionPoint;
 
 impl Heads {
-    // 1. Singles.
+    // 1. Singles. A closed head has none.
     #[tactic(auto, using(crate::proofs::Masks::rows, crate::proofs::Marks::singles))]
-    pub(crate) fn add_singles(self, found: &mut [u8; 1024])
-        ensures { found.new ≡ marked (is_one_head self.n) found.old }
+    pub(crate) fn add_singles(self, found: &mut [u8; 1024], circles: &[Circle])
+        requires { length circles.now ≡ self.n }
+        ensures { found.new ≡ marked (is_one_head self.n (closed_at circles.now)) found.old }
     {
         for i in 0..self.n {
-            found[1 << i] = 1;
+            if !circles[i].is_closed() {
+                found[1 << i] = 1;
+            }
         }
     }
 

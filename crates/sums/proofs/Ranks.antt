@@ -16,9 +16,8 @@ use lib.Seq.{get_or-append_seam}
 use Rattle.masks.specs.Mask.{bit, in_set, every}
 use Rattle.masks.specs.Operations.{one_of_in, bit_of_zero}
 use Rattle.masks.specs.Gather.{in_gather}
-use Rattle.masks.specs.Subset.{and_test, subset_of_and}
+use Rattle.masks.specs.Subset.{and_test, subset_of_and, every_cong}
 use Rattle.lists.specs.Lists.{up_to}
-use Rattle.intersections.proofs.Masks.{every_cong}
 use Rattle.geometry.specs.declared.point.Point.{Point}
 use Rattle.geometry.specs.declared.circle.Circle.{Circle}
 use Rattle.boundary.specs.Outline.{lets, owned_from, gap, collapsed, midpoint}

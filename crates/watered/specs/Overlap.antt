@@ -1,5 +1,5 @@
--- The call for what all heads of a plan water together: checked, it gives document 01's number; taken, the area is
--- written.
+-- The call for what all heads of a plan but the closed ones water together: checked, it gives document 01's number;
+-- taken, the area is written.
 use Rattle.std.specs.Prelude.{cond, eqb, Float}
 use Rattle.plan.specs.declared.Plan.{Plan}
 use Rattle.plan.specs.Checks.{plan_answer}

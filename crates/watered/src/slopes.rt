@@ -55,8 +55,8 @@ pub fn watered_open_gradients(
     number_of(gradients::open_gradients(plan, presence, exclusives, gradients))
 }
 
-// What all heads of the plan water together, without the box, which is checked all the same. The answer is 0, or the
-// refusal's number (2, 4, 5), which leaves `overlap`.
+// What all heads of the plan but the closed ones water together, without the box, which is checked all the same. The
+// answer is 0, or the refusal's number (2, 4, 5), which leaves `overlap`.
 pub fn watered_overlap(n: usize, sides: &[i32; 4], heads: &[i32; 30], overlap: &mut f64) -> u32
     ensures value { result ≡ answer_number (plan_answer (spec.plan_of n sides.now heads.now)) }
     ensures overlap_after { overlap.new ≡ overlap_left (spec.plan_of n sides.now heads.now) overlap.old }

@@ -71,8 +71,8 @@ pub fn watered_open_afresh(
     number_of(open_afresh(plan, &mut tables))
 }
 
-// Head number `head` of the plan gets a new place and radius, and both tables follow; the plan left stands in `heads`.
-// The answer is 0, or the refusal's number (2, 4, 5, 6, 7), which leaves heads and tables.
+// Head number `head` of the plan gets a new place and radius (0 closes it), and both tables follow; the plan left
+// stands in `heads`. The answer is 0, or the refusal's number (2, 4, 5, 6, 7), which leaves heads and tables.
 pub fn watered_edit(
     n: usize,
     sides: &[i32; 4],

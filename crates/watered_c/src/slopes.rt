@@ -48,8 +48,8 @@ pub extern "C" fn watered_open_gradients(
     watered::slopes::watered_open_gradients(n, sides, heads, presence, exclusives, gradients)
 }
 
-// What all heads of the plan water together, without the box, which is checked all the same. The answer is 0, or the
-// refusal's number (2, 4, 5), which leaves `overlap`.
+// What all heads of the plan but the closed ones water together, without the box, which is checked all the same. The
+// answer is 0, or the refusal's number (2, 4, 5), which leaves `overlap`.
 #[unsafe(no_mangle)]
 pub extern "C" fn watered_overlap(
     n: usize,

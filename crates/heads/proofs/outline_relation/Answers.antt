@@ -1,7 +1,7 @@
--- `heads::relation_at` meets its contract: each arm by the two comparisons that led to it (proofs/Decided.antt).
+-- `heads::outline_relation` meets its contract: each arm by the two comparisons that led to it (proofs/Decided.antt).
 use Rattle.std.proofs.Common.{◌+◌, ◌∙◌, arith}
 use Rattle.heads.proofs.Decided.{holding, same, inside, crossing, outside, apart}
-use Rattle.heads.proofs.relation_at.Goals as goal
+use Rattle.heads.proofs.outline_relation.Goals as goal
 
 pub returns-in-Less-default : goal.returns-in-Less-default
 returns-in-Less-default c =

@@ -1,10 +1,10 @@
--- `Circle::contains` meets its contract: where the root alone is above the radius the sum is.
+-- `Circle::covers` meets its contract: where the root alone is above the radius the sum is.
 use Rattle.std.proofs.Common.{sym, ap, ◌∙◌, rules}
 use lib.Ieee.{Float}
 use Rattle.binary64.specs.Floats.{◌+ᶠ◌, ◌≤ᶠ◌}
 use Rattle.elementary.proofs.root.Values.{root_minus}
 use Rattle.geometry.proofs.Roots.{sum_past}
-use Rattle.geometry.proofs.circle.Circle.contains.Goals as goal
+use Rattle.geometry.proofs.circle.Circle.covers.Goals as goal
 
 pub returns-then-root_above : goal.returns-then-root_above
 returns-then-root_above c =

@@ -1,0 +1,4 @@
+pub mod Alike
+pub mod Former
+pub mod Stays
+pub mod Others

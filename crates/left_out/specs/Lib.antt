@@ -1,0 +1,4 @@
+pub mod Circles
+pub mod Tables
+pub mod LeftOut
+pub mod Examples

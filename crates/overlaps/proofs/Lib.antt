@@ -1,0 +1,3 @@
+pub mod Keeping
+pub mod AsBefore
+pub mod Closed
