@@ -44,18 +44,18 @@ module _ (m : Method)
         → InNoSet (m.sets p) j
     no_set p ten ok j h closed S i = found p S ∙ closed_in_no_set p ten ok j h closed S i
 
-    afresh_rowless : LeavesNoRow (afresh_slices m)
+    afresh_no_row : LeavesNoRow (afresh_slices m)
     unfolding afresh_slices
-    afresh_rowless d ten is =
+    afresh_no_row d ten is =
         let p = d.plan in
         let ok = ((call_taken p _ (lent_of d.tables) ten).0 is).0 in
         subst (λ (a : Answered). ClosedHaveNoRow (leaves a d (afresh_left m d))) (sym is)
         (λ j h closed S below i.
         settled_absent p.n (afresh m p) d.tables S below (no_row m p j (no_set p ten ok j h closed) S i))
 
-    edit_rowless : (e : Edit) → LeavesNoRow (λ d. edit_slices m d e)
+    edit_no_row : (e : Edit) → LeavesNoRow (λ d. edit_slices m d e)
     unfolding edit_slices
-    edit_rowless e d ten is =
+    edit_no_row e d ten is =
         let p = d.plan in
         let q = applied p e in
         let F = edited m p e (row_at d.tables.rows) in
@@ -68,9 +68,9 @@ module _ (m : Method)
         settled_absent p.n F d.tables S below
         (no_row_after m p e (row_at d.tables.rows) j (no_set q room ok j h closed) S i)))
 
-    run_rowless : (d : PlanSlices) (es : List Edit) → Fresh m (plan_table d)
+    run_no_row : (d : PlanSlices) (es : List Edit) → Fresh m (plan_table d)
         → ExclusivesOf m d.plan.n (afresh m d.plan) (row_at d.tables.exclusives) → ClosedHaveNoRow (slices_after m d es)
-    run_rowless d es begin exclusives j h closed S below i =
+    run_no_row d es begin exclusives j h closed S below i =
         let end = (run_ends m d es begin).ends in
         let q = book d.plan (entries_of d es) in
         let ok = book_acceptable d.plan (entries_of d es) begin.room ((plan_taken d.plan begin.room).0 begin.taken) in
@@ -83,9 +83,9 @@ module _ (m : Method)
 
 pub closed_head_of_calls : ClosedHeadOfCalls
 closed_head_of_calls = record {
-  afresh = afresh_rowless clipped_table no_exclusive (λ p S. refl);
-  open_afresh = afresh_rowless open_table no_exclusive (λ p S. refl);
-  edit = edit_rowless clipped_table no_exclusive (λ p S. refl);
-  run = run_rowless clipped_table no_exclusive (λ p S. refl);
+  afresh = afresh_no_row clipped_table no_exclusive (λ p S. refl);
+  open_afresh = afresh_no_row open_table no_exclusive (λ p S. refl);
+  edit = edit_no_row clipped_table no_exclusive (λ p S. refl);
+  run = run_no_row clipped_table no_exclusive (λ p S. refl);
   gradients = closed_entries;
 }

@@ -148,21 +148,21 @@ module _ (keeps : List Bool) (p q : Plan) (short : length keeps ≤ p.n) (ten : 
     exclusive_none : (S : ℕ) → NamesLeftOut keeps p.n S → exclusive_rows p.n (afresh m p) S ≡ absent
     exclusive_none S r = rw (row_none S r) refl
 
+    -- both tables, of a method whose exclusives are those of to_exclusive_areas
+    same_table : ((n : ℕ) (rows : ℕ → Row) (S : ℕ) → (m.exclusives).of n rows S ≡ exclusive_rows n rows S)
+        → SameTable m keeps p q
+    same_table is = record {
+      rows = row_same;
+      exclusives = λ S l. is p.n (afresh m p) (spread keeps S) ∙ exclusive_same S l ∙ sym (is q.n (afresh m q) S);
+      absent_rows = row_none;
+      absent_exclusives = λ S r. is p.n (afresh m p) S ∙ exclusive_none S r;
+    }
+
   pub table_same : SameTable clipped_table keeps p q
-  table_same = record {
-    rows = row_same clipped_table (λ r S. refl);
-    exclusives = exclusive_same clipped_table (λ r S. refl);
-    absent_rows = row_none clipped_table (λ r S. refl);
-    absent_exclusives = exclusive_none clipped_table (λ r S. refl);
-  }
+  table_same = same_table clipped_table (λ r S. refl) (λ n rows S. refl)
 
   pub open_table_same : SameTable open_table keeps p q
-  open_table_same = record {
-    rows = row_same open_table (λ r S. refl);
-    exclusives = exclusive_same open_table (λ r S. refl);
-    absent_rows = row_none open_table (λ r S. refl);
-    absent_exclusives = exclusive_none open_table (λ r S. refl);
-  }
+  open_table_same = same_table open_table (λ r S. refl) (λ n rows S. refl)
 
   -- ---- the overlap
 
