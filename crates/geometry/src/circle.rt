@@ -85,7 +85,8 @@ impl Circle {
     pub fn contains(self, other: Circle) -> bool
         ensures { result ≡ spec.contains self other }
     {
-        !self.either_closed(other) && self.covers(other)
+        // Whether one is closed is asked last, here and of a point: most are told apart before.
+        self.covers(other) && !self.either_closed(other)
     }
 
     // The same of the radii as they are.
@@ -104,7 +105,7 @@ impl Circle {
     pub fn contains_point(self, point: Point) -> bool
         ensures { result ≡ spec.contains_point self point }
     {
-        !self.is_closed() && root_at_most(self.center.squared_distance(point), self.radius)
+        root_at_most(self.center.squared_distance(point), self.radius) && !self.is_closed()
     }
 
     // Whether the outlines cross; circles that touch do not, as in the Rust.
