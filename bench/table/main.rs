@@ -69,7 +69,7 @@ fn times<const N: usize>(seconds: f64, all: &mut [Beside], calls: [Call; N]) -> 
 }
 
 fn line(name: &str, rows: usize, [ours, libm, over]: [f64; 3]) {
-    println!("{name:<14}{rows:>6}{ours:>11.1}{libm:>11.1}{over:>11.1}{:>9.2}{:>9.2}", ours / libm, ours / over);
+    println!("{name:<14}{rows:>6}{ours:>11.2}{libm:>11.1}{over:>11.1}{:>9.2}{:>9.2}", ours / libm, ours / over);
 }
 
 fn head(title: &str) {
@@ -93,7 +93,7 @@ fn rows(all: &mut [Beside]) -> usize {
     sum / all.len()
 }
 
-fn kinds(seconds: f64) {
+fn kinds(seconds: f64, timed: impl Fn(&str) -> bool) {
     let calls: [(&str, [Call; 3]); 4] = [
         ("whole table in the box", [|b| b.lent.afresh(), |b| b.libm.afresh(), |b| b.ours.afresh()]),
         ("open", [|b| b.lent.open_afresh(), |b| b.libm.open_afresh(), |b| b.ours.open_afresh()]),
@@ -102,10 +102,13 @@ fn kinds(seconds: f64) {
     ];
     for (title, calls) in calls {
         head(&format!("{title}, 10 heads"));
-        for kind in KINDS {
+        for kind in KINDS.into_iter().filter(|kind| timed(kind.0)) {
             let mut all = some(kind, 10);
             line(kind.0, rows(&mut all), times(seconds, &mut all, calls));
         }
+    }
+    if !timed("dense") {
+        return;
     }
     head("whole table in the box, dense, by heads");
     for n in 1..=10 {
@@ -115,11 +118,11 @@ fn kinds(seconds: f64) {
 }
 
 // Edits there and back, beside our own afresh and the Rust's of the same plan.
-fn edits(seconds: f64) {
+fn edits(seconds: f64, timed: impl Fn(&str) -> bool) {
     println!("\nedits in the box, 10 heads, there and back");
     println!("{:<24}{:>5}{:>11}{:>11}{:>11}{:>10}{:>9}", "", "met", "edit µs", "afresh µs", "libm µs", "to afresh", "to libm");
     let cases: [(&str, fn(usize, &mut Random) -> Plan); 3] = [("dense", dense), ("mixed", mixed), ("random", random)];
-    for (name, kind) in cases {
+    for (name, kind) in cases.into_iter().filter(|case| timed(case.0)) {
         for (what, least, most) in [("meets nobody", 0, 0), ("meets one or two", 1, 2), ("meets many", 4, 9)] {
             let mut random = Random::of(11);
             let moves: Vec<Move> = (0..PLANS).map(|_| a_move(kind, &mut random, least, most)).collect();
@@ -136,13 +139,16 @@ fn edits(seconds: f64) {
             let [both, afresh, libm] = times(seconds, &mut all, calls);
             let (edit, met) = (both / 2.0, moves.iter().map(met).sum::<usize>() as f64 / PLANS as f64);
             let name = format!("{name}, {what}");
-            println!("{name:<24}{met:>5.1}{edit:>11.1}{afresh:>11.1}{libm:>11.1}{:>10.2}{:>9.2}", edit / afresh, edit / libm);
+            println!("{name:<24}{met:>5.1}{edit:>11.2}{afresh:>11.1}{libm:>11.1}{:>10.2}{:>9.2}", edit / afresh, edit / libm);
         }
     }
 }
 
+// SECONDS [KIND..]: for each line; the kinds of plans that are timed, all of them where none is named.
 fn main() {
-    let seconds: f64 = std::env::args().nth(1).and_then(|w| w.parse().ok()).expect("seconds for each line");
-    kinds(seconds);
-    edits(seconds);
+    let words: Vec<String> = std::env::args().skip(1).collect();
+    let seconds: f64 = words.first().and_then(|w| w.parse().ok()).expect("seconds for each line");
+    let timed = |kind: &str| words.len() == 1 || words[1..].iter().any(|w| w == kind);
+    kinds(seconds, timed);
+    edits(seconds, timed);
 }

@@ -35,13 +35,13 @@ heads_spread keeps n T =
     one true j = refl
     one false j = refl
 
--- the elements that pass, of a list moved
-kept_moved : {A B : Type 0} (f : A → A) (p q : A → Bool) (g : A → B) → ((x : A) → p (f x) ≡ q x)
+-- a test after f and another before it that say the same keep the same elements, as seen through g
+kept_of_mapped : {A B : Type 0} (f : A → A) (p q : A → Bool) (g : A → B) → ((x : A) → p (f x) ≡ q x)
     → ((x : A) → g (f x) ≡ g x)
     → (l : List A) → map g (keep p (map f l)) ≡ map g (keep q l)
 unfolding keep
-kept_moved f p q g e s [] = refl
-kept_moved f p q g e s (x ∷ l) = rw (e x) (by (q x) (kept_moved f p q g e s l))
+kept_of_mapped f p q g e s [] = refl
+kept_of_mapped f p q g e s (x ∷ l) = rw (e x) (by (q x) (kept_of_mapped f p q g e s l))
   where
     by : (b : Bool) → map g (keep p (map f l)) ≡ map g (keep q l)
         → map g (cond b (f x ∷ keep p (map f l)) (keep p (map f l))) ≡ map g (cond b (x ∷ keep q l) (keep q l))
@@ -63,7 +63,7 @@ module _ (keeps : List Bool) (n T : ℕ) (low : n ≤ 64) (few : T < 2 ^ kept_be
   unfolding points_for
   points_spread l j =
       ap (take points_held)
-      (kept_moved (renumbered keeps) (counted_for (spread keeps T) (place keeps j)) (counted_for T j) (λ q. q.point)
+      (kept_of_mapped (renumbered keeps) (counted_for (spread keeps T) (place keeps j)) (counted_for T j) (λ q. q.point)
       (counted_spread j) (λ q. refl) l)
 
 pub members_left_out : MembersLeftOut

@@ -246,11 +246,11 @@ module _ (keeps : List Bool) (n : ℕ) (is_single is_single' is_adopters is_adop
 
 -- ---- circles
 
-any_moved : {A : Type 0} (f : A → A) (p q : A → Bool) → ((x : A) → p (f x) ≡ q x) → (l : List A)
+any_of_mapped : {A : Type 0} (f : A → A) (p q : A → Bool) → ((x : A) → p (f x) ≡ q x) → (l : List A)
     → any p (map f l) ≡ any q l
 unfolding any
-any_moved f p q e [] = refl
-any_moved f p q e (x ∷ l) = ap₂ ◌||◌ (e x) (any_moved f p q e l)
+any_of_mapped f p q e [] = refl
+any_of_mapped f p q e (x ∷ l) = ap₂ ◌||◌ (e x) (any_of_mapped f p q e l)
 
 module _ (cs : List Circle) (keeps : List Bool) (closed : OnlyClosedCircles keeps cs) where
   abbrev rest : List Circle
@@ -276,13 +276,13 @@ module _ (cs : List Circle) (keeps : List Bool) (closed : OnlyClosedCircles keep
   adopted : (T : ℕ) → is_adopters_of (collected cs) (spread keeps T) ≡ is_adopters_of (collected rest) T
   adopted T =
       ap (any (λ (q : IntersectionPoint). eqb (spread keeps T) q.adopters)) (points_left_out cs keeps closed)
-      ∙ any_moved (renumbered keeps) (λ q. eqb (spread keeps T) q.adopters) (λ q. eqb T q.adopters)
+      ∙ any_of_mapped (renumbered keeps) (λ q. eqb (spread keeps T) q.adopters) (λ q. eqb T q.adopters)
       (λ q. spread_eqb keeps T q.adopters) (collected rest)
 
   met : (i j : ℕ) → meets_at (collected cs) (place keeps i) (place keeps j) ≡ meets_at (collected rest) i j
   met i j =
       ap (any (parents (place keeps i) (place keeps j))) (points_left_out cs keeps closed)
-      ∙ any_moved (renumbered keeps) (parents (place keeps i) (place keeps j)) (parents i j)
+      ∙ any_of_mapped (renumbered keeps) (parents (place keeps i) (place keeps j)) (parents i j)
       (λ q. ap₂ ◌||◌ (ap₂ ◌&&◌ (place_eqb keeps q.first i) (place_eqb keeps q.second j))
       (ap₂ ◌&&◌ (place_eqb keeps q.first j) (place_eqb keeps q.second i)))
       (collected rest)
