@@ -170,6 +170,11 @@ module _ (keeps : List Bool) where
       shorter : (e : ℕ) → e < length (replicate w zero64) → e < w
       shorter e h = subst (λ (v : ℕ). e < v) (length-replicate w zero64) h
 
+  -- two lists agree where those agree that they are equal to
+  agree_as : {out out' : List Float} (by by' : List Float) → out ≡ by → out' ≡ by' → Agree by by' → Agree out out'
+  agree_as {out} {out'} by by' e e' a =
+      subst (λ (x : List Float). Agree x out') (sym e) (subst (λ (x : List Float). Agree by x) (sym e') a)
+
   clipped_at : (n : ℕ) → length keeps ≤ n → (js : List ℕ) (g : List Float)
       → Agree (scatter_clipped js (kept_below keeps n) g) (scatter_clipped (map (place keeps) js) n g)
   unfolding scatter_clipped
@@ -289,19 +294,83 @@ module _ (keeps : List Bool) (p q : Plan) (short : length keeps ≤ p.n) (ten : 
       ap₂ (λ (x y : ℕ). unless_replaced n (is_there g.rows) (area_at g.rows)
       (λ R. get_or (slopes_at g R) x nan) y) r d
 
+  -- ---- rows with their gradients, of any width, whether there is a row of the box (`b`) or not
+
+  module _ (b : Bool) (box : Plan → Float) (area_of : Plan → ℕ → Float) (width : Plan → ℕ)
+      (gradients : Plan → ℕ → List Float) where
+    abbrev made : Plan → Slopes
+    made r = record {
+      rows = record { has_box = b; box_area = box r; sets = plan_sets r; area = area_of r };
+      width = width r;
+      box_row = gradients r 0;
+      row = gradients r;
+    }
+
+    -- of p and of q they agree, row by row
+    record RowsAgree : Type 0 where
+      box_area : box p ≡ box q
+      area : (S : ℕ) → S < 2 ^ q.n → area_of p (spread keeps S) ≡ area_of q S
+      room : q.n * 3 ≤ width q
+      fits : (e : ℕ) → e < width q → column keeps e < width p
+      many : (S : ℕ) → length (gradients q S) ≡ width q
+      box_row : Agree keeps (gradients q 0) (gradients p 0)
+      row : (S : ℕ) → S < 2 ^ q.n → 0 < S → Agree keeps (gradients q S) (gradients p (spread keeps S))
+
+    module _ (rows : RowsAgree) where
+      areas_same : (S : ℕ) → S < 2 ^ q.n → area_at (made p).rows (spread keeps S) ≡ area_at (made q).rows S
+      areas_same =
+          row_seen (λ x. x) (λ x. x) b (box p) zero64 (area_of p) (box q) zero64 (area_of q) rows.box_area refl
+          (λ S l h. rows.area S l)
+
+      entries_same : (S e : ℕ) → S < 2 ^ q.n → e < width q
+          → get_or (slopes_at (made p) (spread keeps S)) (column keeps e) nan ≡ get_or (slopes_at (made q) S) e nan
+      entries_same S e l h =
+          row_seen (λ (x : List Float). get_or x (column keeps e) nan) (λ (x : List Float). get_or x e nan) b
+          (gradients p 0) (replicate (width p) zero64) (gradients p) (gradients q 0) (replicate (width q) zero64)
+          (gradients q)
+          (rows.box_row.at e (within (gradients q 0) (rows.many 0)))
+          ((zeros_agree keeps (width q) (width p) rows.fits).at e
+          (within (replicate (width q) zero64) (length-replicate (width q) zero64)))
+          (λ U g z. (rows.row U g z).at e (within (gradients q U) (rows.many U))) S l
+        where
+          within : (x : List Float) → length x ≡ width q → e < length x
+          within x many = subst (λ (v : ℕ). e < v) (sym many) h
+
+      slope_same : (S e : ℕ) → S < 2 ^ q.n → e < width q
+          → exclusive_slope p.n (made p) (spread keeps S * width p + column keeps e)
+          ≡ exclusive_slope q.n (made q) (S * width q + e)
+      slope_same S e l h =
+          slope_at p.n (made p) (spread keeps S) (column keeps e) (rows.fits e h)
+          ∙ less_same b (area_at (made p).rows) (area_at (made q).rows) areas_same
+          (λ R. get_or (slopes_at (made p) R) (column keeps e) nan) (λ R. get_or (slopes_at (made q) R) e nan)
+          (λ U g. entries_same U e g h) S l
+          ∙ sym (slope_at q.n (made q) S e h)
+
+      slopes_same : SameSlopes made keeps p q
+      slopes_same = record {
+        present = λ S l. there_same b S;
+        absent = there_none b;
+        absent_areas = less_none b (area_at (made p).rows) (area_at (made p).rows);
+        absent_slopes = λ S e r h.
+            slope_at p.n (made p) S e h
+            ∙ less_none b (area_at (made p).rows) (λ R. get_or (slopes_at (made p) R) e nan) S r;
+        areas = λ S l.
+            less_same b (area_at (made p).rows) (area_at (made q).rows) areas_same (area_at (made p).rows)
+            (area_at (made q).rows) areas_same S l;
+        heads = λ S j i l h g.
+            ap (λ (e : ℕ). exclusive_slope p.n (made p) (spread keeps S * width p + e)) (entry_at keeps j i g)
+            ∙ slope_same S (j * 3 + i) l (omega (arith, rows.room));
+        box = λ S i l h g.
+            ap (λ (e : ℕ). exclusive_slope p.n (made p) (spread keeps S * width p + e))
+            (box_at keeps p.n short i h ∙ ap (λ (n : ℕ). column keeps (n * 3 + i)) (sym w.count))
+            ∙ slope_same S (q.n * 3 + i) l g;
+      }
+
   -- ---- in the box
 
   row_same : (S : ℕ) → S < 2 ^ q.n → clipped_gradient_row p (spread keeps S) ≡ clipped_gradient_row q S
   row_same S l =
       ap₂ (λ (g : Ground) (ms : List Member). clipped_gradient (bounds (box_of g)) ms) (sym w.ground) (members S l)
-
-  clipped_areas : (S : ℕ) → S < 2 ^ q.n
-      → area_at (clipped_plan plan_sets p).rows (spread keeps S) ≡ area_at (clipped_plan plan_sets q).rows S
-  clipped_areas =
-      row_seen (λ x. x) (λ x. x) true (area (box_of p.ground)) zero64 (λ S. (clipped_gradient_row p S).sum)
-      (area (box_of q.ground)) zero64
-      (λ S. (clipped_gradient_row q S).sum) (ap (λ (g : Ground). area (box_of g)) (sym w.ground)) refl
-      (λ S l h. ap (λ (s : WithGradient). s.sum) (row_same S l))
 
   fits : (e : ℕ) → e < q.n * 3 + 4 → column keeps e < p.n * 3 + 4
   fits e h = clipped_fits keeps p.n short e (subst (λ (n : ℕ). e < n * 3 + 4) w.count h)
@@ -309,23 +378,21 @@ module _ (keeps : List Bool) (p q : Plan) (short : length keeps ≤ p.n) (ten : 
   clipped_rows : (S : ℕ) → S < 2 ^ q.n → 0 < S → (b : Bool) → plan_sets q S ≡ b
       → Agree keeps (clipped_gradients plan_sets q S) (clipped_gradients plan_sets p (spread keeps S))
   clipped_rows S l h true e =
-      let T = spread keeps S in
+      let kept = kept_below keeps p.n in
       let g = (clipped_gradient_row q S).grad in
-      let mine = (areas.clipped-gradients plan_sets p).present T (above S h) (sets S ∙ e)
+      agree_as keeps (scatter_clipped (heads_of kept S) kept g)
+      (scatter_clipped (map (place keeps) (heads_of kept S)) p.n g)
+      ((areas.clipped-gradients plan_sets q).present S h e
+      ∙ ap (λ (n : ℕ). scatter_clipped (heads_of n S) n g) w.count)
+      ((areas.clipped-gradients plan_sets p).present (spread keeps S) (above S h) (sets S ∙ e)
       ∙ ap₂ (λ (hs : List ℕ) (x : List Float). scatter_clipped hs p.n x) (heads_spread keeps p.n S)
-      (ap (λ (s : WithGradient). s.grad) (row_same S l)) in
-      let theirs = (areas.clipped-gradients plan_sets q).present S h e
-      ∙ ap (λ (n : ℕ). scatter_clipped (heads_of n S) n g) w.count in
-      subst (λ (x : List Float). Agree keeps (clipped_gradients plan_sets q S) x) (sym mine)
-      (subst (λ (x : List Float). Agree keeps x
-      (scatter_clipped (map (place keeps) (heads_of (kept_below keeps p.n) S)) p.n g)) (sym theirs)
-      (clipped_at keeps p.n short (heads_of (kept_below keeps p.n) S) g))
+      (ap (λ (s : WithGradient). s.grad) (row_same S l)))
+      (clipped_at keeps p.n short (heads_of kept S) g)
   clipped_rows S l h false e =
-      subst (λ (x : List Float). Agree keeps (clipped_gradients plan_sets q S) x)
-      (sym ((areas.clipped-gradients plan_sets p).absent (spread keeps S) (above S h) (sets S ∙ e)))
-      (subst (λ (x : List Float). Agree keeps x (replicate (p.n * 3 + 4) zero64))
-      (sym ((areas.clipped-gradients plan_sets q).absent S h e))
-      (zeros_agree keeps (q.n * 3 + 4) (p.n * 3 + 4) fits))
+      agree_as keeps (replicate (q.n * 3 + 4) zero64) (replicate (p.n * 3 + 4) zero64)
+      ((areas.clipped-gradients plan_sets q).absent S h e)
+      ((areas.clipped-gradients plan_sets p).absent (spread keeps S) (above S h) (sets S ∙ e))
+      (zeros_agree keeps (q.n * 3 + 4) (p.n * 3 + 4) fits)
 
   clipped_box : Agree keeps (clipped_gradients plan_sets q 0) (clipped_gradients plan_sets p 0)
   unfolding clipped_gradients_by
@@ -334,65 +401,21 @@ module _ (keeps : List Bool) (p q : Plan) (short : length keeps ≤ p.n) (ten : 
       (ap₂ (λ (n : ℕ) (g : Ground). scatter_clipped [] n (box_slopes (area (box_of g)))) (sym w.count) (sym w.ground))
       (clipped_at keeps p.n short [] (box_slopes (area (box_of p.ground))))
 
-  clipped_entries : (S e : ℕ) → S < 2 ^ q.n → e < q.n * 3 + 4
-      → get_or (slopes_at (clipped_plan plan_sets p) (spread keeps S)) (column keeps e) nan
-      ≡ get_or (slopes_at (clipped_plan plan_sets q) S) e nan
-  clipped_entries S e l h =
-      row_seen (λ (x : List Float). get_or x (column keeps e) nan) (λ (x : List Float). get_or x e nan) true
-      (clipped_gradients plan_sets p 0)
-      (replicate (p.n * 3 + 4) zero64) (clipped_gradients plan_sets p) (clipped_gradients plan_sets q 0)
-      (replicate (q.n * 3 + 4) zero64)
-      (clipped_gradients plan_sets q)
-      (clipped_box.at e (subst (λ (v : ℕ). e < v) (sym ((areas.clipped-gradients plan_sets q).many 0)) h))
-      ((zeros_agree keeps (q.n * 3 + 4) (p.n * 3 + 4) fits).at e
-      (subst (λ (v : ℕ). e < v) (sym (length-replicate (q.n * 3 + 4) zero64)) h))
-      (λ U g z. (clipped_rows U g z (plan_sets q U) refl).at e
-      (subst (λ (v : ℕ). e < v) (sym ((areas.clipped-gradients plan_sets q).many U)) h)) S l
-
-  clipped_slope : (S e : ℕ) → S < 2 ^ q.n → e < q.n * 3 + 4
-      → exclusive_slope p.n (clipped_plan plan_sets p) (spread keeps S * (p.n * 3 + 4) + column keeps e)
-      ≡ exclusive_slope q.n (clipped_plan plan_sets q) (S * (q.n * 3 + 4) + e)
-  clipped_slope S e l h =
-      slope_at p.n (clipped_plan plan_sets p) (spread keeps S) (column keeps e) (fits e h)
-      ∙ less_same true (area_at (clipped_plan plan_sets p).rows)
-      (area_at (clipped_plan plan_sets q).rows) clipped_areas
-      (λ R. get_or (slopes_at (clipped_plan plan_sets p) R) (column keeps e) nan)
-      (λ R. get_or (slopes_at (clipped_plan plan_sets q) R) e nan)
-      (λ U g. clipped_entries U e g h) S l
-      ∙ sym (slope_at q.n (clipped_plan plan_sets q) S e h)
-
   pub gradients_same : SameSlopes (clipped_plan plan_sets) keeps p q
-  gradients_same = record {
-    present = λ S l. there_same true S;
-    absent = there_none true;
-    absent_areas =
-        less_none true (area_at (clipped_plan plan_sets p).rows) (area_at (clipped_plan plan_sets p).rows);
-    absent_slopes = λ S e r h.
-        slope_at p.n (clipped_plan plan_sets p) S e h
-        ∙ less_none true (area_at (clipped_plan plan_sets p).rows)
-        (λ R. get_or (slopes_at (clipped_plan plan_sets p) R) e nan) S r;
-    areas =
-        λ S l. less_same true (area_at (clipped_plan plan_sets p).rows)
-        (area_at (clipped_plan plan_sets q).rows) clipped_areas
-        (area_at (clipped_plan plan_sets p).rows) (area_at (clipped_plan plan_sets q).rows) clipped_areas S l;
-    heads = λ S j i l h g.
-        ap (λ (e : ℕ). exclusive_slope p.n (clipped_plan plan_sets p) (spread keeps S * (p.n * 3 + 4) + e))
-        (entry_at keeps j i g)
-        ∙ clipped_slope S (j * 3 + i) l (omega arith);
-    box = λ S i l h g.
-        ap (λ (e : ℕ). exclusive_slope p.n (clipped_plan plan_sets p) (spread keeps S * (p.n * 3 + 4) + e))
-        (box_at keeps p.n short i h ∙ ap (λ (n : ℕ). column keeps (n * 3 + i)) (sym w.count))
-        ∙ clipped_slope S (q.n * 3 + i) l (omega arith);
-  }
+  gradients_same =
+      slopes_same true (λ r. area (box_of r.ground)) (λ r S. (clipped_gradient_row r S).sum) (λ r. r.n * 3 + 4)
+      (clipped_gradients plan_sets)
+      (record {
+        box_area = ap (λ (g : Ground). area (box_of g)) (sym w.ground);
+        area = λ S l. ap (λ (s : WithGradient). s.sum) (row_same S l);
+        room = omega arith;
+        fits = fits;
+        many = (areas.clipped-gradients plan_sets q).many;
+        box_row = clipped_box;
+        row = λ S l h. clipped_rows S l h (plan_sets q S) refl;
+      })
 
   -- ---- without the box
-
-  open_areas : (S : ℕ) → S < 2 ^ q.n
-      → area_at (open_plan plan_sets p).rows (spread keeps S) ≡ area_at (open_plan plan_sets q).rows S
-  open_areas =
-      row_seen (λ x. x) (λ x. x) false zero64 zero64 (λ S. open_area (plan_members p S)) zero64 zero64
-      (λ S. open_area (plan_members q S)) refl refl
-      (λ S l h. ap open_area (members S l))
 
   fits_open : (e : ℕ) → e < 3 * q.n → column keeps e < 3 * p.n
   fits_open e h = open_fits keeps p.n short e (subst (λ (n : ℕ). e < 3 * n) w.count h)
@@ -400,68 +423,32 @@ module _ (keeps : List Bool) (p q : Plan) (short : length keeps ≤ p.n) (ten : 
   open_rows : (S : ℕ) → S < 2 ^ q.n → 0 < S → (b : Bool) → plan_sets q S ≡ b
       → Agree keeps (open_gradients plan_sets q S) (open_gradients plan_sets p (spread keeps S))
   open_rows S l h true e =
-      let T = spread keeps S in
+      let kept = kept_below keeps p.n in
       let g = open_gradient_row q S in
-      let mine = (areas.open-gradients plan_sets p).present T (above S h) (sets S ∙ e)
+      agree_as keeps (scatter (heads_of kept S) kept g) (scatter (map (place keeps) (heads_of kept S)) p.n g)
+      ((areas.open-gradients plan_sets q).present S h e ∙ ap (λ (n : ℕ). scatter (heads_of n S) n g) w.count)
+      ((areas.open-gradients plan_sets p).present (spread keeps S) (above S h) (sets S ∙ e)
       ∙ ap₂ (λ (hs : List ℕ) (x : List Float). scatter hs p.n x) (heads_spread keeps p.n S)
-      (ap open_gradient (members S l)) in
-      let theirs = (areas.open-gradients plan_sets q).present S h e
-      ∙ ap (λ (n : ℕ). scatter (heads_of n S) n g) w.count in
-      subst (λ (x : List Float). Agree keeps (open_gradients plan_sets q S) x) (sym mine)
-      (subst (λ (x : List Float). Agree keeps x
-      (scatter (map (place keeps) (heads_of (kept_below keeps p.n) S)) p.n g)) (sym theirs)
-      (open_at keeps p.n short (heads_of (kept_below keeps p.n) S) g))
+      (ap open_gradient (members S l)))
+      (open_at keeps p.n short (heads_of kept S) g)
   open_rows S l h false e =
-      subst (λ (x : List Float). Agree keeps (open_gradients plan_sets q S) x)
-      (sym ((areas.open-gradients plan_sets p).absent (spread keeps S) (above S h) (sets S ∙ e)))
-      (subst (λ (x : List Float). Agree keeps x (replicate (3 * p.n) zero64))
-      (sym ((areas.open-gradients plan_sets q).absent S h e))
-      (zeros_agree keeps (3 * q.n) (3 * p.n) fits_open))
-
-  open_entries : (S e : ℕ) → S < 2 ^ q.n → e < 3 * q.n
-      → get_or (slopes_at (open_plan plan_sets p) (spread keeps S)) (column keeps e) nan
-      ≡ get_or (slopes_at (open_plan plan_sets q) S) e nan
-  open_entries S e l h =
-      let zeros = (zeros_agree keeps (3 * q.n) (3 * p.n) fits_open).at e
-      (subst (λ (v : ℕ). e < v) (sym (length-replicate (3 * q.n) zero64)) h) in
-      row_seen (λ (x : List Float). get_or x (column keeps e) nan) (λ (x : List Float). get_or x e nan) false
-      (open_gradients plan_sets p 0)
-      (replicate (3 * p.n) zero64) (open_gradients plan_sets p) (open_gradients plan_sets q 0)
-      (replicate (3 * q.n) zero64)
-      (open_gradients plan_sets q)
-      (ap (λ (x : List Float). get_or x (column keeps e) nan) (areas.open-gradients plan_sets p).none ∙ zeros
-      ∙ sym (ap (λ (x : List Float). get_or x e nan) (areas.open-gradients plan_sets q).none))
-      zeros
-      (λ U g z. (open_rows U g z (plan_sets q U) refl).at e
-      (subst (λ (v : ℕ). e < v) (sym ((areas.open-gradients plan_sets q).many U)) h)) S l
-
-  open_slope : (S e : ℕ) → S < 2 ^ q.n → e < 3 * q.n
-      → exclusive_slope p.n (open_plan plan_sets p) (spread keeps S * (3 * p.n) + column keeps e)
-      ≡ exclusive_slope q.n (open_plan plan_sets q) (S * (3 * q.n) + e)
-  open_slope S e l h =
-      slope_at p.n (open_plan plan_sets p) (spread keeps S) (column keeps e) (fits_open e h)
-      ∙ less_same false (area_at (open_plan plan_sets p).rows) (area_at (open_plan plan_sets q).rows) open_areas
-      (λ R. get_or (slopes_at (open_plan plan_sets p) R) (column keeps e) nan)
-      (λ R. get_or (slopes_at (open_plan plan_sets q) R) e nan)
-      (λ U g. open_entries U e g h) S l
-      ∙ sym (slope_at q.n (open_plan plan_sets q) S e h)
+      agree_as keeps (replicate (3 * q.n) zero64) (replicate (3 * p.n) zero64)
+      ((areas.open-gradients plan_sets q).absent S h e)
+      ((areas.open-gradients plan_sets p).absent (spread keeps S) (above S h) (sets S ∙ e))
+      (zeros_agree keeps (3 * q.n) (3 * p.n) fits_open)
 
   pub open_gradients_same : SameSlopes (open_plan plan_sets) keeps p q
-  open_gradients_same = record {
-    present = λ S l. there_same false S;
-    absent = there_none false;
-    absent_areas = less_none false (area_at (open_plan plan_sets p).rows) (area_at (open_plan plan_sets p).rows);
-    absent_slopes = λ S e r h.
-        slope_at p.n (open_plan plan_sets p) S e h
-        ∙ less_none false (area_at (open_plan plan_sets p).rows)
-        (λ R. get_or (slopes_at (open_plan plan_sets p) R) e nan) S r;
-    areas =
-        λ S l. less_same false (area_at (open_plan plan_sets p).rows)
-        (area_at (open_plan plan_sets q).rows) open_areas
-        (area_at (open_plan plan_sets p).rows) (area_at (open_plan plan_sets q).rows) open_areas S l;
-    heads = λ S j i l h g.
-        ap (λ (e : ℕ). exclusive_slope p.n (open_plan plan_sets p) (spread keeps S * (3 * p.n) + e))
-        (entry_at keeps j i g)
-        ∙ open_slope S (j * 3 + i) l (omega arith);
-    box = λ S i l h g. absurd (omega arith);
-  }
+  open_gradients_same =
+      slopes_same false (λ r. zero64) (λ r S. open_area (plan_members r S)) (λ r. 3 * r.n) (open_gradients plan_sets)
+      (record {
+        box_area = refl;
+        area = λ S l. ap open_area (members S l);
+        room = omega arith;
+        fits = fits_open;
+        many = (areas.open-gradients plan_sets q).many;
+        box_row =
+            agree_as keeps (replicate (3 * q.n) zero64) (replicate (3 * p.n) zero64)
+            (areas.open-gradients plan_sets q).none (areas.open-gradients plan_sets p).none
+            (zeros_agree keeps (3 * q.n) (3 * p.n) fits_open);
+        row = λ S l h. open_rows S l h (plan_sets q S) refl;
+      })
