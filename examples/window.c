@@ -29,9 +29,10 @@ static const char *words(uint32_t answer)
     case WATERED_TAKEN: return "taken";
     case WATERED_TOO_MANY_HEADS: return "there are more than ten heads";
     case WATERED_COORDINATE_OUTSIDE: return "x or y is outside -20000 to 20000";
-    case WATERED_SIZE_OUTSIDE: return "a side is outside 1 to 40000 or a radius outside 0 to 20000";
+    case WATERED_SIZE_OUTSIDE: return "a side of the box is outside 1 to 40000";
     case WATERED_NO_SUCH_HEAD: return "there is no head of this number";
     case WATERED_TABLES_TOO_SHORT: return "the tables are too short";
+    case WATERED_RADIUS_OUTSIDE: return "a radius is outside 0 to 20000";
     default: return "a number that this program does not know";
     }
 }

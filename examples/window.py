@@ -13,9 +13,10 @@ HEADS = 10
 WORDS = {
     2: 'there are more than ten heads',
     4: 'x or y is outside -20000 to 20000',
-    5: 'a side is outside 1 to 40000 or a radius outside 0 to 20000',
+    5: 'a side of the box is outside 1 to 40000',
     6: 'there is no head of this number',
     7: 'the tables are too short',
+    11: 'a radius is outside 0 to 20000',
 }
 
 PLAN = [size, POINTER(i32), POINTER(i32)]  # n, box, heads

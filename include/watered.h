@@ -35,7 +35,8 @@
  * ---- What is written
  *
  * Each call over plans answers 0 (WATERED_TAKEN), or the number of the first check that failed, the refusal (watered_run gives such answers in a
- * list). Checks come in the order n; box; heads, each by x, y, radius; the edit's head number, x, y, radius; the lengths of all tables lent.
+ * list). Checks come in the order n; box; heads, each by x, y, radius; the edit's head number, x, y, radius; the lengths of all tables lent. The
+ * numbers do not follow this order.
  *
  *   taken    elements 0 to WATERED_ROWS(n) - 1 of every table lent are written, whatever stood there; what stands beyond them stays.
  *   refused  A REFUSED CALL CHANGES NOTHING: every table, `heads` and *overlap keep their values.
@@ -82,25 +83,27 @@ extern "C" {
 #define WATERED_TOO_MANY_HEADS 2
 /* x or y of the box, of a head or of the edit is outside -20000 to 20000 */
 #define WATERED_COORDINATE_OUTSIDE 4
-/* a side of the box is outside 1 to 40000, or a radius, the edit's too, is below 0 or above 20000; radius 0 is taken, that of a closed head */
+/* a side of the box is outside 1 to 40000; an edit's own values never give this */
 #define WATERED_SIZE_OUTSIDE 5
 /* the edit's head number is not below n */
 #define WATERED_NO_SUCH_HEAD 6
 /* a table has fewer than WATERED_ROWS(n) bytes or numbers, or the gradients have too few numbers */
 #define WATERED_TABLES_TOO_SHORT 7
+/* the radius of a head or of the edit is below 0 or above 20000 (libraries before 1.1.0 answered 5); radius 0 is taken, that of a closed head */
+#define WATERED_RADIUS_OUTSIDE 11
 /* 1 and 3 are refusals of plan files, which no call here gives. */
 
 /* ---- tables of a plan */
 
 /* Both tables of a plan in its box, worked out from the plan alone: writes rows 0 to WATERED_ROWS(n) - 1 of `presence` and `rows` (the first
- * table) and of `exclusive_presence` and `exclusives` (the second). The four counts may differ. Refusals 2, 4, 5, 7. */
+ * table) and of `exclusive_presence` and `exclusives` (the second). The four counts may differ. Refusals 2, 4, 5, 7, 11. */
 uint32_t watered_afresh(size_t n, const int32_t box[4], const int32_t heads[30],
                         uint8_t *presence, size_t presence_count, double *rows, size_t rows_count,
                         uint8_t *exclusive_presence, size_t exclusive_presence_count,
                         double *exclusives, size_t exclusives_count);
 
 /* The same without the box, whose fields are checked all the same: row 0 is absent, and ground outside the box counts. watered_edit is not for
- * these tables: it works in the box. Refusals 2, 4, 5, 7. */
+ * these tables: it works in the box. Refusals 2, 4, 5, 7, 11. */
 uint32_t watered_open_afresh(size_t n, const int32_t box[4], const int32_t heads[30],
                              uint8_t *presence, size_t presence_count, double *rows, size_t rows_count,
                              uint8_t *exclusive_presence, size_t exclusive_presence_count,
@@ -117,19 +120,19 @@ uint32_t watered_open_afresh(size_t n, const int32_t box[4], const int32_t heads
  *
  * Absent rows have +0 throughout, and every row, row 0 too, has +0 by the three numbers of a closed head. An exclusive below zero becomes +0, and
  * its gradient row all +0; no other number is replaced.
- * `gradients_count` is a number of numbers, at least WATERED_GRADIENTS(n). Refusals 2, 4, 5, 7. */
+ * `gradients_count` is a number of numbers, at least WATERED_GRADIENTS(n). Refusals 2, 4, 5, 7, 11. */
 uint32_t watered_gradients(size_t n, const int32_t box[4], const int32_t heads[30],
                            uint8_t *presence, size_t presence_count, double *exclusives, size_t exclusives_count,
                            double *gradients, size_t gradients_count);
 
 /* The same without the box, whose fields are checked all the same: row 0 is absent, and row S begins at S*3n, with no entries of the box.
- * `gradients_count` is at least WATERED_OPEN_GRADIENTS(n), which is 0 for no heads; the pointer is not NULL even then. Refusals 2, 4, 5, 7. */
+ * `gradients_count` is at least WATERED_OPEN_GRADIENTS(n), which is 0 for no heads; the pointer is not NULL even then. Refusals 2, 4, 5, 7, 11. */
 uint32_t watered_open_gradients(size_t n, const int32_t box[4], const int32_t heads[30],
                                 uint8_t *presence, size_t presence_count, double *exclusives, size_t exclusives_count,
                                 double *gradients, size_t gradients_count);
 
 /* Writes *overlap: the area that all heads but the closed ones water together, without the box, whose fields are checked all the same, in square
- * centimetres; 0 where there is no such head. Refusals 2, 4, 5. */
+ * centimetres; 0 where there is no such head. Refusals 2, 4, 5, 11. */
 uint32_t watered_overlap(size_t n, const int32_t box[4], const int32_t heads[30], double *overlap);
 
 /* ---- edits
@@ -143,7 +146,7 @@ uint32_t watered_overlap(size_t n, const int32_t box[4], const int32_t heads[30]
  * present keeps its number as it was handed in, and so does row 0. The exclusives are worked out from the rows left. */
 
 /* Head number `head`, from 0, gets the place (x, y) and the radius: writes the three numbers into `heads`, and rows 0 to WATERED_ROWS(n) - 1 of
- * both tables. Refusals 2, 4, 5, 6, 7, after which `heads` and the tables are as they were. */
+ * both tables. Refusals 2, 4, 5, 6, 7, 11, after which `heads` and the tables are as they were. */
 uint32_t watered_edit(size_t n, const int32_t box[4], int32_t heads[30],
                       size_t head, int32_t x, int32_t y, int32_t radius,
                       uint8_t *presence, size_t presence_count, double *rows, size_t rows_count,
@@ -151,7 +154,7 @@ uint32_t watered_edit(size_t n, const int32_t box[4], int32_t heads[30],
                       double *exclusives, size_t exclusives_count);
 
 /* A list of edits, each tried on what the one before left; a refused one leaves all as it was and the list goes on. Edit i is edit_heads[i],
- * x[i], y[i], radius[i]. Writes answers[i], 0 or the refusal's number (2, 4, 5, 6, 7) as watered_edit would answer, and leaves `heads` and the
+ * x[i], y[i], radius[i]. Writes answers[i], 0 or the refusal's number (2, 4, 5, 6, 7, 11) as watered_edit would answer, and leaves `heads` and the
  * tables as those calls would: a plan that is refused, or a table that is too short, refuses every edit.
  *
  * Gives no answer of its own but how many edits were tried: as many as the shortest of the five lists allows, `answers` among them, so a result

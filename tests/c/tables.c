@@ -308,8 +308,8 @@ static const struct {
     uint32_t answer;
 } wrong[] = {
     {0, 11, 2},     {0, INT64_MAX, 2}, {1, 20001, 4}, {2, -20001, 4},    {3, 0, 5},     {3, 40001, 5},  {4, -1, 5}, {4, INT32_MAX, 5},
-    {5, 20001, 4},  {6, -20001, 4},    {7, -1, 5},    {7, 20001, 5},     {32, 20001, 4}, {34, -1, 5},   {33, INT32_MIN, 4},
-    {7, INT32_MIN, 5},
+    {5, 20001, 4},  {6, -20001, 4},    {7, -1, 11},   {7, 20001, 11},    {32, 20001, 4}, {34, -1, 11},  {33, INT32_MIN, 4},
+    {7, INT32_MIN, 11}, {34, INT32_MAX, 11},
 };
 
 static const struct {
@@ -318,15 +318,20 @@ static const struct {
 } taken[] = {{0, 10}, {1, 20000}, {2, -20000}, {3, 1}, {3, 40000}, {4, 40000}, {5, 20000}, {6, -20000}, {7, 0},
              {7, 1},  {7, 20000}, {34, 0},     {34, 20000}};
 
+static void put(plan *p, int at, int64_t value)
+{
+    if (at == 0)
+        p->n = (size_t)value;
+    else if (at < 5)
+        p->box[at - 1] = (int32_t)value;
+    else
+        p->heads[at - 5] = (int32_t)value;
+}
+
 static plan changed(int at, int64_t value)
 {
     plan p = plan_of(10, 0);
-    if (at == 0)
-        p.n = (size_t)value;
-    else if (at < 5)
-        p.box[at - 1] = (int32_t)value;
-    else
-        p.heads[at - 5] = (int32_t)value;
+    put(&p, at, value);
     return p;
 }
 
@@ -577,6 +582,41 @@ static void refusals(void)
     }
 }
 
+/* The names of the header, by the numbers of document 01 and, of a radius, of document 02, slip 6. */
+static void names(void)
+{
+    expect(WATERED_TAKEN == 0 && WATERED_TOO_MANY_HEADS == 2 && WATERED_COORDINATE_OUTSIDE == 4 && WATERED_SIZE_OUTSIDE == 5 &&
+               WATERED_NO_SUCH_HEAD == 6 && WATERED_TABLES_TOO_SHORT == 7 && WATERED_RADIUS_OUTSIDE == 11,
+           "a name of the header", 0, 0);
+}
+
+/* Of two values outside their limits the first in reading order gives the answer: x and y 4, a side 5, a radius 11. */
+static void both_outside(void)
+{
+    static const struct {
+        int at[2];
+        int32_t value[2];
+        uint32_t answer;
+    } two[] = {
+        {{3, 7}, {0, -1}, 5},      {{4, 7}, {40001, 20001}, 5}, {{2, 3}, {20001, 0}, 4},     {{3, 5}, {-1, 20001}, 5},
+        {{7, 8}, {-1, 20001}, 11}, {{6, 7}, {20001, -1}, 4},    {{10, 12}, {20001, -20001}, 11}, {{9, 10}, {-20001, -1}, 4},
+        {{4, 34}, {0, -1}, 5},     {{7, 34}, {-1, -1}, 11},     {{31, 32}, {-1, 20001}, 11}, {{32, 34}, {20001, -1}, 4},
+    };
+    for (size_t i = 0; i < sizeof two / sizeof *two; i++) {
+        plan p = changed(two[i].at[0], two[i].value[0]), handed;
+        put(&p, two[i].at[1], two[i].value[1]);
+        handed = p;
+        tables t = lend_same(3);
+        expect(work_out(watered_afresh, &p, &t) == two[i].answer, "the first of two values outside", 10, (long)i);
+        expect(work_out(watered_open_afresh, &p, &t) == two[i].answer, "the first of two values outside, without the box", 10, (long)i);
+        /* whatever is wrong with the edit comes after the plan */
+        expect(watered_edit(p.n, p.box, p.heads, 99, 0, 0, 1, LENT(&t)) == two[i].answer, "the first of two values outside, by an edit", 10, (long)i);
+        expect(watered_edit(p.n, p.box, p.heads, 0, 0, 0, -1, LENT(&t)) == two[i].answer, "the first of two values outside, by an edit", 10, (long)i);
+        expect(all_stay(&t) && !memcmp(&p, &handed, sizeof p), "a refused call wrote", 10, (long)i);
+        give_back_tables(&t);
+    }
+}
+
 /* An edit's checks, in order: head number, x, y, radius, lengths. */
 static void edit_refusals(void)
 {
@@ -586,9 +626,9 @@ static void edit_refusals(void)
         size_t rows;
         uint32_t answer;
     } tried[] = {
-        {3, 20001, 0, -1, 0, 6},  {SIZE_MAX, 0, 0, 1, 8, 6}, {0, 20001, 0, -1, 0, 4}, {0, 0, -20001, -1, 0, 4}, {1, 0, 0, -1, 0, 5},
-        {1, 0, 0, 20001, 8, 5},   {2, 0, 0, 1, 7, 7},        {2, 0, 0, 1, 0, 7},      {2, 20000, -20000, 20000, 8, 0},
-        {2, INT32_MIN, 0, 1, 8, 4}, {2, 0, 0, INT32_MIN, 8, 5}, {1, 0, 0, -1, 8, 5},  {1, 0, 0, 0, 7, 7},       {1, 0, 0, 0, 8, 0},
+        {3, 20001, 0, -1, 0, 6},  {SIZE_MAX, 0, 0, 1, 8, 6}, {0, 20001, 0, -1, 0, 4}, {0, 0, -20001, -1, 0, 4}, {1, 0, 0, -1, 0, 11},
+        {1, 0, 0, 20001, 8, 11},  {2, 0, 0, 1, 7, 7},        {2, 0, 0, 1, 0, 7},      {2, 20000, -20000, 20000, 8, 0},
+        {2, INT32_MIN, 0, 1, 8, 4}, {2, 0, 0, INT32_MIN, 8, 11}, {1, 0, 0, -1, 8, 11}, {1, 0, 0, 0, 7, 7},      {1, 0, 0, 0, 8, 0},
         {1, 20001, 0, 0, 8, 4},   {3, 0, 0, 0, 8, 6},
     };
     for (size_t i = 0; i < sizeof tried / sizeof *tried; i++) {
@@ -626,7 +666,9 @@ int main(void)
         closed_heads(n);
     }
     overlaps();
+    names();
     refusals();
+    both_outside();
     edit_refusals();
     printf("%lu checks of the calls over plans, %lu faults\n", checks, faults);
     return faults != 0;

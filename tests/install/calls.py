@@ -45,6 +45,33 @@ def of_rust(text):
     return {name: [RUST_TYPES[gives]] + [RUST_TYPES.get(plain(one), plain(one)) for one in takes.split(',')] for name, takes, gives in found}
 
 
+def refusals_of_header(text):
+    """The refusals that watered.h names, {number: name}."""
+    named = {int(number): name for name, number in re.findall(r'^#define (WATERED_[A-Z_]+) (\d+)$', text, re.M)}
+    return {number: name for number, name in named.items() if name != 'WATERED_HEADS' and number}
+
+
+def refusals_of_calls(text):
+    """{call: the refusals that the comment before it lists} of watered.h, for those that list some."""
+    found = re.findall(r"(?:Refusals|the refusal's number \() ?([\d, ]+)(?:(?!\*/).)*\*/\n\w+ (watered_\w+)\(", text, re.S)
+    return {name: {int(number) for number in re.findall(r'\d+', listed)} for listed, name in found}
+
+
+def section(text, title):
+    """What stands below a heading of a document, up to the next."""
+    return text.split('\n## %s\n' % title)[1].split('\n## ')[0]
+
+
+def refusals_of_scope(text):
+    """The numbers of docs/SCOPE.md's table of refusals, the third column."""
+    return {int(number) for number in re.findall(r'^\|[^|]+\|[^|]+\| (\d+) \|[^|]+\|$', section(text, 'Refusals'), re.M)}
+
+
+def refusals_of_readme(text):
+    """The numbers of README's table of refusals, the first column."""
+    return {int(number) for number in re.findall(r'^\| (\d+) \|', section(text, 'What is taken, and what is refused'), re.M)}
+
+
 def plain_ctype(kind):
     return CTYPES[kind] if kind in CTYPES else CTYPES[kind._type_] + '*'
 

@@ -31,7 +31,7 @@ def lines():
     heads[2] = [450, 300, 300]
     yield from table(heads)
     yield ''
-    yield 'head 1 to (150, -80), radius -1: refused 5, a side is outside 1 to 40000 or a radius outside 0 to 20000'
+    yield 'head 1 to (150, -80), radius -1: refused 11, a radius is outside 0 to 20000'
     yield '  nothing changed'
     yield ''
     yield 'head 1 to (150, -80), radius 0: taken'

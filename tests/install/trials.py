@@ -112,6 +112,30 @@ see('window.rs: %d of them, with these types' % len(rust), different({name: head
 told = set(re.findall(r'`(watered_\w+)`', (ROOT / 'README.md').read_text())) - {crate.name for crate in (ROOT / 'crates').iterdir()}
 see("README's table has them", others(header, told))
 
+# ---- the refusals, in every place that lists them
+
+NOT_OF_CALLS = {1, 3}   # the end of a file, and a bit that has no field
+SOME = {2, 4, 5, 11}    # by document 01 and document 02, slip 6: those of every plan; with lent tables 7; with an edit 6
+OF_CALLS = {'watered_overlap': SOME, 'watered_edit': SOME | {6, 7}, 'watered_run': SOME | {6, 7}}
+OF_CALLS.update(dict.fromkeys(['watered_afresh', 'watered_open_afresh', 'watered_gradients', 'watered_open_gradients'], SOME | {7}))
+WORDS = {5: 'a side of the box is outside 1 to 40000', 11: 'a radius is outside 0 to 20000'}
+
+scope = calls.refusals_of_scope((ROOT / 'docs' / 'SCOPE.md').read_text())
+readme = calls.refusals_of_readme((ROOT / 'README.md').read_text())
+see("README's table of refusals has the %d numbers of docs/SCOPE.md" % len(scope), others(map(str, scope), map(str, readme)) or ('' if scope else 'none'))
+header_text = (PREFIX / 'include' / 'watered.h').read_text()
+named = calls.refusals_of_header(header_text)
+see('the header names those that calls give', others(map(str, scope - NOT_OF_CALLS), map(str, named)))
+see('and lists at each call those that it gives', different(OF_CALLS, calls.refusals_of_calls(header_text)))
+pairs = {'rs': r'^ +(\d+) => "(.*)",$', 'py': r"^    (\d+): '(.*)',$", 'c': r'^    case (WATERED_\w+): return "(.*)";$'}
+words = {kind: dict(re.findall(pair, (ROOT / 'examples' / ('window.' + kind)).read_text(), re.M)) for kind, pair in pairs.items()}
+words['c'] = {str(number): words['c'].get(name) for number, name in named.items()}
+see('window.rs, window.py and window.c have words for each', ', '.join(kind for kind in words if set(words[kind]) != set(map(str, named))))
+see('and the same words', ', '.join(kind for kind in words if words[kind] != words['py']))
+see('which say what was wrong', different({str(number): said for number, said in WORDS.items()}, {number: words['py'][number] for number in ('5', '11')}))
+
+# ---- what the shared library and the archive are made of
+
 dynamic = must('readelf', '-d', SHARED)
 see('the soname is the name of the file', '' if '[%s]' % SHARED.name in re.search(r'.*SONAME.*', dynamic).group() else dynamic)
 needs = set(re.findall(r'NEEDED.*\[([a-z]+)', dynamic))

@@ -194,7 +194,7 @@ def main():
         answers[answer] = answers.get(answer, 0) + 1
     print('%7d files in %.0f s, the slowest run %.3f s: %s' % (
         count, time.monotonic() - began, slowest, ', '.join('%d %s' % (answers[answer], answer) for answer in sorted(answers, reverse=True))))
-    for answer in ['taken'] + ['refused %d' % number for number in range(1, 7)]:
+    for answer in ['taken'] + ['refused %d' % number for number in trials.OF_FILES]:
         CHECKS.see('answers of which there are some', None if answers.get(answer, 0) * 200 >= count else 'too few are %s' % answer)
     CHECKS.end()
 

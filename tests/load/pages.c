@@ -203,7 +203,7 @@ static void refused_plans(const call *c, const plan *good)
         int at; /* 0 to 3 the box, 4 to 33 the heads */
         int32_t value;
         uint32_t answer;
-    } wrong[] = {{0, 20001, 4}, {1, -20001, 4}, {2, 0, 5}, {3, 40001, 5}, {4, INT32_MIN, 4}, {5, INT32_MAX, 4}, {6, -1, 5}, {33, 20001, 5}};
+    } wrong[] = {{0, 20001, 4}, {1, -20001, 4}, {2, 0, 5}, {3, 40001, 5}, {4, INT32_MIN, 4}, {5, INT32_MAX, 4}, {6, -1, 11}, {33, 20001, 11}};
     static const size_t too_many[3] = {11, 64, SIZE_MAX};
     for (size_t i = 0; i < sizeof wrong / sizeof *wrong; i++) {
         plan p = *good;
@@ -224,7 +224,7 @@ static void refused_edits(const call *c, const plan *good)
         size_t head;
         int32_t x, y, radius;
         uint32_t answer;
-    } wrong[] = {{10, 0, 0, 1, 6}, {SIZE_MAX, 0, 0, 1, 6}, {0, 20001, 0, 1, 4}, {9, 0, -20001, 1, 4}, {0, 0, 0, -1, 5}, {9, 0, 0, 20001, 5}};
+    } wrong[] = {{10, 0, 0, 1, 6}, {SIZE_MAX, 0, 0, 1, 6}, {0, 20001, 0, 1, 4}, {9, 0, -20001, 1, 4}, {0, 0, 0, -1, 11}, {9, 0, 0, 20001, 11}};
     for (size_t i = 0; i < sizeof wrong / sizeof *wrong; i++) {
         plan p = *good;
         for (int k = 0; k < EDITS; k++) {

@@ -1,5 +1,6 @@
 """Trials of the plan library, with the answers worked out here from document 01 ("Plan file and checks in order", "Edits in
-a list") as it stands now (docs/SCOPE.md: a radius begins at 0), and from nothing of the library's own code.
+a list") as the requests changed it (a radius begins at 0, and outside its limits it is refused under 11: document 02, slips 3 and 6), and from
+nothing of the library's own code.
 
 A trial is a plan file or a call in memory, in the form that the program `cases` reads (crates/cases/src/main.rt).
 
@@ -15,8 +16,10 @@ import sys
 
 ROOT = os.path.dirname(os.path.dirname(os.path.dirname(os.path.abspath(__file__))))
 
-# Document 01's table; a head of radius 0 is closed, and taken like any other.
-ENDED, TOO_MANY, BIT, COORDINATE, SIDE, RADIUS, NO_HEAD, TABLES = 1, 2, 3, 4, 5, 5, 6, 7
+# Document 01's table; document 02, slip 3: a head of radius 0 is closed, and taken like any other; slip 6: "11, a radius below 0 or above 20000".
+ENDED, TOO_MANY, BIT, COORDINATE, SIDE, NO_HEAD, TABLES, RADIUS = 1, 2, 3, 4, 5, 6, 7, 11
+# Those that a file can have; 7 is of lent tables.
+OF_FILES = (ENDED, TOO_MANY, BIT, COORDINATE, SIDE, NO_HEAD, RADIUS)
 LIMITS = {'coordinate': (-20000, 20000, COORDINATE), 'side': (1, 40000, SIDE), 'radius': (0, 20000, RADIUS)}
 BOX = ['coordinate', 'coordinate', 'side', 'side']
 HEAD = ['coordinate', 'coordinate', 'radius']
@@ -227,7 +230,7 @@ def fixed_files():
     # every truncation: refusal 1 at every offset
     for end in range(len(sample)):
         yield sample[:end]
-    # refusals 4 and 5 at every field, from the first to the last, and the limits themselves
+    # refusals 4, 5 and 11 at every field, from the first to the last, and the limits themselves
     for part, kinds in [(SAMPLE_BOX, BOX)] + [(h, HEAD) for h in SAMPLE_HEADS] + [(h, HEAD) for _, h in SAMPLE_EDITS]:
         for i, kind in enumerate(kinds):
             kept = part[i]
@@ -253,6 +256,13 @@ def fixed_files():
         yield plan_file(SAMPLE_BOX, SAMPLE_HEADS + [pick])
         yield plan_file(SAMPLE_BOX, SAMPLE_HEADS, SAMPLE_EDITS + [(1, pick), (0, pick), (2, [None] * 3)])
     yield from closed_files()
+    # several values outside their limits: the first in reading order gives the number, 4, 5, 6 or 11
+    for box in ([-7, 9, 300, 400], [-7, 9, 0, 400], [-7, 9, 300, 40001], [-7, 20001, 0, 0]):
+        for heads in ([[1, 2, -1]], [[1, 2, 20001], [20001, 5, 60]], [[1, 2, 3], [-4, -20001, -1]], [[1, 2, 3], [4, 5, -1], [6, 7, 20001]]):
+            yield plan_file(box, heads)
+        yield plan_file(box, [[1, 2, 3]], [(1, [1, 2, -1])])
+        yield plan_file(box, [[1, 2, 3]], [(0, [1, 2, -1]), (9, [1, 2, 3])])
+        yield plan_file(box, [[1, 2, 3]], [(0, [1, 20001, 20001])])
     # the largest file without edits, and many edits
     yield plan_file([0, 0, 1, 1], [[i, -i, i + 1] for i in range(10)])
     yield plan_file(SAMPLE_BOX, SAMPLE_HEADS, [(i % 3, [i, None, None]) for i in range(40)])
@@ -304,6 +314,11 @@ def fixed_calls():
     yield call(edit=[30000, 0, 0], rows=0)
     yield call(edit=[0, 0, -1], rows=0)
     yield call(edit=[0, 0, 0], rows=0)
+    for box in (SAMPLE_BOX, [-7, 9, 0, 400], [-7, 9, 300, 40001]):
+        for heads in ([[1, 2, -1]], [[1, 2, 20001], [20001, 5, 60]], [[1, -20001, -1]], [[1, 2, 3]]):
+            filled = heads + [[1, 2, 3]] * (10 - len(heads))
+            yield call(n=2, head=1, box=box, heads=filled, edit=[0, 0, -1])
+            yield call(n=2, head=2, box=box, heads=filled, edit=[20001, 0, -1], rows=3)
     # all heads closed, and an edit of one of them, which opens it or does not
     for n in (1, 2, 10):
         for radius in (-1, 0, 1):

@@ -63,8 +63,8 @@ heads = lambda n: trials.plan_file([None] * 4, [[None] * 3] * n)
 side = lambda v: trials.plan_file([None, None, v, None], [])
 # a closed head alone leaves the box, 40,000 by 40,000, to row 0
 CLOSED_PRINTS = '000 %s\n' % struct.pack('>d', 40000.0 * 40000.0).hex().upper()
-ALSO = [(head(20000), None), (head(20001), 'refused 5 at 3\n'), (head(0), CLOSED_PRINTS), (head(-1), 'refused 5 at 3\n'), (heads(10), None),
-        (heads(11), 'refused 2 at 0\n'), (side(40000), None), (side(40001), 'refused 5 at 2\n')]
+ALSO = [(head(20000), None), (head(20001), 'refused 11 at 3\n'), (head(0), CLOSED_PRINTS), (head(-1), 'refused 11 at 3\n'), (heads(10), None),
+        (heads(11), 'refused 2 at 0\n'), (side(40000), None), (side(40001), 'refused 5 at 2\n'), (side(0), 'refused 5 at 2\n')]
 wrong = [(data.hex(), rows(data)) for data, printed in ALSO if not (TABLE.match(rows(data)[0]) if printed is None else rows(data)[0] == printed)]
 see('"also run" cases', len(ALSO), wrong)
 

@@ -10,13 +10,16 @@ use crate::inputs::{Head, Random};
 use crate::lent::{Book, Edit, Tables};
 use crate::plans::{Plan, Sides, CATEGORIES, TWINS};
 
+// 0 is taken; of the refusals 11 is the highest
+const ANSWERS: usize = 12;
+
 #[derive(Default)]
 struct Counts {
     lists: u64,
     twins: u64,
     edits: u64,
-    // by answer; 0 is taken
-    answers: [u64; 8],
+    // by answer
+    answers: [u64; ANSWERS],
     false_tables: u64,
     kept: u64,
     reworked: u64,
@@ -34,7 +37,7 @@ struct Counts {
     gone_by_closing: u64,
     newly_by_opening: u64,
     runs: u64,
-    unacceptable: [u64; 8],
+    unacceptable: [u64; ANSWERS],
     differences: u64,
 }
 
@@ -75,7 +78,7 @@ fn plan_answer(book: &Book) -> u32 {
             return 4;
         }
         if !radius(head[2]) {
-            return 5;
+            return 11;
         }
     }
     0
@@ -85,7 +88,7 @@ fn answer(book: &Book, edit: Edit, lent: [usize; 4]) -> u32 {
     match plan_answer(book) {
         0 if edit.head >= book.n => 6,
         0 if !coordinate(edit.x) || !coordinate(edit.y) => 4,
-        0 if !radius(edit.radius) => 5,
+        0 if !radius(edit.radius) => 11,
         0 if lent.iter().any(|rows| *rows < book.rows()) => 7,
         other => other,
     }
@@ -453,15 +456,16 @@ pub fn compare(number: u64, seed: u64) {
     }
     let c = &counts;
     println!("seed {seed}: {} lists, {} of them with identical heads, {} edits, as many again on false tables ({})", c.lists, c.twins, c.edits, c.false_tables);
-    let [taken, .., r4, r5, r6, r7] = c.answers;
-    println!("{taken} edits taken; refused {r4} by 4, {r5} by 5, {r6} by 6, {r7} by 7");
-    println!("{} plans not acceptable: {} by 2, {} by 4, {} by 5", c.unacceptable.iter().sum::<u64>(), c.unacceptable[2], c.unacceptable[4], c.unacceptable[5]);
+    let [taken, r4, r6, r7, r11] = [0, 4, 6, 7, 11].map(|number| c.answers[number]);
+    println!("{taken} edits taken; refused {r4} by 4, {r6} by 6, {r7} by 7, {r11} by 11");
+    let [n2, n4, n5, n11] = [2, 4, 5, 11].map(|number| c.unacceptable[number]);
+    println!("{} plans not acceptable: {n2} by 2, {n4} by 4, {n5} by 5, {n11} by 11", c.unacceptable.iter().sum::<u64>());
     println!("rows: {} kept, {} worked out anew, {} newly present, {} gone", c.kept, c.reworked, c.newly, c.gone);
     println!("{} rows newly present though the head met nobody", c.newly_unmet);
     println!("{} edits closed a head, which took {} rows; {} opened one, which brought {}", c.closes, c.gone_by_closing, c.opens, c.newly_by_opening);
     println!("{} moved a closed head; {} rows kept though a closed one stood or stands on an edge of theirs", c.stays_closed, c.kept_by_closed);
     println!("{} lists run at one call; {} differences", c.runs, c.differences);
-    let all_seen = taken > 0 && r4 > 0 && r5 > 0 && r6 > 0 && r7 > 0 && c.twins > 0 && c.kept > 0 && c.newly > 0;
+    let all_seen = [taken, r4, r6, r7, r11, n2, n4, n5, n11, c.twins, c.kept, c.newly].iter().all(|number| *number > 0);
     let of_closed = [c.closes, c.opens, c.stays_closed, c.kept_by_closed, c.gone_by_closing, c.newly_by_opening];
     let closed_seen = of_closed.iter().all(|number| *number > 0);
     if c.differences > 0 || !all_seen || !closed_seen {

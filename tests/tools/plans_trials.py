@@ -124,14 +124,29 @@ def loose_text(chance, box, heads, edits):
     return chance.choice(['', '\ufeff']) + '\n'.join(lines) + chance.choice(['', '\n', '\n\n']), at
 
 
+# Document 01's limits, a radius from 0 since document 02, slip 3.
+PLACE, SIDE, RADIUS = '-20000 to 20000', '1 to 40000', '0 to 20000'
+OF_BOX = [('centre x', PLACE), ('centre y', PLACE), ('width', SIDE), ('height', SIDE)]
+OF_HEAD = [('x', PLACE), ('y', PLACE), ('radius', RADIUS)]
+
+
 def place_of(offset, box, heads, edits):
-    """The record that stands at an offset, worked out by the lengths of the records."""
-    end = 1
-    named = [('box', box, 0)] + [(('head', i), h, 0) for i, h in enumerate(heads)]
-    for name, fields, more in named + [(('move', i), f, 1) for i, (_, f) in enumerate(edits)]:
-        end += 1 + more + 4 * sum(v is not None for v in fields)
-        if offset < end:
-            return name
+    """The record that stands at an offset, by the lengths of the records, and what a refusal there must say in words."""
+    records = [('box', box, OF_BOX, 'of the box', None)]
+    records += [(('head', i), head, OF_HEAD, 'of head %d' % i, None) for i, head in enumerate(heads)]
+    records += [(('move', i), to, OF_HEAD, 'that this move gives head %d' % k, k) for i, (k, to) in enumerate(edits)]
+    at = 1
+    for name, values, fields, whose, moved in records:
+        if moved is not None:
+            if offset == at:
+                return name, 'a move of head %d' % moved
+            at += 1
+        at += 1     # the map byte
+        for (field, limits), value in zip(fields, values):
+            if value is not None and offset == at:
+                return name, 'the %s %s is %d, outside %s' % (field, whose, value, limits)
+            at += 4 * (value is not None)
+    sys.exit('no value stands at %d' % offset)
 
 
 def text_trial(chance):
@@ -146,8 +161,10 @@ def text_trial(chance):
     expect('texts: taken, or the refusal', table.refusal(plan, places), refused and (int(refused.group(1)), int(refused.group(2))))
     if refused:
         number, offset = int(refused.group(1)), int(refused.group(2))
-        name = ('head', 10) if number == 2 else place_of(offset, box, heads, edits)
-        expect('refusals of texts: the line', table.in_words(number, offset, plan, places).args[0], at[name])
+        name, words = (('head', 10), 'the plan has 11 heads') if number == 2 else place_of(offset, box, heads, edits)
+        line, said = table.in_words(number, offset, plan, places).args
+        expect('refusals of texts: the line', line, at[name])
+        expect('refusals of texts: the words', said.startswith('refused %d at %d: %s' % (number, offset, words)), True)
 
 
 # ---- the command line
@@ -194,12 +211,16 @@ NO_ROWS = ['true', 'false', 'echo 00', 'echo 001 400000000000000', 'printf "000 
            'echo 000 4000000000000000; echo refused 1 at 2', 'echo no >&2']
 
 REFUSALS = [
-    ('head 0 0 20001\n', ':1: refused 5 at 11: the radius of head 0 is 20001, outside 0 to 20000\n'),
-    ('head 0 0 -1\n', ':1: refused 5 at 11: the radius of head 0 is -1, outside 0 to 20000; a head is closed by radius 0\n'),
-    ('head 0 0 0\nhead 1 1 -\nhead 1 1 -7\n', ':3: refused 5 at 33: the radius of head 2 is -7, outside 0 to 20000; a head is closed by radius 0\n'),
+    ('head 0 0 20001\n', ':1: refused 11 at 11: the radius of head 0 is 20001, outside 0 to 20000\n'),
+    ('head 0 0 -1\n', ':1: refused 11 at 11: the radius of head 0 is -1, outside 0 to 20000; a head is closed by radius 0\n'),
+    ('head 0 0 0\nhead 1 1 -\nhead 1 1 -7\n', ':3: refused 11 at 33: the radius of head 2 is -7, outside 0 to 20000; a head is closed by radius 0\n'),
     ('box - - 40001 -\n', ':1: refused 5 at 2: the width of the box is 40001, outside 1 to 40000'),
+    ('box 0 0 1 0\nhead 0 0 -1\n', ':1: refused 5 at 14: the height of the box is 0, outside 1 to 40000\n'),
+    ('box 0 0 1 1\nhead 0 0 1\nhead 0 20001 -1\n', ':3: refused 4 at 36: the y of head 1 is 20001, outside -20000 to 20000\n'),
+    ('head 0 0 -1\nhead 0 20001 1\n', ':1: refused 11 at 11: the radius of head 0 is -1, outside 0 to 20000'),
     ('# a\nbox 1 -20001 1 1\n', ':2: refused 4 at 6: the centre y of the box is -20001, outside -20000 to 20000'),
-    ('head 0 0 1\n\nmove 0 - 0 0\nmove 0 - - -1\n', ':4: refused 5 at 27: the radius of head 0 is -1, outside 0 to 20000; a head is closed by radius 0\n'),
+    ('head 0 0 1\n\nmove 0 - 0 0\nmove 0 - - -1\n', ':4: refused 11 at 27: the radius that this move gives head 0 is -1, outside 0 to 20000; a head is closed by radius 0\n'),
+    ('head 0 0 1\nmove 0 -20001 - -1\n', ':2: refused 4 at 17: the x that this move gives head 0 is -20001, outside -20000 to 20000\n'),
     ('head 0 0 1\nmove 1 0 0 1\n', ':2: refused 6 at 15: a move of head 1, but the plan has only head 0'),
     ('move 0 0 0 1\n', ':1: refused 6 at 2: a move of head 0, but the plan has no heads'),
     ('head 0 0 1\n' * 11, ':11: refused 2 at 0: the plan has 11 heads, at most 10 are taken'),
@@ -274,6 +295,36 @@ def closed_trials(rows):
         others = [i for i in range(words.count('head')) if i not in closed]
         expect('closed heads: singles of the others alone', [mask for mask in masks if mask & (mask - 1) == 0], [0] + [1 << i for i in others])
         expect('closed heads: in no row', [mask for mask in masks if any(mask >> i & 1 for i in closed)], [])
+
+
+# Plan files with a bad value: what `rows` prints, and what tools/plan says of the file's text. README shows the first, text and all.
+REFUSED_FILES = [
+    ([0, 0, 4000, 3000], [[100, 200, 500], [-600, 0, -300]], [], 'refused 11 at 40',
+     'standard input:3: refused 11 at 40: the radius of head 1 is -300, outside 0 to 20000; a head is closed by radius 0'),
+    ([0, 0, 0, 3000], [[100, 200, 500]], [], 'refused 5 at 10', 'standard input:1: refused 5 at 10: the width of the box is 0, outside 1 to 40000'),
+    ([None, None, None, 40001], [[1, 2, -1]], [], 'refused 5 at 2', 'standard input:1: refused 5 at 2: the height of the box is 40001, outside 1 to 40000'),
+    ([None] * 4, [[None, None, 20001]], [], 'refused 11 at 3', 'standard input:2: refused 11 at 3: the radius of head 0 is 20001, outside 0 to 20000'),
+    ([None] * 4, [[1, 2, 3]], [(0, [4, 5, 20001])], 'refused 11 at 25',
+     'standard input:3: refused 11 at 25: the radius that this move gives head 0 is 20001, outside 0 to 20000'),
+]
+
+
+def refused_file_trials(rows):
+    for box, heads, edits, printed, words in REFUSED_FILES:
+        data = trials.plan_file(box, heads, edits)
+        done = subprocess.run([rows], input=data, capture_output=True)
+        expect('refused files: what rows prints', done.stdout.decode(), printed + '\n')
+        expect('refused files: what it is to print', trials.file_lines(data)[-1], printed)
+        status, out, error = run(['--text', '-'], data)
+        expect('refused files: their text', (status, error), (0, ''))
+        expect('refused files: in words', run(['--table', '--rows', rows, '-'], out), (1, b'', 'plan: %s\n' % words))
+    box, heads, edits, printed, words = REFUSED_FILES[0]
+    written = run(['--text', '-'], trials.plan_file(box, heads, edits))[1].decode()
+    shown = ''.join('    %s\n' % line for line in (
+        '$ cat bad.txt', *written.splitlines(), '$ tools/plan bad.txt > bad.plan', '$ tools/rows < bad.plan', printed,
+        '$ tools/plan --text bad.plan | tools/plan --table -', 'plan: ' + words))
+    with open(os.path.join(ROOT, 'README.md')) as readme:
+        expect('refused files: as README shows', shown in readme.read(), True)
 
 
 def table_trial(rows):
@@ -380,6 +431,7 @@ def main():
         text_trial(chance)
     with tempfile.TemporaryDirectory() as folder:
         command_trials(chance, folder, rows)
+        refused_file_trials(rows)
         table_trial(rows)
         closed_trials(rows)
         picture_trials(chance, folder, rows, 8)

@@ -300,8 +300,10 @@ def command_trials():
     status, out, error = run('stale', corner)
     expect('commands', (status, error, '<- stale: the window lacks the row' in out, 'DIFFERS' in out), (0, '', True, False))
     expect('commands', run('plan', '--why', '-', data=b'head 0 0 5\n'), (0, 'The plan has no moves.\n', ''))
-    for words, data in (('head 0 0 20001', ':1: refused 5 at 11'), ('move 0 0 0 1', ':1: refused 6 at 2'),
-                        ('head 0 0 -1', ':1: refused 5 at 11: the radius of head 0 is -1, outside 0 to 20000')):
+    for words, data in (('head 0 0 20001', ':1: refused 11 at 11'), ('move 0 0 0 1', ':1: refused 6 at 2'),
+                        ('head 0 0 -1', ':1: refused 11 at 11: the radius of head 0 is -1, outside 0 to 20000'),
+                        ('box 0 0 0 9\nhead 0 0 -1', ':1: refused 5 at 10: the width of the box is 0, outside 1 to 40000'),
+                        ('head 0 0 9\nmove 0 - - -1', ':2: refused 11 at 17: the radius that this move gives head 0 is -1, outside 0 to 20000')):
         status, out, error = run('plan', '--why', '-', data=words.encode())
         expect('commands', (status, out, data in error), (1, '', True))
     status, out, error = run('plan', '--why', '--library', '/dev/null', corner)

@@ -33,9 +33,11 @@ EXAMPLES = """examples:
     tools/plan --svg --edit 1 --set 0,2 ground.txt > first.svg
     tools/plan --why ground.txt                 for each move, which rows changed and why
     tools/plan --text ground.plan | tools/plan --table -
+                                                the table of a plan file, or which of its values `rows` refuses, in words
 
 The status is 0; 1 if the input cannot be used, with the line or byte offset on standard error; 2 if the command line is wrong.
-Values outside the limits get into the file: it is for `rows` to refuse them, and --table then says so in words."""
+Values outside the limits get into the file: it is for `rows` to refuse them, and --table then says which value it is, of the box, of which
+head or of which move, and its limits. Refusal 4 is an x or a y, 5 a side of the box, 11 a radius."""
 
 
 class Failure(Exception):

@@ -13,8 +13,8 @@ ROW = re.compile(r'([0-9A-F]{3}) ([0-9A-F]{16})\Z')
 REFUSED = re.compile(r'refused ([0-9]+) at ([0-9]+)\n\Z')
 
 
-# Document 01's limits, and the number of the refusal; a radius of 0 is that of a closed head (docs/SCOPE.md).
-LIMITS = {'width': (1, 40000, 5), 'height': (1, 40000, 5), 'radius': (0, 20000, 5)}
+# The limits, and the number of the refusal (docs/SCOPE.md): 5 for a side of the box, 11 for a radius. Radius 0 closes a head.
+LIMITS = {'width': (1, 40000, 5), 'height': (1, 40000, 5), 'radius': (0, 20000, 11)}
 COORDINATE = (-20000, 20000, 4)
 
 
@@ -60,10 +60,13 @@ def parsed(printed):
     return rows
 
 
-def name_of(record, plan):
-    if record.kind == 'head':
-        return 'head %d' % next(number for number, head in enumerate(plan.heads) if head is record)
-    return 'the box' if record.kind == 'box' else 'head %d' % record.head
+def named(field, record, plan):
+    """A field in words, such as the radius of head 2."""
+    if record.kind == 'move':
+        return 'the %s that this move gives head %d' % (field, record.head)
+    if record.kind == 'box':
+        return 'the %s of the box' % field
+    return 'the %s of head %d' % (field, next(number for number, head in enumerate(plan.heads) if head is record))
 
 
 def heads_in(plan):
@@ -105,7 +108,7 @@ def in_words(number, offset, plan, places):
         return Refused(line, '%s: a move of head %d, but the plan has %s' % (said, record.head, heads_in(plan)))
     name, value, (low, high, _) = field_at(place)
     hint = '; a head is closed by radius 0' if name == 'radius' and value < low else ''
-    return Refused(line, '%s: the %s of %s is %d, outside %d to %d%s' % (said, name, name_of(record, plan), value, low, high, hint))
+    return Refused(line, '%s: %s is %d, outside %d to %d%s' % (said, named(name, record, plan), value, low, high, hint))
 
 
 def taken_values(plan):

@@ -1,2 +1,4 @@
 pub mod Finite
 pub mod Closed
+pub mod Refusals
+pub mod Numbers

@@ -2,9 +2,9 @@
 -- first check that fails.
 use Prim.Native.Nat.{ℕ, suc, ◌+◌, ◌-◌, ◌^◌, ◌<◌}
 use mathlib.Core.Path.{◌≡◌, refl, sym, ap, ap₂, ◌∙◌, subst}
-use mathlib.Core.Bool.{Bool, true, false, cond, false≢true}
+use mathlib.Core.Bool.{Bool, true, false, cond}
 use mathlib.Core.List.{List, [], ◌∷◌, ◌++◌}
-use mathlib.Core.Logic.{◌⊎◌, inl, inr, ⊎_elim}
+use mathlib.Core.Logic.{◌↔◌, ◌⊎◌, inl, inr, ⊎_elim}
 use native.Mathlib.Omega.{arith}
 use lib.Dec.{ltb}
 use lib.IntN.{ℤ}
@@ -17,11 +17,13 @@ use Rattle.plan.specs.declared.Plan.{Plan}
 use Rattle.plan.specs.declared.Refusal.{Refusal}
 use Rattle.plan.specs.declared.Refusal.TheVariants.{Ended}
 use Rattle.plan.specs.Book.{with_head}
-use Rattle.plan.specs.Exactly.{Satisfied}
+use Rattle.plan.specs.Exactly.{Satisfied, Numbered}
+use Rattle.plan.specs.Fields.{IsCoordinate, IsSide, IsRadius}
 use Rattle.plan.specs.Table.{Answered, taken, refused, refusal_at, holds, refusal_of, number_of, answer_number}
 use Rattle.plan.specs.Table.{answer_offset}
 use Rattle.plan.proofs.Answers.{same_refusal, same_offset}
-use Rattle.plan.proofs.Exactly.{holds_exactly}
+use Rattle.plan.proofs.Exactly.{holds_exactly, satisfied_or_not, first_as, first_alike}
+use Rattle.plan.proofs.Fields.{field_numbers}
 use Rattle.file.specs.declared.reader.Completed.TheVariants.{ThePlan}
 use Rattle.file.specs.declared.reader.Reader.{Reader}
 use Rattle.file.specs.declared.reader.Stage.{Stage}
@@ -35,8 +37,8 @@ use Rattle.file.specs.Reader.{to_field, turn, to_head, complete_at, complete, se
 use Rattle.file.specs.Reader.{feed}
 use Rattle.file.specs.Same.{end_of}
 use Rattle.file.specs.Exactly.{Check, check_of, checks_at, checks_of, checks, PlacedAt, ChecksPlaced, AllPassed}
-use Rattle.file.specs.Exactly.{FirstFails, Wanted, FileTaken, FileEnded, FileRefused, FirstNumbered, FileNumber}
-use Rattle.file.specs.Exactly.{FileSevenNever}
+use Rattle.file.specs.Exactly.{Passed, FirstAt, RefusedBy, Wanted, FileTaken, FileEnded, FileRefused, FileAnswers}
+use Rattle.file.specs.Exactly.{FileNumber, FileField, FileFour, FileFive, FileEleven, FieldItems, FileSevenNever}
 use Rattle.file.proofs.Offsets.{fed_at, ended_at}
 use Rattle.file.proofs.Reading.{by_test, checked}
 use Rattle.file.proofs.Same.{reader_answers}
@@ -92,17 +94,15 @@ unfolding feed
 fed_began r [] k = k
 fed_began r (b ∷ s) k = fed_began (step r b) s (step_began r.stage r b k)
 
-field_placed : (t : Target) (i : ℕ) (z : ℤ) (k offset : ℕ) → offset + 3 ≡ k → PlacedAt k (item_of t i z) offset
-field_placed t i z k offset e = at t
-  where
-    by : (b : Bool) (u v : Item) → PlacedAt k u offset → PlacedAt k v offset → PlacedAt k (cond b u v) offset
-    by true u v p q = p
-    by false u v p q = q
+-- what holds of an x or a y, of a side and of a radius holds of each field's item
+each_field : (P : Item → Type 0) (t : Target) (i : ℕ) (z : ℤ) → P (Coordinate z) → P (Side z) → P (Radius z)
+    → P (item_of t i z)
+each_field P TheBox i z place side radius = by_test P _ (Coordinate z) (Side z) (λ e. place) (λ e. side)
+each_field P (HeadAt j) i z place side radius = by_test P _ (Coordinate z) (Radius z) (λ e. place) (λ e. radius)
+each_field P (EditOf k) i z place side radius = by_test P _ (Coordinate z) (Radius z) (λ e. place) (λ e. radius)
 
-    at : (t : Target) → PlacedAt k (item_of t i z) offset
-    at TheBox = by (ltb i 2) (Coordinate z) (Side z) e e
-    at (HeadAt j) = by (ltb i 2) (Coordinate z) (Radius z) e e
-    at (EditOf j) = by (ltb i 2) (Coordinate z) (Radius z) e e
+field_placed : (t : Target) (i : ℕ) (z : ℤ) (k offset : ℕ) → offset + 3 ≡ k → PlacedAt k (item_of t i z) offset
+field_placed t i z k offset e = each_field (λ item. PlacedAt k item offset) t i z e e e
 
 placed_at : (stage : Stage) (r : Reader) (b k : ℕ) → r.at ≡ k → k < 2 ^ 64 - 1 → Began stage r.from r.at
     → Every (λ c. PlacedAt k c.item c.offset) (checks_at stage r b)
@@ -152,18 +152,24 @@ stays_stopped [] r refusal o e = e
 stays_stopped (b ∷ s) r refusal o e = stays_stopped s (step r b) refusal o (stopped_step r b refusal o r.stage e)
 
 module _ (refusal : Refusal) (o : ℕ) where
+  -- where one of these checks is the first that fails, by this refusal at this offset, the reader stops by it
+  abbrev StopsAt : List Check → Reader → List ℕ → Type 0
+  StopsAt cs r s = FirstAt (RefusedBy refusal) o cs → (feed r s).stage ≡ Stopped (refusal_at refusal o)
+
   -- one check, and then the rest
   one_fails : (item : Item) (from : ℕ) (r next : Reader) (s : List ℕ)
-      → (FirstFails refusal o (checks (check_or item from r next) s) → (feed (check_or item from r next) s).stage ≡ Stopped (refusal_at refusal o))
-      → FirstFails refusal o (check_of item from ∷ checks (check_or item from r next) s) → (feed (check_or item from r next) s).stage ≡ Stopped (refusal_at refusal o)
+      → StopsAt (checks (check_or item from r next) s) (check_or item from r next) s
+      → StopsAt (check_of item from ∷ checks (check_or item from r next) s) (check_or item from r next) s
   one_fails item from r next s rest =
       ⊎_elim
-      (λ u. stays_stopped s (check_or item from r next) refusal o (failed item from r next u.0 ∙ ap₂ (λ x at. Stopped (refusal_at x at)) u.1 u.2))
+      (λ u.
+      let stopped = failed item from r next u.0 ∙ ap₂ (λ x at. Stopped (refusal_at x at)) u.1.0 u.1.1 in
+      stays_stopped s (check_or item from r next) refusal o stopped)
       (λ u. rest u.1)
 
   fails_at : (stage : Stage) (r : Reader) (b : ℕ) (s : List ℕ)
-      → (FirstFails refusal o (checks (step_at stage r b) s) → (feed (step_at stage r b) s).stage ≡ Stopped (refusal_at refusal o))
-      → FirstFails refusal o (checks_at stage r b ++ checks (step_at stage r b) s) → (feed (step_at stage r b) s).stage ≡ Stopped (refusal_at refusal o)
+      → StopsAt (checks (step_at stage r b) s) (step_at stage r b) s
+      → StopsAt (checks_at stage r b ++ checks (step_at stage r b) s) (step_at stage r b) s
   unfolding step_at
   fails_at AtCount r b s rest u = one_fails (Count b) r.at r (begin r b) s rest u
   fails_at AtMap r b s rest u = one_fails (Map (count_of r.target) b) r.at r (seek (map_read r b) 0) s rest u
@@ -176,7 +182,7 @@ module _ (refusal : Refusal) (o : ℕ) where
   fails_at AtEdit r b s rest u = one_fails (HeadNumber b r.plan.n) r.at r (choose r b) s rest u
   fails_at (Stopped why) r b s rest u = rest u
 
-  fails_stop : (s : List ℕ) (r : Reader) → FirstFails refusal o (checks r s)
+  fails_stop : (s : List ℕ) (r : Reader) → FirstAt (RefusedBy refusal) o (checks r s)
       → (feed r s).stage ≡ Stopped (refusal_at refusal o)
   unfolding feed checks
   fails_stop [] r u = absurd u
@@ -240,64 +246,57 @@ refused_taken r o e = let z : ◌≡◌ {A = ℕ} 0 1 = cc e in omega arith
 
 -- some check fails, or none does
 abbrev SomeFails : List Check → Type 0
-SomeFails cs = (r : Refusal) × (o : ℕ) × FirstFails r o cs
+SomeFails cs = (r : Refusal) × (o : ℕ) × FirstAt (RefusedBy r) o cs
 
 decided : (cs : List Check) → AllPassed cs ⊎ SomeFails cs
 decided [] = inl tt
-decided (c ∷ cs) = go (holds c.item) refl (decided cs)
-  where
-    go : (t : Bool) → holds c.item ≡ t → AllPassed cs ⊎ SomeFails cs → AllPassed (c ∷ cs) ⊎ SomeFails (c ∷ cs)
-    go true e (inl rest) = inl ((holds_exactly c.item).0 e, rest)
-    go true e (inr rest) = inr (rest.0, rest.1, inr ((holds_exactly c.item).0 e, rest.2))
-    go false e rest =
-        inr (refusal_of c.item, c.offset, inl ((λ s. false≢true (sym e ∙ (holds_exactly c.item).1 s)), refl, refl))
+decided (c ∷ cs) =
+    ⊎_elim (λ s. ⊎_elim (λ u. inl (s, u)) (λ u. inr (u.0, u.1, inr (s, u.2))) (decided cs))
+    (λ s. inr (refusal_of c.item, c.offset, inl (s, (refl, refl)))) (satisfied_or_not c.item)
 
 -- no check is refused under 1 or 7
-abbrev Kinds : Item → Type 0
-Kinds item = (number_of (refusal_of item) ≡ 1 → ⊥) × (number_of (refusal_of item) ≡ 7 → ⊥)
+abbrev OfFiles : Item → Type 0
+OfFiles item = ¬ Numbered 1 item × ¬ Numbered 7 item
 
-field_kinds : (t : Target) (i : ℕ) (z : ℤ) → Kinds (item_of t i z)
-field_kinds t i z = at t
-  where
-    by : (b : Bool) (u v : Item) → Kinds u → Kinds v → Kinds (cond b u v)
-    by true u v p q = p
-    by false u v p q = q
+field_of_files : (t : Target) (i : ℕ) (z : ℤ) → OfFiles (item_of t i z)
+field_of_files t i z =
+    each_field OfFiles t i z (omega arith, omega arith) (omega arith, omega arith) (omega arith, omega arith)
 
-    at : (t : Target) → Kinds (item_of t i z)
-    at TheBox = by (ltb i 2) (Coordinate z) (Side z) (omega arith, omega arith) (omega arith, omega arith)
-    at (HeadAt j) = by (ltb i 2) (Coordinate z) (Radius z) (omega arith, omega arith) (omega arith, omega arith)
-    at (EditOf j) = by (ltb i 2) (Coordinate z) (Radius z) (omega arith, omega arith) (omega arith, omega arith)
+of_files_at : (stage : Stage) (r : Reader) (b : ℕ) → Every (λ c. OfFiles c.item) (checks_at stage r b)
+of_files_at AtCount r b = ((omega arith, omega arith), tt)
+of_files_at AtMap r b = ((omega arith, omega arith), tt)
+of_files_at AtByte0 r b = tt
+of_files_at (AtByte1 a) r b = tt
+of_files_at (AtByte2 a a') r b = tt
+of_files_at (AtByte3 a a' a'') r b = (field_of_files r.target r.field (number32 a a' a'' b), tt)
+of_files_at AtEdit r b = ((omega arith, omega arith), tt)
+of_files_at (Stopped why) r b = tt
 
-kinds_at : (stage : Stage) (r : Reader) (b : ℕ) → Every (λ c. Kinds c.item) (checks_at stage r b)
-kinds_at AtCount r b = ((omega arith, omega arith), tt)
-kinds_at AtMap r b = ((omega arith, omega arith), tt)
-kinds_at AtByte0 r b = tt
-kinds_at (AtByte1 a) r b = tt
-kinds_at (AtByte2 a a') r b = tt
-kinds_at (AtByte3 a a' a'') r b = (field_kinds r.target r.field (number32 a a' a'' b), tt)
-kinds_at AtEdit r b = ((omega arith, omega arith), tt)
-kinds_at (Stopped why) r b = tt
-
-checks_kinds : (s : List ℕ) (r : Reader) → Every (λ c. Kinds c.item) (checks r s)
+checks_of_files : (s : List ℕ) (r : Reader) → Every (λ c. OfFiles c.item) (checks r s)
 unfolding checks
-checks_kinds [] r = tt
-checks_kinds (b ∷ s) r = every_append (λ c. Kinds c.item) (checks_of r b) (checks (step r b) s) (kinds_at r.stage r b) (checks_kinds s (step r b))
+checks_of_files [] r = tt
+checks_of_files (b ∷ s) r =
+    let here = of_files_at r.stage r b in
+    every_append (λ c. OfFiles c.item) (checks_of r b) (checks (step r b) s) here (checks_of_files s (step r b))
 
-refusal_kinds : (cs : List Check) (r : Refusal) (o : ℕ) → Every (λ c. Kinds c.item) cs → FirstFails r o cs → (number_of r ≡ 1 → ⊥) × (number_of r ≡ 7 → ⊥)
-refusal_kinds [] r o k u = absurd u
-refusal_kinds (c ∷ cs) r o k u =
-    ⊎_elim (λ v. subst (λ x. (number_of x ≡ 1 → ⊥) × (number_of x ≡ 7 → ⊥)) v.1 k.0) (λ v. refusal_kinds cs r o k.1 v.1) u
+refusal_of_files : (cs : List Check) (r : Refusal) (o : ℕ) → Every (λ c. OfFiles c.item) cs → FirstAt (RefusedBy r) o cs
+    → (number_of r ≡ 1 → ⊥) × (number_of r ≡ 7 → ⊥)
+refusal_of_files [] r o k u = absurd u
+refusal_of_files (c ∷ cs) r o k u =
+    ⊎_elim (λ v. subst (λ x. (number_of x ≡ 1 → ⊥) × (number_of x ≡ 7 → ⊥)) v.1.0 k.0)
+    (λ v. refusal_of_files cs r o k.1 v.1) u
 
 module _ (s : List ℕ) where
   answer : end_of (read_file s) ≡ finished_at (feed start s).stage (feed start s).at
   answer = sym (reader_answers s)
 
   -- a check fails: its refusal and its offset
-  failing : (r : Refusal) (o : ℕ) → FirstFails r o (checks start s) → end_of (read_file s) ≡ refused r o
+  failing : (r : Refusal) (o : ℕ) → FirstAt (RefusedBy r) o (checks start s) → end_of (read_file s) ≡ refused r o
   failing r o u = answer ∙ ap (λ stage. finished_at stage (feed start s).at) (fails_stop r o s start u)
 
-  never_ended : (r : Refusal) (o : ℕ) → FirstFails r o (checks start s) → (number_of r ≡ 1 → ⊥) × (number_of r ≡ 7 → ⊥)
-  never_ended r o u = refusal_kinds (checks start s) r o (checks_kinds s start) u
+  never_ended : (r : Refusal) (o : ℕ) → FirstAt (RefusedBy r) o (checks start s)
+      → (number_of r ≡ 1 → ⊥) × (number_of r ≡ 7 → ⊥)
+  never_ended r o u = refusal_of_files (checks start s) r o (checks_of_files s start) u
 
   -- every check is passed: taken, or 1
   running_taken : (stage : Stage) (at : ℕ) → finished_at stage at ≡ taken → stage ≡ AtEdit
@@ -333,12 +332,13 @@ module _ (s : List ℕ) where
 
   -- an answer where some check fails is that check's
   the_failing : (r : Refusal) (o : ℕ) → end_of (read_file s) ≡ refused r o → SomeFails (checks start s)
-      → FirstFails r o (checks start s)
+      → FirstAt (RefusedBy r) o (checks start s)
   the_failing r o e u =
       let same : refused u.0 u.1 ≡ refused r o = sym (failing u.0 u.1 u.2) ∙ e in
       let refusal : u.0 ≡ r = same_refusal same in
       let offset : u.1 ≡ o = same_offset same in
-      subst (λ x. FirstFails x o (checks start s)) refusal (subst (λ x. FirstFails u.0 x (checks start s)) offset u.2)
+      subst (λ x. FirstAt (RefusedBy x) o (checks start s)) refusal
+      (subst (λ x. FirstAt (RefusedBy u.0) x (checks start s)) offset u.2)
 
   runs : AllPassed (checks start s) → Running (feed start s).stage
   runs u = passes_run s start tt u
@@ -376,32 +376,63 @@ file_refused s r o n = (
 )
 
 -- the number of the first check that fails, from its refusal, and back
-to_number : (r : Refusal) (o : ℕ) (cs : List Check) → FirstFails r o cs → FirstNumbered (number_of r) o cs
-to_number r o [] u = absurd u
-to_number r o (c ∷ cs) u = ⊎_elim (λ v. inl (v.0, ap number_of v.1, v.2)) (λ v. inr (v.0, to_number r o cs v.1)) u
+to_number : (r : Refusal) (o : ℕ) (cs : List Check) → FirstAt (RefusedBy r) o cs → FirstAt (Numbered (number_of r)) o cs
+to_number r o cs u = first_as Passed (λ c v. (ap number_of v.0, v.1)) cs u
 
-from_number : (k o : ℕ) (cs : List Check) → FirstNumbered k o cs → (r : Refusal) × (number_of r ≡ k) × FirstFails r o cs
+from_number : (k o : ℕ) (cs : List Check) → FirstAt (Numbered k) o cs
+    → (r : Refusal) × (number_of r ≡ k) × FirstAt (RefusedBy r) o cs
 from_number k o [] u = absurd u
 from_number k o (c ∷ cs) u =
-    ⊎_elim (λ v. (refusal_of c.item, v.1, inl (v.0, refl, v.2)))
+    ⊎_elim (λ v. (refusal_of c.item, v.1.0, inl (v.0, (refl, v.1.1))))
     (λ v. let rest = from_number k o cs v.1 in (rest.0, rest.1, inr (v.0, rest.2))) u
 
 pub file_number : FileNumber
 file_number s k o h = ((λ q. given (end_of (read_file s)) refl q.0 q.1), found)
   where
     given : (a : Answered) → end_of (read_file s) ≡ a → answer_number a ≡ k → answer_offset a ≡ o
-        → FirstNumbered k o (checks start s)
+        → FirstAt (Numbered k) o (checks start s)
     given (Ok done) e n at = absurd (omega (arith, n))
     given (Err r) e n at =
         let first = (file_refused s r.refusal r.at (λ q. let is = ap number_of q in omega (arith, is, n))).0 e in
-        subst (λ i. FirstNumbered i o (checks start s)) n (subst (λ i. FirstNumbered (number_of r.refusal) i (checks start s)) at (to_number r.refusal r.at (checks start s) first))
+        let here = to_number r.refusal r.at (checks start s) first in
+        subst (λ i. FirstAt (Numbered i) o (checks start s)) n
+        (subst (λ i. FirstAt (Numbered (number_of r.refusal)) i (checks start s)) at here)
 
-    found : FirstNumbered k o (checks start s)
-        → (answer_number (end_of (read_file s)) ≡ k) × (answer_offset (end_of (read_file s)) ≡ o)
+    found : FirstAt (Numbered k) o (checks start s) → FileAnswers s k o
     found u =
         let r = from_number k o (checks start s) u in
         let is = (file_refused s r.0 o (λ q. let one = ap number_of q in omega (arith, one, r.1))).1 r.2 in
         (ap answer_number is ∙ r.1, ap answer_offset is)
+
+-- ---- the numbers of the fields
+
+file_field : (k : ℕ) (Those : Item → Type 0) → 1 < k → ((item : Item) → Numbered k item ↔ Those item)
+    → FileField k Those
+file_field k Those h kind s o =
+    let is = file_number s k o h in
+    let here : (c : Check) → (Numbered k c.item × (c.offset ≡ o)) ↔ (Those c.item × (c.offset ≡ o)) =
+    λ c. ((λ v. ((kind c.item).0 v.0, v.1)), (λ v. ((kind c.item).1 v.0, v.1))) in
+    let those = first_alike Passed here (checks start s) in
+    ((λ q. those.0 (is.0 q)), (λ u. is.1 (those.1 u)))
+
+pub file_four : FileFour
+file_four = file_field 4 IsCoordinate (omega arith) field_numbers.coordinate
+
+pub file_five : FileFive
+file_five = file_field 5 IsSide (omega arith) field_numbers.side
+
+pub file_eleven : FileEleven
+file_eleven = file_field 11 IsRadius (omega arith) field_numbers.radius
+
+pub field_items : FieldItems
+field_items = record {
+  box_place = λ z. (refl, refl);
+  box_sides = λ z. (refl, refl);
+  head_place = λ j z. (refl, refl);
+  head_radius = λ j z. refl;
+  edit_place = λ k z. (refl, refl);
+  edit_radius = λ k z. refl;
+}
 
 pub file_seven_never : FileSevenNever
 file_seven_never s e = go (end_of (read_file s)) refl e

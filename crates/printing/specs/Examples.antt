@@ -49,6 +49,12 @@ pub refused_at_ten : refusal_line 5 10 ≡ 114 ∷ 101 ∷ 102 ∷ 117 ∷ 115 �
 unfolding refusal_line digits places
 refused_at_ten = refl
 
+-- a number of two digits: "refused 11 at 40"
+pub refused_radius :
+    refusal_line 11 40 ≡ 114 ∷ 101 ∷ 102 ∷ 117 ∷ 115 ∷ 101 ∷ 100 ∷ 32 ∷ 49 ∷ 49 ∷ 32 ∷ 97 ∷ 116 ∷ 32 ∷ 52 ∷ 48 ∷ 10 ∷ []
+unfolding refusal_line digits places
+refused_radius = refl
+
 -- "refused 7 at 0"
 pub refused_at_none : refusal_line 7 0 ≡ 114 ∷ 101 ∷ 102 ∷ 117 ∷ 115 ∷ 101 ∷ 100 ∷ 32 ∷ 55 ∷ 32 ∷ 97 ∷ 116 ∷ 32 ∷ 48 ∷ 10 ∷ []
 unfolding refusal_line digits places

@@ -1,3 +1,4 @@
 pub mod Fresh
 pub mod Whole
 pub mod Bytes
+pub mod Fields

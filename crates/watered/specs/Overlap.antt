@@ -1,4 +1,4 @@
--- The call for what all heads of a plan but the closed ones water together: checked, it gives document 01's number;
+-- The call for what all heads of a plan but the closed ones water together: checked, it gives the answer's number;
 -- taken, the area is written.
 use Rattle.std.specs.Prelude.{cond, eqb, Float}
 use Rattle.plan.specs.declared.Plan.{Plan}

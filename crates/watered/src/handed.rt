@@ -74,7 +74,7 @@ pub(crate) fn numbers_of(heads: [Head; 10]) -> [i32; 30]
     array::from_fn(|i| number_at(&heads, i))
 }
 
-// Document 01's number of an answer, 0 where it is taken.
+// The number of an answer, 0 where it is taken.
 pub(crate) fn number_of(answer: Answer) -> u32
     ensures { result ≡ answer_number answer }
 {

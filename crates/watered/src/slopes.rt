@@ -15,7 +15,7 @@ use overlaps::overlaps::compute_overlaps_circles;
 use plan::check::check;
 
 // The exclusives of a plan in its box with their gradients: presence bytes and numbers of rows 0 to 2^n - 1, and 3n + 4
-// gradient numbers a row. The answer is 0, or the refusal's number (2, 4, 5, 7), which writes nothing.
+// gradient numbers a row. The answer is 0, or the refusal's number, which writes nothing.
 pub fn watered_gradients(
     n: usize,
     sides: &[i32; 4],
@@ -56,7 +56,7 @@ pub fn watered_open_gradients(
 }
 
 // What all heads of the plan but the closed ones water together, without the box, which is checked all the same. The
-// answer is 0, or the refusal's number (2, 4, 5), which leaves `overlap`.
+// answer is 0, or the refusal's number, which leaves `overlap`.
 pub fn watered_overlap(n: usize, sides: &[i32; 4], heads: &[i32; 30], overlap: &mut f64) -> u32
     ensures value { result ≡ answer_number (plan_answer (spec.plan_of n sides.now heads.now)) }
     ensures overlap_after { overlap.new ≡ overlap_left (spec.plan_of n sides.now heads.now) overlap.old }

@@ -17,7 +17,7 @@ use table::run::{Edits, run};
 use table::tables::Tables;
 
 // The rows of a plan in its box and their exclusive areas, worked out afresh: presence bytes and numbers of rows 0 to
-// 2^n - 1 of both tables. The answer is 0, or document 01's number of the refusal (2, 4, 5, 7), which writes nothing.
+// 2^n - 1 of both tables. The answer is 0, or the refusal's number, which writes nothing.
 pub fn watered_afresh(
     n: usize,
     sides: &[i32; 4],
@@ -72,7 +72,7 @@ pub fn watered_open_afresh(
 }
 
 // Head number `head` of the plan gets a new place and radius (0 closes it), and both tables follow; the plan left
-// stands in `heads`. The answer is 0, or the refusal's number (2, 4, 5, 6, 7), which leaves heads and tables.
+// stands in `heads`. The answer is 0, or the refusal's number, which leaves heads and tables.
 pub fn watered_edit(
     n: usize,
     sides: &[i32; 4],

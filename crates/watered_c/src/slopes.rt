@@ -8,7 +8,7 @@ ghost use Rattle.watered.specs.Handed as spec;
 ghost use Rattle.watered.specs.Overlap.{overlap_left};
 
 // The exclusives of a plan in its box with their gradients: presence bytes and numbers of rows 0 to 2^n - 1, and 3n + 4
-// gradient numbers a row. The answer is 0, or the refusal's number (2, 4, 5, 7), which writes nothing.
+// gradient numbers a row. The answer is 0, or the refusal's number, which writes nothing.
 #[unsafe(no_mangle)]
 pub extern "C" fn watered_gradients(
     n: usize,
@@ -49,7 +49,7 @@ pub extern "C" fn watered_open_gradients(
 }
 
 // What all heads of the plan but the closed ones water together, without the box, which is checked all the same. The
-// answer is 0, or the refusal's number (2, 4, 5), which leaves `overlap`.
+// answer is 0, or the refusal's number, which leaves `overlap`.
 #[unsafe(no_mangle)]
 pub extern "C" fn watered_overlap(
     n: usize,
