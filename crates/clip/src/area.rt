@@ -1,5 +1,5 @@
 // The area of a set inside the box: of a list of arcs, and of a set. Rests on specs/Area.antt.
-ghost use Rattle.std.specs.Prelude.{◌≡◌, map, length};
+ghost use Rattle.std.specs.Prelude.{◌≡◌, map, length, false};
 ghost use Rattle.binary64.specs.Constants.{zero64};
 ghost use Rattle.intersections.specs.Members.{heads_of, circle_at, members_of};
 ghost use Rattle.intersections.specs.Heads.{first_ten, circle_list};
@@ -70,19 +70,18 @@ fn arcs_sum(arcs: &[BoundaryArc], bounds: Bounds, circles: &[Circle]) -> f64
     )
 }
 
-// The area in the box of a set; the arcs of its outline name circles of a list.
+// The area in the box of a set; the arcs of its outline name circles of a list. Whether the box is empty is asked by
+// its callers, first: the members and arcs that are handed over here cost more than that answer.
 #[tactic(auto, unfolding(crate::specs::Area::clipped_area_of))]
 fn clipped_area(arcs: &[BoundaryArc], circles: &[Circle], bounds: Bounds, set: &[HeadCircle]) -> f64
+    requires { empty_box bounds ≡ false }
     ensures { result ≡ clipped_area_of bounds circles.now (circle_list set.now) arcs.now }
 {
-    if empty_box(bounds) {
-        return 0.0;
-    }
     0.5 * add_edges(arcs_sum(arcs, bounds, circles), bounds, set)
 }
 
 // The area in the box of the set `mask`, whose arcs are given. Of the circles the first ten are read, here and below.
-#[tactic(auto, using(crate::proofs::Rows::of_heads))]
+#[tactic(auto, using(crate::proofs::Rows::of_heads), unfolding(crate::specs::Area::clipped_area_of))]
 pub fn area_from_clipped_arcs(
     arcs: &[BoundaryArc],
     circles: &[Circle],
@@ -92,11 +91,14 @@ pub fn area_from_clipped_arcs(
     ensures { let all = first_ten circles.now in
         result ≡ clipped_area_of bounds all (map (circle_at all) (heads_of (length all) mask)) arcs.now }
 {
+    if empty_box(bounds) {
+        return 0.0;
+    }
     clipped_area(arcs, first_ten(circles), bounds, &members_of(mask, circles))
 }
 
 // The area that the heads of a set water together inside the box.
-#[tactic(auto, using(crate::proofs::Rows::of_heads), unfolding(crate::specs::Area::clipped_area))]
+#[tactic(auto, using(crate::proofs::Rows::of_heads), unfolding(crate::specs::Area::clipped_area, crate::specs::Area::clipped_area_of))]
 pub fn clipped_region_area(
     mask: usize,
     circles: &[Circle],
@@ -105,6 +107,9 @@ pub fn clipped_region_area(
 ) -> f64
     ensures { result ≡ clipped_area bounds (members_of (first_ten circles.now) points.now mask) }
 {
+    if empty_box(bounds) {
+        return 0.0;
+    }
     let set = members_of(mask, circles);
     let arcs = outline_of(mask, &set, points);
     clipped_area(&arcs, &circles_of(&set), bounds, &set)

@@ -66,10 +66,12 @@ fn last_place(letter: u8, n: usize) -> usize
     }
 }
 
-// A plan, where all calls take one, and its tables in the box and without it.
+// The plan of the last line H, whether all calls take it, and its tables in the box and without it. A plan that is
+// refused is held too: lines O and M are about its circles alone.
 #[derive(Drop)]
 pub struct Held {
     pub plan: Option<Plan>,
+    pub taken: bool,
     pub clipped: Table,
     pub open: Table,
 }
@@ -79,16 +81,20 @@ impl Held {
     pub(crate) fn none() -> Held {
         Held {
             plan: None,
+            taken: false,
             clipped: Table::unwritten(0),
             open: Table::unwritten(0),
         }
     }
 
-    // The plan of a line H. The tables are written over those held, since they are large.
+    // The plan of a line H. The tables are written over those held, since they are large; both, since what the plan
+    // before left is no row of this one.
     pub(crate) fn hold(&mut self, words: &[u64; 40]) {
         let plan = plan_of(words);
-        let taken = self.clipped.write_clipped(plan).is_ok() && self.open.write_open(plan).is_ok();
-        self.plan = taken.then_some(plan);
+        let clipped = self.clipped.write_clipped(plan);
+        let open = self.open.write_open(plan);
+        self.taken = clipped.is_ok() && open.is_ok();
+        self.plan = Some(plan);
     }
 
     // Whether the sets of a line D are the present rows, and the others +0. With the box there is row 0 too, whatever
@@ -113,11 +119,12 @@ impl Held {
         let words = &line.words;
         let masks = rows_needed(plan.n);
         let s = words[1] as usize;
-        if line.last != last_place(letter, plan.n.min(10)) {
+        // Of more than ten heads there is no mask, and every line differs.
+        if masks == 0 || line.last != last_place(letter, plan.n.min(10)) {
             return false;
         }
         match letter {
-            b'H' => true,
+            b'H' => self.taken,
             b'D' => self.same_sets(&words[1..], masks),
             b'R' => s < masks && self.clipped.same_row(words, s),
             b'U' => s < masks && self.open.same_row(words, s),
