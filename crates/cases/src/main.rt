@@ -14,7 +14,9 @@ ghost use Rattle.std.specs.Io.KnownBytes.{Appends};
 use file::reader::{Completed, Reader};
 use file::{fields, reader};
 use heads::Head;
-use plan::{Answer, Edit, Gradients, Ground, Lent, Plan, Refused, book, check};
+use plan::{
+    Answer, Edit, Gradients, Ground, Lent, Plan, answer_number, answer_offset, book, check,
+};
 use std::io::{BufWriter, Read, Write};
 use std::{array, io};
 
@@ -85,12 +87,13 @@ fn print_edit<W: Write>(out: &mut W, edit: Edit) -> io::Result<()> {
     out.write_all(b"\n")
 }
 
-// Taken, or refused with number and offset.
+// Taken, or refused with number and offset, by the two functions of `plan` whose contracts say what these are.
 fn print_answer<W: Write>(out: &mut W, answer: Answer) -> io::Result<()> {
-    match answer {
-        Ok(()) => writeln!(out, "taken"),
-        Err(Refused { refusal, at }) => writeln!(out, "refused {} at {at}", u8::from(refusal)),
+    if answer.is_ok() {
+        return writeln!(out, "taken");
     }
+    let (number, at) = (answer_number(answer), answer_offset(answer));
+    writeln!(out, "refused {number} at {at}")
 }
 
 // What the last byte completed.

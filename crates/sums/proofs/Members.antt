@@ -24,7 +24,8 @@ use Rattle.boundary.specs.Outline.{angles_of, arcs_at, full_circle, outline_from
 use Rattle.boundary.specs.Set.{numbered}
 use Rattle.outline.proofs.Walking.{circles_of_members, members_many}
 use Rattle.boundary.specs.declared.sort.Mark.{Mark}
-use Rattle.gaps.specs.Marks.{marks_at, angles_in}
+use Rattle.gaps.specs.Marks.{marks_at, marks_let, angles_in}
+use Rattle.gaps.specs.declared.marks.HeadMarks.{HeadMarks}
 use Rattle.sums.specs.declared.pass.Pass.{Pass}
 use Rattle.sums.specs.Walk.{rank, marks_of, head_in, part_in, heads_in, arcs_by, outline_arcs}
 use Rattle.gaps.specs.Marks.{Few}
@@ -199,13 +200,23 @@ arcs_same circles f g S h =
     (full_circle (count_trailing_zeros 64 S) (circle_at circles (count_trailing_zeros 64 S)) ∷ []))
     (up_to_cong (part_in circles f S) (part_in circles g S) (length circles) (λ j k. part_same circles f g S j (h j k)))
 
--- the arcs that the walk lists are those of the outline
-pub marked_arcs : (pass : Pass) (S : ℕ) → Subset S pass.needed
+-- the arcs that the walk lists are those of the outline: of any heads whose marks, of those of `needed`, are those of the
+-- meeting points
+pub marked_arcs : (circles : List Circle) (points : List IntersectionPoint) (needed S : ℕ) (heads : List HeadMarks)
+    → ((j : ℕ) → j < length circles → in_set needed j ≡ true
+    → marks_of heads j ≡ marks_let circles j (marks_at (circle_at circles j) j points))
+    → Subset S needed → S < 2 ^ length circles → Few circles points → length circles ≤ 64
+    → arcs_by circles (marks_of heads) S ≡ outline_arcs circles points S
+marked_arcs circles points needed S heads held within below few most =
+    arcs_same circles (marks_of heads) (marks_for circles points) S
+    (λ j h i. ap (angles_in S) (held j h (subset_head S needed within j i))
+    ∙ let_angles circles S j (marks_for circles points j))
+    ∙ arcs_are circles points S below few most
+
+-- of the heads of a pass
+pub pass_arcs : (pass : Pass) (S : ℕ) → Subset S pass.needed
     → arcs_by pass.circles.now (marks_of pass.heads.now.items) S
     ≡ outline_arcs pass.circles.now pass.points.now S
-marked_arcs pass S within =
-    arcs_same pass.circles.now (marks_of pass.heads.now.items)
-    (marks_for pass.circles.now pass.points.now) S
-    (λ j h i. ap (angles_in S) (marks_held pass j h (subset_head S pass.needed within j i))
-    ∙ let_angles pass.circles.now S j (marks_for pass.circles.now pass.points.now j))
-    ∙ arcs_are pass.circles.now pass.points.now S (set_below pass S within) pass.few (omega (arith, pass.ten))
+pass_arcs pass S within =
+    marked_arcs pass.circles.now pass.points.now pass.needed S pass.heads.now.items (marks_held pass) within
+    (set_below pass S within) pass.few (omega (arith, pass.ten))

@@ -35,7 +35,7 @@ use Rattle.boundary.specs.Outline.{gap, between, full_circle, probe}
 use Rattle.gaps.specs.declared.marks.HeadMarks.{HeadMarks}
 use Rattle.gaps.specs.Gaps.{owned_in, is_arc, next_of}
 use Rattle.gaps.specs.Numbers.{first_places, gap_number}
-use Rattle.gaps.specs.Marks.{adopted_by, angles_in, phi_at, unmarked}
+use Rattle.gaps.specs.Marks.{adopted_by, angles_in, phi_at, unmarked, gap_letters}
 use Rattle.gaps.proofs.Next.{next_is}
 use Rattle.gaps.proofs.Numbering.{by_cases}
 use Rattle.sums.specs.declared.pass.Pass.{Pass}
@@ -211,6 +211,82 @@ pub added_on : {pass : Pass} {a b c : List ℕ} {x y : List BoundaryArc} → Add
 added_on {x = x} {y = y} f g =
     record { said = g.said ∙ ap (λ t. t ++ y) f.said ∙ append_assoc _ x y; placed = λ all. g.placed (f.placed all) }
 
+-- ---- one gap, of any head of which it is held who lets it have the gap from this mark to the next
+
+module _ (circles : List Circle) (heads : List HeadMarks) (needed S j : ℕ) (most : length circles ≤ 10)
+    (below : S < 2 ^ length circles) (head : j < length circles) (in-S : in_set S j ≡ true)
+    (many : length (marks_of heads j) ≤ 32) (a b : ℕ) (ha : a < length (marks_of heads j))
+    (hb : b < length (marks_of heads j))
+    (held : let marks = marks_of heads j in
+    (get_or marks a no_mark).lets
+    ≡ gap_letters circles j (phi_at marks a) (phi_at marks ((a + 1) % length marks))) where
+  abbrev marks : List Mark
+  marks = marks_of heads j
+
+  head_low : j < 10
+  head_low = omega (arith, head, most)
+
+  abbrev phi_a : Float
+  phi_a = phi_at (marks_of heads j) a
+
+  abbrev phi_b : Float
+  phi_b = phi_at (marks_of heads j) b
+
+  -- the gap has no number and is no arc, or it is the arc of its number
+  abbrev pub Numbered : Option ℕ → Type 0
+  Numbered None =
+      let marks = marks_of heads j in
+      gap_in circles S j (phi_at marks a) (phi_at marks b) ≡ []
+  Numbered (Some p) =
+      let marks = marks_of heads j in
+      (gap_in circles S j (phi_at marks a) (phi_at marks b) ≡ arc_at circles heads p ∷ []) × Placed needed heads p
+
+  by_arc : (p : ℕ) → arc_at circles heads p ≡ between j (circle_at circles j) phi_a (gap phi_a phi_b)
+      → Placed needed heads p → (s : Bool) → is_arc circles S j phi_a phi_b ≡ s
+      → Numbered (cond s (Some p) None)
+  unfolding gap_in
+  by_arc p is placed true e = (rw (e, is), placed)
+  by_arc p is placed false e = rw e
+
+  -- between neighbours, by who lets the head have it
+  module _ (next : b ≡ next_of a (length (marks_of heads j))) where
+    after : b ≡ (a + 1) % length (marks_of heads j)
+    after = next ∙ next_is a (length (marks_of heads j)) ha
+
+    by_mask : subset 64 S (get_or (marks_of heads j) a no_mark).lets ≡ is_arc circles S j phi_a phi_b
+    by_mask =
+        sym (and_test 64 S (get_or (marks_of heads j) a no_mark).lets
+        (le_trans below (pow_mono {i = length circles} {j = 64} (omega (arith, most)))))
+        ∙ ap (λ m. eqb (bit_and S m) S) held
+        ∙ arc_by_mask circles S j below in-S phi_a (phi_at marks ((a + 1) % length marks))
+        ∙ ap (λ m. is_arc circles S j phi_a (phi_at marks m)) (sym after)
+
+    neighbour : (s : Bool) → subset 64 S (get_or (marks_of heads j) a no_mark).lets ≡ s
+        → Numbered (cond s (Some (j * 32 + a)) None)
+    neighbour s e =
+        by_arc (j * 32 + a)
+        (neighbour_arc circles heads j a (omega (arith, many, ha)) head_low (omega (arith, many, hb, after))
+        ∙ ap (λ m. between j (circle_at circles j) phi_a (gap phi_a (phi_at marks m))) (sym after))
+        (neighbour_placed circles heads j a (omega (arith, many, ha)) head_low needed ha) s (sym by_mask ∙ e)
+
+  -- any other, worked out
+  other : (s : Bool) → is_arc circles S j phi_a phi_b ≡ s
+      → Numbered (cond s (Some (330 + (j * 32 + a) * 320 + (j * 32 + b))) None)
+  other s e =
+      by_arc (330 + (j * 32 + a) * 320 + (j * 32 + b))
+      (other_arc circles heads j a (omega (arith, many, ha)) head_low b (omega (arith, many, hb)))
+      (other_placed heads needed j a b head_low many ha hb) s e
+
+  -- circles and marks are few enough to be read whole, and all marks stand for angles
+  pub gap_listed : {number : Option ℕ} {l : List Mark} {h : HeadMarks}
+      → number ≡ gap_number (first_ten circles) (first_places l) (length l) S j a b
+      → l ≡ h.marks.items → h ≡ get_or heads j unmarked
+      → Numbered number
+  gap_listed e el eh =
+      let own : _ ≡ marks = el ∙ ap (λ t. t.marks.items) eh in
+      subst Numbered (sym (e ∙ rw (own, few_read circles most, take_all 32 marks many) refl))
+      (by_cases circles marks (length marks) S j a b head ha hb Numbered neighbour other)
+
 -- ---- a set of heads of the pass
 
 module _ (pass : Pass) (S : ℕ) (within : Subset S pass.needed) where
@@ -227,84 +303,22 @@ module _ (pass : Pass) (S : ℕ) (within : Subset S pass.needed) where
   set_wide = le_trans set_below (pow_mono {i = length pass.circles.now} {j = 64} (omega (arith, pass.ten)))
 
   module _ (j : ℕ) (head : j < length pass.circles.now) (in-S : in_set S j ≡ true) where
-    in-needed : in_set pass.needed j ≡ true
+    pub in-needed : in_set pass.needed j ≡ true
     in-needed = subset_head S pass.needed within j in-S
-
-    abbrev marks : List Mark
-    marks = marks_of pass.heads.now.items j
 
     low : j < 10
     low = omega (arith, head, pass.ten)
 
-    many : length (marks_of pass.heads.now.items j) ≤ 32
-    many = marks_few pass j
-
-    -- ---- one gap
-
-    module _ (a b : ℕ) (ha : a < length (marks_of pass.heads.now.items j))
-        (hb : b < length (marks_of pass.heads.now.items j)) where
-      abbrev phi_a : Float
-      phi_a = phi_at (marks_of pass.heads.now.items j) a
-
-      abbrev phi_b : Float
-      phi_b = phi_at (marks_of pass.heads.now.items j) b
-
-      -- the gap has no number and is no arc, or it is the arc of its number
-      abbrev pub Numbered : Option ℕ → Type 0
-      Numbered None =
-          let marks = marks_of pass.heads.now.items j in
-          gap_in pass.circles.now S j (phi_at marks a) (phi_at marks b) ≡ []
-      Numbered (Some p) =
-          let marks = marks_of pass.heads.now.items j in
-          (gap_in pass.circles.now S j (phi_at marks a) (phi_at marks b)
-          ≡ arc_at pass.circles.now pass.heads.now.items p ∷ [])
-          × Placed pass.needed pass.heads.now.items p
-
-      by_arc : (p : ℕ) → arc_at circles heads p ≡ between j (circle_at circles j) phi_a (gap phi_a phi_b)
-          → Placed pass.needed pass.heads.now.items p → (s : Bool) → is_arc circles S j phi_a phi_b ≡ s
-          → Numbered (cond s (Some p) None)
-      unfolding gap_in
-      by_arc p is placed true e = (rw (e, is), placed)
-      by_arc p is placed false e = rw e
-
-      -- between neighbours, by who lets the head have it
-      module _ (next : b ≡ next_of a (length (marks_of pass.heads.now.items j))) where
-        after : b ≡ (a + 1) % length (marks_of pass.heads.now.items j)
-        after = next ∙ next_is a (length (marks_of pass.heads.now.items j)) ha
-
-        by_mask : subset 64 S (get_or (marks_of pass.heads.now.items j) a no_mark).lets
-            ≡ is_arc circles S j phi_a phi_b
-        by_mask =
-            sym (and_test 64 S (get_or (marks_of pass.heads.now.items j) a no_mark).lets set_wide)
-            ∙ ap (λ m. eqb (bit_and S m) S) (lets_held pass j head in-needed a ha)
-            ∙ arc_by_mask circles S j set_below in-S phi_a (phi_at marks ((a + 1) % length marks))
-            ∙ ap (λ m. is_arc circles S j phi_a (phi_at marks m)) (sym after)
-
-        neighbour : (s : Bool) → subset 64 S (get_or (marks_of pass.heads.now.items j) a no_mark).lets ≡ s
-            → Numbered (cond s (Some (j * 32 + a)) None)
-        neighbour s e =
-            by_arc (j * 32 + a)
-            (neighbour_arc circles heads j a (omega (arith, many, ha)) low (omega (arith, many, hb, after))
-            ∙ ap (λ m. between j (circle_at circles j) phi_a (gap phi_a (phi_at marks m))) (sym after))
-            (neighbour_placed circles heads j a (omega (arith, many, ha)) low pass.needed ha) s (sym by_mask ∙ e)
-
-      -- any other, worked out
-      other : (s : Bool) → is_arc circles S j phi_a phi_b ≡ s
-          → Numbered (cond s (Some (330 + (j * 32 + a) * 320 + (j * 32 + b))) None)
-      other s e =
-          by_arc (330 + (j * 32 + a) * 320 + (j * 32 + b))
-          (other_arc circles heads j a (omega (arith, many, ha)) low b (omega (arith, many, hb)))
-          (other_placed heads pass.needed j a b low many ha hb) s e
-
-      -- circles and marks are few enough to be read whole, and all marks stand for angles
-      pub gap_listed : {number : Option ℕ} {l : List Mark} {held : HeadMarks}
-          → number ≡ gap_number (first_ten pass.circles.now) (first_places l) (length l) S j a b
-          → l ≡ held.marks.items → held ≡ get_or pass.heads.now.items j unmarked
-          → Numbered number
-      gap_listed e el eh =
-          let own : _ ≡ marks = el ∙ ap (λ h. h.marks.items) eh in
-          subst Numbered (sym (e ∙ rw (own, few_read circles pass.ten, take_all 32 marks many) refl))
-          (by_cases circles marks (length marks) S j a b head ha hb Numbered neighbour other)
+    -- one gap, of what is held of the heads of a pass
+    pub pass_gap_listed : (a b : ℕ) (ha : a < length (marks_of pass.heads.now.items j))
+        (hb : b < length (marks_of pass.heads.now.items j)) {number : Option ℕ} {l : List Mark} {h : HeadMarks}
+        → number ≡ gap_number (first_ten pass.circles.now) (first_places l) (length l) S j a b
+        → l ≡ h.marks.items → h ≡ get_or pass.heads.now.items j unmarked
+        → Numbered pass.circles.now pass.heads.now.items pass.needed S j pass.ten set_below head in-S
+        (marks_few pass j) a b ha hb (lets_held pass j head in-needed a ha) number
+    pass_gap_listed a b ha hb =
+        gap_listed circles heads pass.needed S j pass.ten set_below head in-S (marks_few pass j) a b ha hb
+        (lets_held pass j head in-needed a ha)
 
     -- ---- no angle: the whole circle, by the mask of those that let the head have its probe
 

@@ -5,9 +5,9 @@
 
 pub mod afresh;
 pub mod edit;
-mod exclusives;
-mod met;
-mod ready;
-mod rows;
+pub mod exclusives;
+pub mod met;
+pub mod ready;
+pub mod rows;
 pub mod run;
 pub mod tables;

@@ -9,7 +9,7 @@ use lib.Count.{count_trailing_zeros}
 use Rattle.std.proofs.Math.Nat.{mod-eq_of_lt}
 use Rattle.masks.specs.Operations.{in_by_shift}
 use Rattle.masks.specs.Subset.{subset_head}
-use Rattle.sums.proofs.Members.{marked_arcs}
+use Rattle.sums.proofs.Members.{pass_arcs}
 use Rattle.sums.proofs.Walking.{set_below, single_below, single_in, whole_placed, heads_none, heads_more, heads_same}
 use Rattle.sums.proofs.Walking.{arcs_many, arcs_one, added_none}
 use Rattle.sums.proofs.walk.walk.Goals as goal
@@ -25,7 +25,7 @@ returns-then-mask-eq1 c =
     let low : count_trailing_zeros 64 a.mask < 10 = omega (arith, head, p.ten) in
     rw (c.push.ensures.items, c.clear.ensures, c.number.ensures ∙ mod-eq_of_lt (omega (arith, low)))
     (record {
-      said = arcs_one p.circles.now p.heads.now.items a.mask one low ∙ marked_arcs p a.mask c.requires;
+      said = arcs_one p.circles.now p.heads.now.items a.mask one low ∙ pass_arcs p a.mask c.requires;
       placed = (
         whole_placed p.heads.now.items p.needed (count_trailing_zeros 64 a.mask) low
             (subset_head a.mask p.needed c.requires (count_trailing_zeros 64 a.mask) (single_in _ a.mask p.ten n one)),
@@ -74,6 +74,6 @@ returns c =
     omega (arith, c.loop-j-test.false, l.auto.j-end) in
     record {
       said = arcs_many p.circles.now p.heads.now.items a.mask c.if-mask-eq1.false
-          (rw all at l.invariant.1.said) ∙ marked_arcs p a.mask c.requires;
+          (rw all at l.invariant.1.said) ∙ pass_arcs p a.mask c.requires;
       placed = l.invariant.1.placed tt;
     }

@@ -1,7 +1,7 @@
 -- `walk::HeadOfSet::list_gap`: what the number of the gap says of the list.
 use mathlib.Core.Path.{sym, ◌∙◌}
 use native.Mathlib.Omega.{arith}
-use Rattle.sums.proofs.Walking.{gap_listed, added_one, added_none}
+use Rattle.sums.proofs.Walking.{pass_gap_listed, added_one, added_none}
 use Rattle.sums.proofs.walk.HeadOfSet.list_gap.Goals as goal
 
 pub returns-in-Some : goal.returns-in-Some
@@ -9,7 +9,7 @@ returns-in-Some c =
     let h = c.args.self.now in
     let p = h.pass in
     let below = c.requires.marks in
-    let arc = gap_listed p h.mask h.within h.j h.head h.has c.args.a c.args.b below.0 below.1
+    let arc = pass_gap_listed p h.mask h.within h.j h.head h.has c.args.a c.args.b below.0 below.1
     (sym c.in-Some.is ∙ c.gap_number.ensures) c.as_slice-marks.ensures.value c.head.ensures in
     record {
       count = omega (arith, c.push.ensures.len);
@@ -21,5 +21,5 @@ returns-in_default-clause-added c =
     let h = c.args.self.now in
     let below = c.requires.marks in
     added_none h.pass c.args.list.now.items
-    (gap_listed h.pass h.mask h.within h.j h.head h.has c.args.a c.args.b below.0 below.1
+    (pass_gap_listed h.pass h.mask h.within h.j h.head h.has c.args.a c.args.b below.0 below.1
     (sym c.in_default.is ∙ c.gap_number.ensures) c.as_slice-marks.ensures.value c.head.ensures)
