@@ -9,3 +9,4 @@ pub mod LevelSums
 pub mod Answers
 pub mod Closing
 pub mod TableRows
+pub mod FirstItems

@@ -8,6 +8,7 @@ ghost use Rattle.binary64.specs.Functions.{clamp_to_zero};
 ghost use Rattle.exclusive.specs.Exclusive.{exclusive_row, rows_check, rows_number};
 ghost use Rattle.exclusive.specs.Exclusive.{exclusive_table, exclusives_in_place};
 
+use crate::copying::copy_first;
 use crate::levels::subtract_levels;
 use crate::presence::Presence;
 use binary64::clamp_to_zero;
@@ -87,7 +88,7 @@ fn write_exclusives(present: &Presence, areas: &[f64], exclusives: &mut [f64])
         ≡ written (exclusive_row P.n (stands P.bytes.now) (λ S. get_or areas.now S nan)) (2 ^ P.n) exclusives.old }
 {
     let rows = present.row_count();
-    exclusives[..rows].copy_from_slice(&areas[..rows]);
+    copy_first(areas, exclusives, rows);
     exclude(present, exclusives);
 }
 

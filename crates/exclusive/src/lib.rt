@@ -4,6 +4,7 @@
 #![tactic(auto)]
 
 pub mod areas;
+pub mod copying;
 pub mod levels;
 pub mod presence;
 pub mod rows;

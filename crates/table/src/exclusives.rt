@@ -4,6 +4,7 @@ ghost use Rattle.areas.specs.Exclusives.{to_exclusives};
 ghost use Rattle.regions.specs.Slices.{slices_of, row_at, written_bytes, written_numbers};
 
 use exclusive::areas::to_exclusive_areas;
+use exclusive::copying::copy_first;
 use plan::rows_needed;
 
 // Rows 0 to 2^n - 1 of the second table: the bytes of the first, and the exclusive areas. Slices one by one: of
@@ -24,7 +25,7 @@ pub(crate) fn write_exclusives(
         ≡ written_numbers (to_exclusives.of n (row_at (slices_of presence.now rows.now))) (2 ^ n) exclusives.old }
 {
     let count = rows_needed(n);
-    exclusive_presence[..count].copy_from_slice(&presence[..count]);
+    copy_first(presence, exclusive_presence, count);
     // taken, since no slice is too short
     let _ = to_exclusive_areas(presence, rows, exclusives, n);
 }

@@ -7,6 +7,7 @@ use lib.Ieee.{Float, nan}
 use lib.ListN.{get_or, drop}
 use Rattle.lists.specs.Written.{written}
 use Rattle.exclusive.proofs.Closing.{copied_is}
+use Rattle.exclusive.proofs.FirstItems.{copied_whole}
 use Rattle.exclusive.proofs.TableRows.{take_by_place}
 use Rattle.exclusive.proofs.areas.write_exclusives.Goals as goal
 
@@ -16,6 +17,8 @@ returns c =
     let rows = c.row_count-rows in
     c.exclude.ensures
     ∙ copied_is P.n P.bytes.now areas first _
-    (ap (λ (l : List Float). l ++ drop rows.result first)
-    (c.copy_from_slice.ensures.after ∙ take_by_place areas nan rows.result (omega (arith, rows.ensures.value)))
+    (c.copy_first.ensures
+    ∙ copied_whole areas first rows.result (omega (arith, rows.ensures.value)) (omega (arith, rows.ensures.value))
+    ∙ ap (λ (l : List Float). l ++ drop rows.result first)
+    (take_by_place areas nan rows.result (omega (arith, rows.ensures.value)))
     ∙ ap (λ (m : ℕ). written (λ S. get_or areas S nan) m first) rows.ensures.value)
