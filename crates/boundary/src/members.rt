@@ -6,7 +6,7 @@ ghost use Rattle.boundary.specs.Outline.{angle_about};
 ghost use Rattle.boundary.specs.Sort.{sorted};
 
 use crate::angles::angle_about;
-use crate::sort::{Angles, insert};
+use crate::sort::{Angles, insert_angle};
 use intersections::members::{HeadCircle, counted_for};
 use intersections::points::IntersectionPoint;
 
@@ -17,7 +17,7 @@ pub fn angles_for(mask: usize, member: HeadCircle, points: &[IntersectionPoint])
     let mut list = Angles::new();
     for q in points {
         if counted_for(mask, member.head, *q) {
-            insert(&mut list, angle_about(member.circle, q.point));
+            insert_angle(&mut list, angle_about(member.circle, q.point));
         }
     }
     list

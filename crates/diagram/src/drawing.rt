@@ -15,7 +15,7 @@ use sets::discover::discover_regions;
 // Circles with their meeting points, and the box that they are clipped to where there is one. A slice, and no list of
 // ten: more than ten can be handed over, and are refused. In a drawing made by `of` the points are those of the first
 // ten circles; the fields are public, and in another they may be any.
-#[derive(Drop)]
+#[derive(Clone, Copy)]
 pub struct Drawing<'a> {
     pub circles: &'a [Circle],
     pub points: Intersections,

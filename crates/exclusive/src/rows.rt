@@ -7,10 +7,10 @@ ghost use Rattle.masks.specs.Presence.{stands};
 ghost use Rattle.exclusive.specs.RowOrder.{row_order};
 
 use crate::presence::Presence;
-use arrayvec::ArrayVec;
+use bounded_list::BoundedList;
 
 // Present rows, by their masks.
-pub type Rows = ArrayVec<usize, 1024>;
+pub type Rows = BoundedList<usize, 1024>;
 
 // The masks of the present rows, ascending: how many there are, and they stand first in `masks`. Each mask is written,
 // and the next takes its place if its row is absent: nothing waits for the test. Tried and slower, of whole calls: a

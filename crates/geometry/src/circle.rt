@@ -10,8 +10,8 @@ ghost use Rattle.geometry.specs.Meeting.{points};
 
 use crate::meeting::Meeting;
 use crate::point::Point;
-use arrayvec::ArrayVec;
 use binary64::{abs, smaller};
+use bounded_list::BoundedList;
 use elementary::arctangent::acos;
 use elementary::root::root;
 
@@ -28,7 +28,7 @@ pub struct Circle {
 }
 
 // At most ten circles: of a plan's heads by head number, or of the heads of a set in order.
-pub type Circles = ArrayVec<Circle, 10>;
+pub type Circles = BoundedList<Circle, 10>;
 
 impl Circle {
     // An arc of a smaller turn, or of a full turn but for less, is none.

@@ -5,7 +5,7 @@ ghost use Rattle.intersections.specs.Members.{counted_for};
 ghost use Rattle.intersections.specs.Heads.{first_ten, heads_with, circle_list};
 
 use crate::points::IntersectionPoint;
-use arrayvec::ArrayVec;
+use bounded_list::BoundedList;
 use geometry::circle::{Circle, Circles};
 use masks::is_subset;
 
@@ -17,7 +17,7 @@ pub struct HeadCircle {
 }
 
 // The heads of a set, in order.
-pub type Members = ArrayVec<HeadCircle, 10>;
+pub type Members = BoundedList<HeadCircle, 10>;
 
 // The first N of a list of any length, or all of them: what is read where there is room for N.
 pub fn first<const N: usize, T>(list: &[T]) -> &[T]

@@ -12,7 +12,7 @@ use stored::line::Line;
 
 // The circles, their meeting points, and the box, where it is given. (As `Ready` of `table`, which is private there and
 // is made of a plan of whole numbers.)
-#[derive(Drop)]
+#[derive(Clone, Copy)]
 pub struct Plan {
     pub circles: Circles,
     pub points: Intersections,

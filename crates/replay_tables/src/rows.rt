@@ -9,7 +9,7 @@ use table::tables::Tables;
 
 // A plan's rows and exclusives. (Arrays, here and below, and a place in each for a row: the calls of crates `table` and
 // `gradients` are lent slices as the C interface lends them.)
-#[derive(Drop)]
+#[derive(Clone, Copy)]
 pub struct Areas {
     pub presence: [u8; 1024],
     pub rows: [f64; 1024],
@@ -37,7 +37,7 @@ impl Areas {
 
 // A plan's rows and exclusives, and its exclusives as they come with their gradients, of which a row has `width`
 // numbers. There is room for ten heads in a box.
-#[derive(Drop)]
+#[derive(Clone, Copy)]
 pub struct Table {
     pub areas: Areas,
     pub width: usize,

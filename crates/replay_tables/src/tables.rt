@@ -68,7 +68,7 @@ fn last_place(letter: u8, n: usize) -> usize
 
 // The plan of the last line H, whether all calls take it, and its tables in the box and without it. A plan that is
 // refused is held too: lines O and M are about its circles alone.
-#[derive(Drop)]
+#[derive(Clone, Copy)]
 pub struct Held {
     pub plan: Option<Plan>,
     pub taken: bool,

@@ -1,13 +1,14 @@
 -- Laws of the walk round the heads of a set.
 use mathlib.Core.Path.{◌≡◌, refl, sym, ap, subst, ◌∙◌}
 use mathlib.Core.Bool.{Bool, true, false, cond}
-use mathlib.Core.List.{List, [], ◌∷◌, ◌++◌, map, map-append, append-nil, append_assoc}
+use mathlib.Core.List.{List, [], ◌∷◌, ◌++◌, map-append, append-nil, append_assoc}
 use Prim.Native.Nat.{ℕ, zero, suc, ◌+◌, ◌-◌, ◌*◌, ◌/◌, ◌%◌, ◌^◌, ◌≤◌, ◌<◌}
 use native.Mathlib.Nat.{le_trans}
 use native.Mathlib.Numerals.{add-one}
 use native.Mathlib.Omega.{arith}
 use borrow.Author.Tests.{ltb-true, ltb-false, lt-ltb, le-ltb, eq-eqb, ne_eqb}
 use Rattle.std.specs.Prelude.{Option, None, Some}
+use Rattle.std.specs.Option.{option_to_list}
 use Rattle.std.specs.List.{position, position_or_len}
 use Rattle.std.proofs.lemmas.List.Sums.{fails_before_first, passes_at_first}
 use lib.Bits.{bit_and}
@@ -40,7 +41,7 @@ use Rattle.gaps.proofs.Next.{next_is}
 use Rattle.gaps.proofs.Numbering.{by_cases}
 use Rattle.sums.specs.declared.pass.Pass.{Pass}
 use Rattle.sums.specs.Walk.{marks_of, gap_in, whole_in, gaps_in, head_in, part_in, heads_in, arcs_by}
-use Rattle.sums.specs.Walk.{Angled, next_place, gap_arc, arc_at, Placed, arcs_listed, Added}
+use Rattle.sums.specs.Walk.{Angled, next_place, gap_arc, arc_at, Placed, Listing, arcs_listed, Added, AddedBy}
 use Rattle.sums.proofs.Ranks.{owned_by_mask, arc_by_mask}
 use Rattle.sums.proofs.Held.{standing_near, standing_whole, placed_near, lets_held, owners_held, marks_few}
 
@@ -188,26 +189,21 @@ module _ (S : ℕ) (marks : List Mark) where
 
 -- ---- numbers put on the list
 
-module _ (pass : Pass) (list : List ℕ) where
-  pub added_one : (p : ℕ) {more : List BoundaryArc}
-      → more ≡ arc_at pass.circles.now pass.heads.now.items p ∷ [] → Placed pass.needed pass.heads.now.items p
-      → Added pass more list (list ++ (p ∷ []))
+module _ (circles : List Circle) (needed : ℕ) (heads : List HeadMarks) (list : List ℕ) where
+  pub added_one : (p : ℕ) {more : List BoundaryArc} → more ≡ arc_at circles heads p ∷ [] → Placed needed heads p
+      → AddedBy circles needed heads more list (list ++ (p ∷ []))
   added_one p e one =
-      let arc = arc_at pass.circles.now pass.heads.now.items in
       record {
-        said = map-append arc list (p ∷ []) ∙ ap (λ t. map arc list ++ t) (sym e);
-        placed = λ all. every_append (Placed pass.needed pass.heads.now.items) list (p ∷ []) all (one, tt);
+        said = map-append (arc_at circles heads) list (p ∷ []) ∙ ap (λ t. arcs_listed circles heads list ++ t) (sym e);
+        placed = λ all. every_append (Placed needed heads) list (p ∷ []) all (one, tt);
       }
 
-  pub added_none : {more : List BoundaryArc} → more ≡ [] → Added pass more list list
-  added_none e =
-      record {
-        said = sym (rw e (append-nil (arcs_listed pass.circles.now pass.heads.now.items list)));
-        placed = λ all. all;
-      }
+  pub added_none : {more : List BoundaryArc} → more ≡ [] → AddedBy circles needed heads more list list
+  added_none e = record { said = sym (rw e (append-nil (arcs_listed circles heads list))); placed = λ all. all }
 
-pub added_on : {pass : Pass} {a b c : List ℕ} {x y : List BoundaryArc} → Added pass x a b → Added pass y b c
-    → Added pass (x ++ y) a c
+pub added_on : {circles : List Circle} {needed : ℕ} {heads : List HeadMarks} {a b c : List ℕ} {x y : List BoundaryArc}
+    → AddedBy circles needed heads x a b → AddedBy circles needed heads y b c
+    → AddedBy circles needed heads (x ++ y) a c
 added_on {x = x} {y = y} f g =
     record { said = g.said ∙ ap (λ t. t ++ y) f.said ∙ append_assoc _ x y; placed = λ all. g.placed (f.placed all) }
 
@@ -278,14 +274,36 @@ module _ (circles : List Circle) (heads : List HeadMarks) (needed S j : ℕ) (mo
       (other_placed heads needed j a b head_low many ha hb) s e
 
   -- circles and marks are few enough to be read whole, and all marks stand for angles
-  pub gap_listed : {number : Option ℕ} {l : List Mark} {h : HeadMarks}
+  pub gap_numbered : {number : Option ℕ} {l : List Mark} {h : HeadMarks}
       → number ≡ gap_number (first_ten circles) (first_places l) (length l) S j a b
       → l ≡ h.marks.items → h ≡ get_or heads j unmarked
       → Numbered number
-  gap_listed e el eh =
+  gap_numbered e el eh =
       let own : _ ≡ marks = el ∙ ap (λ t. t.marks.items) eh in
       subst Numbered (sym (e ∙ rw (own, few_read circles most, take_all 32 marks many) refl))
       (by_cases circles marks (length marks) S j a b head ha hb Numbered neighbour other)
+
+  numbered_on : (list : List ℕ) (number : Option ℕ) → Numbered number
+      → AddedBy circles needed heads (gap_in circles S j phi_a phi_b) list (list ++ option_to_list number)
+  numbered_on list None none = rw (append-nil list) (added_none circles needed heads list none)
+  numbered_on list (Some p) one = added_one circles needed heads list p one.0 one.1
+
+  -- a list with the number put on, if there is one, stands for the arc of the gap too, if it is one
+  pub gap_listed : {number : Option ℕ} {l : List Mark} {h : HeadMarks}
+      → number ≡ gap_number (first_ten circles) (first_places l) (length l) S j a b
+      → l ≡ h.marks.items → h ≡ get_or heads j unmarked
+      → (list : List ℕ)
+      → let marks = marks_of heads j in
+      AddedBy circles needed heads (gap_in circles S j (phi_at marks a) (phi_at marks b)) list
+      (list ++ option_to_list number)
+  gap_listed {number = number} e el eh list = numbered_on list number (gap_numbered e el eh)
+
+-- A list that stands for some arcs stands for them and for what is put on.
+pub listing_on : {circles : List Circle} {needed : ℕ} {heads : List HeadMarks} {arcs more : List BoundaryArc}
+    {list after : List ℕ} → Listing circles needed heads arcs list → AddedBy circles needed heads more list after
+    → Listing circles needed heads (arcs ++ more) after
+listing_on {more = more} l f =
+    record { said = f.said ∙ ap (λ t. t ++ more) l.said; placed = f.placed l.placed }
 
 -- ---- a set of heads of the pass
 
@@ -314,8 +332,9 @@ module _ (pass : Pass) (S : ℕ) (within : Subset S pass.needed) where
         (hb : b < length (marks_of pass.heads.now.items j)) {number : Option ℕ} {l : List Mark} {h : HeadMarks}
         → number ≡ gap_number (first_ten pass.circles.now) (first_places l) (length l) S j a b
         → l ≡ h.marks.items → h ≡ get_or pass.heads.now.items j unmarked
-        → Numbered pass.circles.now pass.heads.now.items pass.needed S j pass.ten set_below head in-S
-        (marks_few pass j) a b ha hb (lets_held pass j head in-needed a ha) number
+        → (list : List ℕ)
+        → let marks = marks_of pass.heads.now.items j in
+        Added pass (gap_in pass.circles.now S j (phi_at marks a) (phi_at marks b)) list (list ++ option_to_list number)
     pass_gap_listed a b ha hb =
         gap_listed circles heads pass.needed S j pass.ten set_below head in-S (marks_few pass j) a b ha hb
         (lets_held pass j head in-needed a ha)
@@ -335,13 +354,14 @@ module _ (pass : Pass) (S : ℕ) (within : Subset S pass.needed) where
           (list ++ ((320 + j) ∷ []))
       unfolding head_in whole_in
       whole_yes e =
-          added_one pass list (320 + j) (rw (none, whole_arc circles heads j low) (rw (sym whole_by ∙ e)))
+          added_one circles pass.needed heads list (320 + j)
+          (rw (none, whole_arc circles heads j low) (rw (sym whole_by ∙ e)))
           (whole_placed pass.heads.now.items pass.needed j low in-needed)
 
       pub whole_no : subset 64 S (get_or pass.heads.now.items j unmarked).owners ≡ false
           → Added pass (head_in pass.circles.now S j (angles_in S (marks_of pass.heads.now.items j))) list list
       unfolding head_in whole_in
-      whole_no e = added_none pass list (rw none (rw (sym whole_by ∙ e)))
+      whole_no e = added_none circles pass.needed heads list (rw none (rw (sym whole_by ∙ e)))
 
 -- ---- the walk round one head
 

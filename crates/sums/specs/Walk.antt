@@ -129,12 +129,15 @@ abbrev pub arcs_listed : List Circle → List HeadMarks → List ℕ → List Bo
 arcs_listed circles heads list = map (arc_at circles heads) list
 
 -- After those of `before` come numbers of these arcs, of heads of `needed`.
-pub record Added (pass : Pass) (arcs : List BoundaryArc) (before after : List ℕ) : Type 0 where
-  pub said :
-      arcs_listed pass.circles.now pass.heads.now.items after
-      ≡ arcs_listed pass.circles.now pass.heads.now.items before ++ arcs
-  pub placed : Every (Placed pass.needed pass.heads.now.items) before
-      → Every (Placed pass.needed pass.heads.now.items) after
+pub record AddedBy (circles : List Circle) (needed : ℕ) (heads : List HeadMarks) (arcs : List BoundaryArc)
+    (before after : List ℕ)
+    : Type 0 where
+  pub said : arcs_listed circles heads after ≡ arcs_listed circles heads before ++ arcs
+  pub placed : Every (Placed needed heads) before → Every (Placed needed heads) after
+
+-- of a pass
+abbrev pub Added : Pass → List BoundaryArc → List ℕ → List ℕ → Type 0
+Added pass arcs before after = AddedBy pass.circles.now pass.needed pass.heads.now.items arcs before after
 
 -- They are numbers of arcs of heads of `needed`, and stand for these arcs.
 pub record Listing (circles : List Circle) (needed : ℕ) (heads : List HeadMarks) (arcs : List BoundaryArc)

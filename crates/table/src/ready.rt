@@ -14,7 +14,7 @@ use sets::discover::discover_regions;
 // Circles and their meeting points; and the box, if the rows are those in it.
 // Not `Drawing` of diagram: that lends its circles, which are made of the plan here, and has the box, whose area goes
 // into row 0, and this its bounds alone.
-#[derive(Drop)]
+#[derive(Clone, Copy)]
 pub struct Ready {
     pub circles: Circles,
     pub points: Intersections,

@@ -20,7 +20,7 @@ loop-q-preserved c =
     let counted = sym c.counted_for.ensures in
     rw (add-one l.q-index, take-suc a.points.now l.q-index no_point (omega arith))
     (elim c.if-counted_for.branch [
-      | then-counted_for w ↦ rw (w.list-is, w.insert.ensures, w.angle_about.ensures)
+      | then-counted_for w ↦ rw (w.list-is, w.insert_angle.ensures, w.angle_about.ensures)
           (angles_with a.member.circle a.mask a.member.head (take l.q-index a.points.now) q _ _ (counted ∙ w.if-counted_for.true) refl l.invariant)
       | else-counted_for w ↦ rw (w.list-is, points_without a.mask a.member.head (take l.q-index a.points.now) q (counted ∙ w.if-counted_for.false)) l.invariant
     ])

@@ -57,26 +57,17 @@ loop-i-init c =
     ∙ ap (λ (t : List ℕ). Before P.bytes.now P.n k ++ t) (level_kept (stands P.bytes.now) k (2 ^ P.n))
     ∙ sym (rows_next (stands P.bytes.now) (2 ^ P.n) k)
 
-pub push-requires : goal.push-requires
-push-requires c =
-    let l = c.loop-i in let P = c.args.present.now in
-    let found = take c.collect_present-count.result c.collect_present-count.new.masks in
-    let inside = c.loop-i-test.true in
-    let has = sym (counted found _ l.i inside c.row_heads-heads.ensures) ∙ c.if-heads-i.true in (
-      omega arith,
-      room P.bytes.now l.rows.items _ P.n (c.loop-c.c + 1) _ P.few
-          (kept_with (Has c.loop-c.c) l.rows.items found l.i inside (eq-eqb _ c.loop-c.c has) ∙ l.invariant),
-    )
-
 pub loop-i-preserved : goal.loop-i-preserved
 loop-i-preserved c =
-    let l = c.loop-i in
+    let l = c.loop-i in let P = c.args.present.now in
     let found = take c.collect_present-count.result c.collect_present-count.new.masks in let k = c.loop-c.c in
     let inside = c.loop-i-test.true in
     let heads = counted found _ l.i inside c.row_heads-heads.ensures in
     elim c.if-heads-i.branch [
-      | then-heads-i w ↦ rw (w.rows-is, w.push.ensures.items)
-          (kept_with (Has k) l.rows.items found l.i inside (eq-eqb _ k (sym heads ∙ w.if-heads-i.true)) ∙ l.invariant)
+      | then-heads-i w ↦
+          let next = kept_with (Has k) l.rows.items found l.i inside (eq-eqb _ k (sym heads ∙ w.if-heads-i.true)) in
+          let pushed = w.push.ensures.items (room P.bytes.now l.rows.items _ P.n (k + 1) _ P.few (next ∙ l.invariant)) in
+          rw (w.rows-is, pushed) (next ∙ l.invariant)
       | else-heads-i w ↦ rw w.rows-is
           (kept_without (Has k) l.rows.items found l.i inside (ne_eqb _ k (λ e. w.if-heads-i.false (heads ∙ e)))
           ∙ l.invariant)

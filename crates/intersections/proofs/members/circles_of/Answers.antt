@@ -11,22 +11,17 @@ use Rattle.intersections.proofs.members.circles_of.Goals as goal
 pub loop-member-init : goal.loop-member-init
 loop-member-init c = c.new-circles.ensures
 
-pub push-requires : goal.push-requires
-push-requires c =
-    let set = c.deref-member-items.result.now in
-    omega (
-      arith,
-      ap length c.loop-member.invariant,
-      length-map (take c.loop-member.member-index set) (λ h. h.circle),
-      length-take c.loop-member.member-index set,
-      c.deref-member-items.ensures.1,
-    )
-
 pub loop-member-preserved : goal.loop-member-preserved
 loop-member-preserved c =
     let i = c.loop-member.member-index in
     let set = c.deref-member-items.result.now in
-    c.push.ensures.items
+    c.push.ensures.items (omega (
+      arith,
+      ap length c.loop-member.invariant,
+      length-map (take i set) (λ h. h.circle),
+      length-take i set,
+      c.deref-member-items.ensures.1,
+    ))
     ∙ rw (c.loop-member.invariant, add-one i, take-suc set i (head_circle [] 0) (omega arith))
     (sym (map-append (λ h. h.circle) (take i set) (get_or set i (head_circle [] 0) ∷ [])))
 

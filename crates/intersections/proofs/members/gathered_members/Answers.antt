@@ -10,9 +10,6 @@ use Rattle.intersections.proofs.members.gathered_members.Goals.{then-mask-head-e
 pub loop-head-init : goal.loop-head-init
 loop-head-init c = c.new-members.ensures ∙ sym (gathered_none _ _)
 
-pub push-requires : goal.push-requires
-push-requires c = omega (arith, gathered_few _ _ _ c.loop-head.invariant)
-
 pub loop-head-preserved : goal.loop-head-preserved
 loop-head-preserved c =
     let a = c.args in
@@ -20,7 +17,7 @@ loop-head-preserved c =
     elim c.if-mask-head-eq1.branch [
       | then-mask-head-eq1 w ↦ rw w.members-is (gathered_with _ _ j c.loop-head.invariant
           (sym (in_by_shift a.mask j) ∙ eq-eqb _ _ w.if-mask-head-eq1.true)
-          refl w.push.ensures.items)
+          refl (w.push.ensures.items (omega (arith, gathered_few _ _ _ c.loop-head.invariant))))
       | else-mask-head-eq1 w ↦ rw w.members-is
           (gathered_without _ _ j c.loop-head.invariant (sym (in_by_shift a.mask j) ∙ ne_eqb _ _ w.if-mask-head-eq1.false))
     ]

@@ -11,13 +11,6 @@ use Rattle.overlaps.proofs.overlaps.not_closed.Goals.{then-not-is_closed, else-n
 pub loop-circle-init : goal.loop-circle-init
 loop-circle-init c = c.new-kept.ensures ∙ sym not_closed_none
 
-pub push-requires : goal.push-requires
-push-requires c =
-    omega (
-      arith,
-      kept_few c.args.circles.now c.loop-circle.circle-index no_circle c.loop-circle-test.true c.loop-circle.invariant,
-    )
-
 pub loop-circle-preserved : goal.loop-circle-preserved
 loop-circle-preserved c =
     let cs = c.args.circles.now in
@@ -25,7 +18,8 @@ loop-circle-preserved c =
     elim c.if-not-is_closed.branch [
       | then-not-is_closed w ↦ rw w.kept-is
           (kept_with cs i no_circle c.loop-circle-test.true c.loop-circle.invariant
-          (sym c.is_closed.ensures ∙ w.if-not-is_closed.true) w.push.ensures.items)
+          (sym c.is_closed.ensures ∙ w.if-not-is_closed.true)
+          (w.push.ensures.items (omega (arith, kept_few cs i no_circle c.loop-circle-test.true c.loop-circle.invariant))))
       | else-not-is_closed w ↦ rw w.kept-is
           (kept_without cs i no_circle c.loop-circle-test.true c.loop-circle.invariant
           (sym c.is_closed.ensures ∙ w.if-not-is_closed.false))

@@ -37,8 +37,10 @@ pub loop-j-init : goal.loop-j-init
 loop-j-init c =
     let a = c.args in
     let p = a.pass.now in
-    rw c.clear.ensures
-    (omega arith, added_none p [] (sym (heads_none p.circles.now p.heads.now.items a.mask)))
+    rw c.clear.ensures (
+      omega arith,
+      added_none p.circles.now p.needed p.heads.now.items [] (sym (heads_none p.circles.now p.heads.now.items a.mask)),
+    )
 
 pub invariant_of-head : goal.invariant_of-head
 invariant_of-head c =

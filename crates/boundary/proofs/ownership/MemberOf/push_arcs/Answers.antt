@@ -3,7 +3,7 @@ use mathlib.Core.Path.{◌≡◌, sym, ap, ◌∙◌}
 use mathlib.Core.List.{append-nil, ◌++◌, ◌∷◌, []}
 use mathlib.Core.Bool.{false≢true}
 use native.Mathlib.Omega.{arith}
-use lib.ListN.{length}
+use lib.ListN.{length, length-append}
 use Rattle.std.specs.Option.{option_to_list}
 use Rattle.lists.specs.Lists.{up_to}
 use Rattle.intersections.specs.Heads.{circle_list}
@@ -26,10 +26,14 @@ loop-i-preserved c =
     (arc_after (circle_list a.self.set.now) a.self.k a.self.circle a.angles.now.items l.i) in
     let next = next_given a.all.now.items f l.i (option_to_list c.arc_between.result) found in
     elim c.match-arc_between.branch [
-      | in-Some-arc_between w ↦ rw w.all-is (
-        w.push-in-Some-arc_between.ensures.items ∙ ap (λ t. t ++ w.in-Some-arc_between.arc ∷ []) l.invariant.0 ∙ (rw w.in-Some-arc_between.is at next),
-        omega (arith, w.push-in-Some-arc_between.ensures.len, l.invariant.1),
-      )
+      | in-Some-arc_between w ↦
+          let arc = w.in-Some-arc_between.arc in
+          let pushed = w.push-in-Some-arc_between.ensures.items
+          (omega (arith, c.requires, l.invariant.1, c.loop-i-test.true, c.deref-phi-items.ensures.1)) in
+          rw w.all-is (
+            pushed ∙ ap (λ t. t ++ arc ∷ []) l.invariant.0 ∙ (rw w.in-Some-arc_between.is at next),
+            omega (arith, ap length pushed, length-append l.all.items (arc ∷ []), l.invariant.1),
+          )
       | in_default-arc_between w ↦ rw w.all-is
           (l.invariant.0 ∙ sym (append-nil _) ∙ (rw w.in_default-arc_between.is at next), omega (arith, l.invariant.1))
     ]

@@ -1,11 +1,11 @@
--- `sort::carry_in`: one item more moves up.
+-- `carry_in`: one item more moves up.
 use mathlib.Core.Path.{◌∙◌}
 use native.Mathlib.Omega.{arith}
 use Prim.Native.Nat.{◌≤◌}
 use lib.ListN.{length, drop_of_length-le}
 use lib.Seq.{take_all}
-use Rattle.boundary.proofs.Sorting.{carried_on}
-use Rattle.boundary.proofs.sort.carry_in.Goals as goal
+use Rattle.bounded_list.proofs.Moving.{carried_on}
+use Rattle.bounded_list.proofs.carry_in.Goals as goal
 
 pub loop-i-preserved : goal.loop-i-preserved
 loop-i-preserved g c =

@@ -1,7 +1,7 @@
--- `sort::carry_in`: the items before this one have moved up, and one of them is carried.
+-- `carry_in`: the items before this one have moved up, and one of them is carried.
 use mathlib.Core.Path.{◌≡◌}
 use Rattle.std.specs.Prelude.{◌∷◌, ◌++◌, take, drop}
-use Rattle.boundary.proofs.sort.carry_in.Given as goal
+use Rattle.bounded_list.proofs.carry_in.Given as goal
 
 abbrev pub invariant-loop-i : goal.invariant-loop-i
 invariant-loop-i g l =

@@ -1,0 +1,2 @@
+-- What a list of at most a fixed number of items is.
+pub mod BoundedList
