@@ -71,7 +71,7 @@ impl<T: Copy, const CAP: usize> BoundedList<T, CAP> {
         ensures value { result ≡ length self.now.items }
         ensures fits { result ≤ CAP }
     {
-        self.len
+        self.as_slice().len()
     }
 
     // Whether there is none.
@@ -162,7 +162,7 @@ impl<T: Copy, const CAP: usize> DerefSlice for BoundedList<T, CAP> {
 
 // A full list.
 impl<T: Copy, const CAP: usize> From<[T; CAP]> for BoundedList<T, CAP> {
-    ghost from_gives = { λ all v. v.items ≡ all };
+    ghost from_gives = { λ all v. (v.items ≡ all) × (length v.items ≡ CAP) };
 
     fn from(all: [T; CAP]) -> Self {
         Self {

@@ -99,7 +99,7 @@ width_in (Some box) n = n * 3 + 4
 -- d is drawn from these circles, in the box where there is one
 pub record Of (cs : List Circle) (box : Option Rectangle) (d : Drawing) : Type 0 where
   pub circles : d.circles.now ≡ cs
-  pub points : d.points.items ≡ collected (first_ten cs)
+  pub points : d.points.now ≡ collected (first_ten cs)
   pub container : d.container ≡ box
 
 -- the circles that are read: of more than ten, which are refused, the first ten
@@ -107,7 +107,7 @@ abbrev pub circles_of : Drawing → List Circle
 circles_of d = first_ten d.circles.now
 
 abbrev pub points_of : Drawing → List IntersectionPoint
-points_of d = d.points.items
+points_of d = d.points.now
 
 abbrev pub count_of : Drawing → ℕ
 count_of d = length d.circles.now

@@ -1,35 +1,42 @@
 // What the rows of a diagram are worked out from: circles, their meeting points, and the box where there is one. Rests
 // on specs/Drawing.antt.
 ghost use Rattle.std.specs.Prelude.{◌≡◌};
+ghost use Rattle.intersections.specs.Heads.{first_ten};
+ghost use Rattle.intersections.specs.Points.{collected};
 ghost use Rattle.sets.specs.Regions.{set_bytes};
 ghost use Rattle.diagram.specs.Drawing as spec;
 
 use geometry::bounds::Bounds;
 use geometry::circle::Circle;
 use geometry::rectangle::Rectangle;
-use intersections::collect::collect_intersections;
 use intersections::members::first_ten;
-use intersections::points::Intersections;
+use intersections::points::IntersectionPoint;
 use sets::discover::discover_regions;
 
-// Circles with their meeting points, and the box that they are clipped to where there is one. A slice, and no list of
-// ten: more than ten can be handed over, and are refused. In a drawing made by `of` the points are those of the first
-// ten circles; the fields are public, and in another they may be any.
+// Circles with their meeting points, and the box that they are clipped to where there is one. Slices, and no lists: more
+// than ten circles can be handed over, and are refused, and a struct that lends the ones and held the others could not
+// be copied by those who have it (docs/DECISIONS.md). In a drawing made by `of` the points are those of the first ten
+// circles; the fields are public, and in another they may be any.
 #[derive(Clone, Copy)]
 pub struct Drawing<'a> {
     pub circles: &'a [Circle],
-    pub points: Intersections,
+    pub points: &'a [IntersectionPoint],
     pub container: Option<Rectangle>,
 }
 
 impl<'a> Drawing<'a> {
-    // The circles drawn.
-    pub(crate) fn of(circles: &'a [Circle], container: Option<Rectangle>) -> Drawing<'a>
+    // The circles drawn, with their points.
+    pub(crate) fn of(
+        circles: &'a [Circle],
+        points: &'a [IntersectionPoint],
+        container: Option<Rectangle>,
+    ) -> Drawing<'a>
+        requires { points.now ≡ collected (first_ten circles.now) }
         ensures { spec.Of circles.now container result }
     {
         Drawing {
             circles,
-            points: collect_intersections(circles),
+            points,
             container,
         }
     }
@@ -38,7 +45,7 @@ impl<'a> Drawing<'a> {
     pub(crate) fn sets(&self) -> [u8; 1024]
         ensures { result ≡ set_bytes (spec.circles_of self.now) (spec.points_of self.now) }
     {
-        discover_regions(self.circles, &self.points)
+        discover_regions(self.circles, self.points)
     }
 
     // Where the edges of the box lie.

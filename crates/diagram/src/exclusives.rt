@@ -11,6 +11,7 @@ use crate::rows::finish_rows;
 use exclusive::areas::{RowsError, rows_answer, to_exclusive_areas_in_place};
 use geometry::circle::Circle;
 use geometry::rectangle::Rectangle;
+use intersections::collect::collect_intersections;
 use sums::rows::write_areas;
 
 // The presence bytes and exclusive areas of a drawing whose sets are given: rows 0 to 2^n - 1 of both slices, for n
@@ -35,7 +36,7 @@ pub fn exclusive_areas_of(
     write_areas(
         drawing.bounds(),
         drawing.circles,
-        &drawing.points,
+        drawing.points,
         sets,
         exclusives,
     );
@@ -56,7 +57,8 @@ pub fn compute_exclusive_regions(
     ensures exclusives_after { exclusives.new
         ≡ exclusives_left (length circles.now) (open_diagram circles.now) presence.old exclusives.old }
 {
-    let drawing = Drawing::of(circles, None);
+    let points = collect_intersections(circles);
+    let drawing = Drawing::of(circles, &points, None);
     exclusive_areas_of(&drawing.sets(), &drawing, presence, exclusives)
 }
 
@@ -74,6 +76,7 @@ pub fn compute_exclusive_regions_clipped(
     ensures exclusives_after { exclusives.new
         ≡ exclusives_left (length circles.now) (clipped_diagram container circles.now) presence.old exclusives.old }
 {
-    let drawing = Drawing::of(circles, Some(container));
+    let points = collect_intersections(circles);
+    let drawing = Drawing::of(circles, &points, Some(container));
     exclusive_areas_of(&drawing.sets(), &drawing, presence, exclusives)
 }

@@ -15,6 +15,7 @@ use exclusive::areas::RowsError;
 use exclusive_gradients::gradients::{to_exclusive_areas_and_gradients, width_answer};
 use geometry::circle::Circle;
 use geometry::rectangle::Rectangle;
+use intersections::collect::collect_intersections;
 
 // The presence bytes, exclusive areas and gradients of a drawing whose sets are given: rows 0 to 2^n - 1 of all three
 // slices, for n heads. Refused, where there are more than ten or a slice has fewer than 2^n rows, nothing is written.
@@ -66,7 +67,8 @@ pub fn compute_exclusive_regions_with_gradient_circles(
         ≡ gradients_left (length circles.now) (open_with_gradients circles.now)
         presence.old exclusives.old gradients.old }
 {
-    let drawing = Drawing::of(circles, None);
+    let points = collect_intersections(circles);
+    let drawing = Drawing::of(circles, &points, None);
     exclusive_areas_and_gradients_of(&drawing.sets(), &drawing, presence, exclusives, gradients)
 }
 
@@ -90,6 +92,7 @@ pub fn compute_exclusive_regions_clipped_with_gradient(
         ≡ gradients_left (length circles.now) (clipped_with_gradients container circles.now)
         presence.old exclusives.old gradients.old }
 {
-    let drawing = Drawing::of(circles, Some(container));
+    let points = collect_intersections(circles);
+    let drawing = Drawing::of(circles, &points, Some(container));
     exclusive_areas_and_gradients_of(&drawing.sets(), &drawing, presence, exclusives, gradients)
 }

@@ -79,7 +79,7 @@ pub(crate) fn write_rows_with_gradients(
     write_gradients(
         drawing.bounds(),
         drawing.circles,
-        &drawing.points,
+        drawing.points,
         sets,
         width,
         areas,

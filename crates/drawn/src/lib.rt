@@ -21,7 +21,8 @@ pub fn circles_of(plan: Plan) -> [Circle; 10]
     plan.heads.map(circle_of)
 }
 
-// The circles of a plan's heads, by head number.
+// The circles of a plan's heads, by head number. Not inlined: two plans are drawn for an edit.
+#[inline(never)]
 #[tactic(auto, unfolding(crate::specs::Drawn::plan_circles))]
 pub fn plan_circles(plan: Plan) -> Circles
     ensures { result.items ≡ plan_circles plan }

@@ -23,7 +23,7 @@ use Rattle.masks.specs.Lowest.{trailing_in, trailing_lt}
 use Rattle.masks.specs.Operations.{in_of_one, bit_beyond}
 use Rattle.masks.specs.Size.{ones_of_zero}
 use Rattle.masks.specs.Subset.{and_test, subset_head, subset_le}
-use Rattle.lists.specs.Every.{every_append}
+use Rattle.lists.specs.Every.{Every, every_append}
 use Rattle.lists.specs.Lists.{up_to, keep}
 use Rattle.geometry.specs.declared.circle.Circle.{Circle}
 use Rattle.intersections.specs.Members.{circle_at}
@@ -40,6 +40,7 @@ use Rattle.gaps.specs.Marks.{adopted_by, angles_in, phi_at, unmarked, gap_letter
 use Rattle.gaps.proofs.Next.{next_is}
 use Rattle.gaps.proofs.Numbering.{by_cases}
 use Rattle.sums.specs.declared.pass.Pass.{Pass}
+use Rattle.sums.specs.Walk.{head_of as arc_head}
 use Rattle.sums.specs.Walk.{marks_of, gap_in, whole_in, gaps_in, head_in, part_in, heads_in, arcs_by}
 use Rattle.sums.specs.Walk.{Angled, next_place, gap_arc, arc_at, Placed, Listing, arcs_listed, Added, AddedBy}
 use Rattle.sums.proofs.Ranks.{owned_by_mask, arc_by_mask}
@@ -82,6 +83,10 @@ module _ (circles : List Circle) (heads : List HeadMarks) (j a : ℕ) (small : a
         rw (lt-ltb (j * 32 + a) 320 (omega (arith, small, low)), next-of)
         (gap-arc ((a + 1) % length (marks_of heads j)) k)
 
+    pub neighbour_head : arc_head (j * 32 + a) ≡ j
+    unfolding arc_head
+    neighbour_head = rw (lt-ltb (j * 32 + a) 320 (omega (arith, small, low))) head_of
+
     pub neighbour_placed : (needed : ℕ) → a < length (marks_of heads j) → Placed needed heads (j * 32 + a)
     neighbour_placed needed h =
         let less : j * 32 + a < 320 = omega (arith, low, small) in
@@ -101,6 +106,10 @@ module _ (circles : List Circle) (heads : List HeadMarks) (j a : ℕ) (small : a
       pub other_arc : arc_at circles heads far ≡ gap_to b
       unfolding arc_at
       other_arc = rw (le-ltb far 320 (omega arith), le-ltb far 330 (omega arith), from, to) (gap-arc b k)
+
+      pub other_head : arc_head far ≡ j
+      unfolding arc_head
+      other_head = rw (le-ltb far 320 (omega arith), le-ltb far 330 (omega arith), from) head_of
 
 pub other_placed : (heads : List HeadMarks) (needed j a b : ℕ) → j < 10 → length (marks_of heads j) ≤ 32
     → a < length (marks_of heads j) → b < length (marks_of heads j)
@@ -228,7 +237,7 @@ module _ (circles : List Circle) (heads : List HeadMarks) (needed S j : ℕ) (mo
   abbrev phi_b : Float
   phi_b = phi_at (marks_of heads j) b
 
-  -- the gap has no number and is no arc, or it is the arc of its number
+  -- the gap has no number and is no arc, or it is the arc of its number, which is one of head j
   abbrev pub Numbered : Option ℕ → Type 0
   Numbered None =
       let marks = marks_of heads j in
@@ -236,13 +245,14 @@ module _ (circles : List Circle) (heads : List HeadMarks) (needed S j : ℕ) (mo
   Numbered (Some p) =
       let marks = marks_of heads j in
       (gap_in circles S j (phi_at marks a) (phi_at marks b) ≡ arc_at circles heads p ∷ []) × Placed needed heads p
+      × (arc_head p ≡ j)
 
   by_arc : (p : ℕ) → arc_at circles heads p ≡ between j (circle_at circles j) phi_a (gap phi_a phi_b)
-      → Placed needed heads p → (s : Bool) → is_arc circles S j phi_a phi_b ≡ s
+      → Placed needed heads p → arc_head p ≡ j → (s : Bool) → is_arc circles S j phi_a phi_b ≡ s
       → Numbered (cond s (Some p) None)
   unfolding gap_in
-  by_arc p is placed true e = (rw (e, is), placed)
-  by_arc p is placed false e = rw e
+  by_arc p is placed own true e = (rw (e, is), placed, own)
+  by_arc p is placed own false e = rw e
 
   -- between neighbours, by who lets the head have it
   module _ (next : b ≡ next_of a (length (marks_of heads j))) where
@@ -263,7 +273,8 @@ module _ (circles : List Circle) (heads : List HeadMarks) (needed S j : ℕ) (mo
         by_arc (j * 32 + a)
         (neighbour_arc circles heads j a (omega (arith, many, ha)) head_low (omega (arith, many, hb, after))
         ∙ ap (λ m. between j (circle_at circles j) phi_a (gap phi_a (phi_at marks m))) (sym after))
-        (neighbour_placed circles heads j a (omega (arith, many, ha)) head_low needed ha) s (sym by_mask ∙ e)
+        (neighbour_placed circles heads j a (omega (arith, many, ha)) head_low needed ha)
+        (neighbour_head circles heads j a (omega (arith, many, ha)) head_low) s (sym by_mask ∙ e)
 
   -- any other, worked out
   other : (s : Bool) → is_arc circles S j phi_a phi_b ≡ s
@@ -271,7 +282,8 @@ module _ (circles : List Circle) (heads : List HeadMarks) (needed S j : ℕ) (mo
   other s e =
       by_arc (330 + (j * 32 + a) * 320 + (j * 32 + b))
       (other_arc circles heads j a (omega (arith, many, ha)) head_low b (omega (arith, many, hb)))
-      (other_placed heads needed j a b head_low many ha hb) s e
+      (other_placed heads needed j a b head_low many ha hb)
+      (other_head circles heads j a (omega (arith, many, ha)) head_low b (omega (arith, many, hb))) s e
 
   -- circles and marks are few enough to be read whole, and all marks stand for angles
   pub gap_numbered : {number : Option ℕ} {l : List Mark} {h : HeadMarks}
@@ -288,7 +300,11 @@ module _ (circles : List Circle) (heads : List HeadMarks) (needed S j : ℕ) (mo
   numbered_on list None none = rw (append-nil list) (added_none circles needed heads list none)
   numbered_on list (Some p) one = added_one circles needed heads list p one.0 one.1
 
-  -- a list with the number put on, if there is one, stands for the arc of the gap too, if it is one
+  heads_on : (number : Option ℕ) → Numbered number → Every (λ p. arc_head p ≡ j) (option_to_list number)
+  heads_on None none = tt
+  heads_on (Some p) one = (one.2, tt)
+
+  -- a list with the number put on, if there is one, stands for the arc of the gap too, if it is one; that is of head j
   pub gap_listed : {number : Option ℕ} {l : List Mark} {h : HeadMarks}
       → number ≡ gap_number (first_ten circles) (first_places l) (length l) S j a b
       → l ≡ h.marks.items → h ≡ get_or heads j unmarked
@@ -296,7 +312,9 @@ module _ (circles : List Circle) (heads : List HeadMarks) (needed S j : ℕ) (mo
       → let marks = marks_of heads j in
       AddedBy circles needed heads (gap_in circles S j (phi_at marks a) (phi_at marks b)) list
       (list ++ option_to_list number)
-  gap_listed {number = number} e el eh list = numbered_on list number (gap_numbered e el eh)
+      × Every (λ p. arc_head p ≡ j) (option_to_list number)
+  gap_listed {number = number} e el eh list =
+      let one = gap_numbered e el eh in (numbered_on list number one, heads_on number one)
 
 -- A list that stands for some arcs stands for them and for what is put on.
 pub listing_on : {circles : List Circle} {needed : ℕ} {heads : List HeadMarks} {arcs more : List BoundaryArc}
@@ -335,9 +353,9 @@ module _ (pass : Pass) (S : ℕ) (within : Subset S pass.needed) where
         → (list : List ℕ)
         → let marks = marks_of pass.heads.now.items j in
         Added pass (gap_in pass.circles.now S j (phi_at marks a) (phi_at marks b)) list (list ++ option_to_list number)
-    pass_gap_listed a b ha hb =
-        gap_listed circles heads pass.needed S j pass.ten set_below head in-S (marks_few pass j) a b ha hb
-        (lets_held pass j head in-needed a ha)
+    pass_gap_listed a b ha hb e el eh list =
+        (gap_listed circles heads pass.needed S j pass.ten set_below head in-S (marks_few pass j) a b ha hb
+        (lets_held pass j head in-needed a ha) e el eh list).0
 
     -- ---- no angle: the whole circle, by the mask of those that let the head have its probe
 

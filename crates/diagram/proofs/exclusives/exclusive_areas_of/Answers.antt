@@ -15,5 +15,5 @@ returns-clause-exclusives_after c =
     let read = all_read d.circles.now (taken n _ (sym (ap rows_number ok))).0 in
     c.to_exclusive_areas_in_place.ensures.areas_after
     ∙ left n (rows_of d (stands a.sets.now)) a.presence.now a.exclusives.now ok _ _ _
-    (rw (c.bounds.ensures, c.deref.ensures.0, read) at c.write_areas.ensures) c.finish_rows.ensures.presence_after
+    (rw (c.bounds.ensures, read) at c.write_areas.ensures) c.finish_rows.ensures.presence_after
     c.finish_rows.ensures.areas_after
