@@ -47,7 +47,7 @@ fn row_heads(rows: &[usize]) -> [u32; 1024]
 
 // The present rows: by number of heads, then by mask.
 // A turn for each number, as the definition has it, and no `sort_unstable_by_key`: that says a permutation in order,
-// and not which. Compiled apart: in place (`inline`, tried) the list is filled and copied twice more.
+// and not which. Compiled apart: in place, as `inline(always)` has it, the list is filled and copied twice more.
 #[inline(never)]
 pub fn row_order(present: &Presence) -> Rows
     ensures { result.items ≡ row_order (stands present.now.bytes.now) present.now.n }

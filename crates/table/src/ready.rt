@@ -12,8 +12,8 @@ use plan::Plan;
 use sets::discover::discover_regions;
 
 // Circles and their meeting points; and the box, if the rows are those in it.
-// Not `Drawing` of diagram: that lends its circles, which are made of the plan here, and has the box, whose area goes
-// into row 0, and this its bounds alone.
+// Not `Drawing` of diagram: that lends its circles and points, which are made of the plan here, and has the box, whose
+// area goes into row 0, and this its bounds alone.
 #[derive(Clone, Copy)]
 pub struct Ready {
     pub circles: Circles,
